@@ -1,0 +1,5 @@
+# The project's commands. `make test` is exactly the gate.
+.PHONY: test
+
+test:
+	@.ci/run

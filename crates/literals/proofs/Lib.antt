@@ -1,0 +1,7 @@
+-- Facts that several proofs of the crate cite, and laws of its definitions.
+pub mod Signed
+pub mod Places
+pub mod Rows
+pub mod Decoding
+pub mod Encoding
+mod Examples

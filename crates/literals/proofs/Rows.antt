@@ -1,0 +1,100 @@
+-- Parts of a table, and the definitions of `specs/Row.antt` taken one number, or one row, at a time. Assumes nothing.
+use mathlib.Core.Path.{_≡_, ap, _∙_}
+use mathlib.Core.Bool.{Bool, true, false}
+use mathlib.Core.List.{List, [], _∷_}
+use Prim.Native.Nat.{ℕ, suc, _+_, _-_, _<_, _≤_}
+use native.Mathlib.Numerals.{add-one}
+use native.Mathlib.Omega.{arith}
+use borrow.Author.Tests.{eq-eqb, ne-eqb, le-ltb, lt-ltb, le-leb, lt-leb}
+use lib.IntN.{ℤ, pos, natAbs}
+use lib.ListN.{length, take, drop, getD}
+use lib.Seq.{drop-cons}
+use Rattle.meaning.specs.Tests.{all, from}
+use Rattle.literals.specs.Literal.{inRange}
+use Rattle.literals.specs.Row.{width, zeros, rising, rowSound}
+
+-- ---- the numbers from place k up to e
+
+part-cons : (l : List ℤ) (k e : ℕ) → k < e → e ≤ length l → take (e - k) (drop k l) ≡ getD l k (pos 0) ∷ take (e - (k + 1)) (drop (k + 1) l)
+part-cons l k e h f =
+    let one-more : e - k ≡ suc (e - suc k) = omega arith in
+    let within : k < length l = omega arith in
+    rw (add-one, one-more, drop-cons l k (pos 0))
+
+part-none : (l : List ℤ) (k e : ℕ) → e ≤ k → take (e - k) (drop k l) ≡ []
+part-none l k e h =
+    let none : e - k ≡ 0 = omega arith in
+    rw none
+
+-- ---- `zeros`, at the first number of a part
+
+module _ (t : List ℤ) (k e : ℕ) (h : k < e) (f : e ≤ length t) where
+  pub zeros-no : (natAbs (getD t k (pos 0)) ≡ 0 → ⊥) → zeros (take (e - k) (drop k t)) ≡ false
+  unfolding zeros
+  zeros-no n = rw (part-cons t k e h f, ne-eqb _ _ n)
+
+  pub zeros-yes : natAbs (getD t k (pos 0)) ≡ 0 → zeros (take (e - k) (drop k t)) ≡ zeros (take (e - (k + 1)) (drop (k + 1) t))
+  unfolding zeros
+  zeros-yes n = rw (part-cons t k e h f, eq-eqb _ _ n)
+
+pub zeros-none : (t : List ℤ) (k e : ℕ) → e ≤ k → zeros (take (e - k) (drop k t)) ≡ true
+unfolding zeros
+zeros-none t k e h = rw (part-none t k e h)
+
+-- ---- `rising`, at the first number of a part, whose symbol's number is s
+
+module _ (S last : ℕ) (t : List ℤ) (k e : ℕ) (h : k < e) (f : e ≤ length t) (s : ℕ) (is : s ≡ natAbs (getD t k (pos 0))) where
+  pub rising-zero : s ≡ 0 → rising S last (take (e - k) (drop k t)) ≡ zeros (take (e - k) (drop k t))
+  unfolding rising zeros
+  rising-zero z = rw (part-cons t k e h f, ← is, eq-eqb s 0 z)
+
+  pub rising-low : (s ≡ 0 → ⊥) → s ≤ last → rising S last (take (e - k) (drop k t)) ≡ false
+  unfolding rising
+  rising-low n low = rw (part-cons t k e h f, ← is, ne-eqb s 0 n, le-ltb last s low)
+
+  pub rising-high : (s ≡ 0 → ⊥) → last < s → S < s → rising S last (take (e - k) (drop k t)) ≡ false
+  unfolding rising
+  rising-high n up high = rw (part-cons t k e h f, ← is, ne-eqb s 0 n, lt-ltb last s up, lt-leb s S high)
+
+  pub rising-next : (s ≡ 0 → ⊥) → last < s → s ≤ S → rising S last (take (e - k) (drop k t)) ≡ rising S s (take (e - (k + 1)) (drop (k + 1) t))
+  unfolding rising
+  rising-next n up within = rw (part-cons t k e h f, ← is, ne-eqb s 0 n, lt-ltb last s up, le-leb s S within)
+
+pub rising-none : (S last : ℕ) (t : List ℤ) (k e : ℕ) → e ≤ k → rising S last (take (e - k) (drop k t)) ≡ true
+unfolding rising
+rising-none S last t k e h = rw (part-none t k e h)
+
+-- ---- `rowSound`, at the first number of the row from place `at` on
+
+row-cons : (t : List ℤ) (at : ℕ) → at + width ≤ length t → take width (drop at t) ≡ getD t at (pos 0) ∷ take ((at + width) - (at + 1)) (drop (at + 1) t)
+row-cons t at f =
+    let whole : width ≡ (at + width) - at = omega arith in
+    ap (λ (n : ℕ). take n (drop at t)) whole ∙ part-cons t at (at + width) (omega arith) f
+
+module _ (S : ℕ) (t : List ℤ) (at : ℕ) (f : at + width ≤ length t) where
+  pub row-no : inRange S (getD t at (pos 0)) ≡ false → rowSound S (take width (drop at t)) ≡ false
+  unfolding rowSound
+  row-no e = rw (row-cons t at f, e)
+
+  pub row-first : inRange S (getD t at (pos 0)) ≡ true → (s : ℕ) → s ≡ natAbs (getD t at (pos 0)) → rowSound S (take width (drop at t)) ≡ rising S s (take ((at + width) - (at + 1)) (drop (at + 1) t))
+  unfolding rowSound
+  row-first e s is = rw (row-cons t at f, e, is)
+
+-- ---- a test of the numbers from r up to n
+
+from-cons : (n r : ℕ) → r < n → from r (n - r) ≡ r ∷ from (r + 1) (n - (r + 1))
+from-cons n r h =
+    let one-more : n - r ≡ suc (n - suc r) = omega arith in
+    rw (add-one, one-more)
+
+module _ (test : ℕ → Bool) (n r : ℕ) where
+  pub all-no : r < n → test r ≡ false → all test (from r (n - r)) ≡ false
+  all-no h e = rw (from-cons n r h, e)
+
+  pub all-next : r < n → test r ≡ true → all test (from r (n - r)) ≡ all test (from (r + 1) (n - (r + 1)))
+  all-next h e = rw (from-cons n r h, e)
+
+  pub all-none : n ≤ r → all test (from r (n - r)) ≡ true
+  all-none h =
+      let none : n - r ≡ 0 = omega arith in
+      rw none

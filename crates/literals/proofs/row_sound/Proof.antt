@@ -1,0 +1,141 @@
+-- `literals::row_sound` meets its contract. The loop's invariant: the row is sound exactly where the numbers from place k on rise
+-- from above `last`. The measure is what is left of the row. Assumes nothing.
+use Prim.Native.Nat.{_≤_, _<_, _-_}
+use mathlib.Core.Path.{_≡_, sym, ap, _∙_}
+use mathlib.Core.Logic.{⊎-elim}
+use native.Mathlib.Omega.{arith}
+use borrow.Author.Needs.{needs}
+use borrow.Author.Tests.{ltb-false, ltb-true, not-false, not-true}
+use lib.IntN.{ℤ, pos, natAbs}
+use lib.ListN.{take, drop, getD}
+use mir.Facts.{toZ-ofZ}
+use Rattle.literals.specs.Literal.{inRange}
+use Rattle.literals.specs.Row.{width, rising, rowSound}
+use Rattle.literals.proofs.Signed.{back-abs}
+use Rattle.literals.proofs.Rows.{rising-high, rising-low, rising-next, rising-none, rising-zero, row-first, row-no}
+use Rattle.literals.proofs.row_sound.Statement.{statement}
+use Rattle.literals.proofs.row_sound.Tie as tie
+
+abbrev Inv-loop : tie.InvT-loop
+Inv-loop table at symbols first end last₀ k₀ last k = (at < k) × (k ≤ end) × (rowSound symbols (take width (drop at table)) ≡ rising symbols last (take (end - k) (drop k table)))
+
+abbrev μ-loop : tie.MeasureT-loop
+μ-loop table at symbols first end last₀ k₀ last k = end - k
+
+-- the row's first number
+abbrev head : tie.Start Inv-loop μ-loop → ℤ
+head c = getD (c .args .table .now) (c .args .at) (pos 0)
+
+-- what is known at the entry, from a turn
+abbrev start : tie.In-loop Inv-loop μ-loop → tie.Start Inv-loop μ-loop
+start c = c .before .before .before .before .before .before
+
+-- the number that a turn looks at
+abbrev here : tie.In-loop Inv-loop μ-loop → ℤ
+here c = getD (start c .args .table .now) (c .before .loop .k) (pos 0)
+
+in-range-is : (c : tie.After-in-range Inv-loop μ-loop) → inRange (c .before .before .args .symbols) (head (c .before .before)) ≡ c .in-range .result
+in-range-is c = sym (c .in-range .ensures ∙ ap (inRange (c .before .before .args .symbols)) (toZ-ofZ {z = head (c .before .before)} (record { sfits = c .before .first .given })))
+
+symbol-is : (c : tie.After-symbol2 Inv-loop μ-loop) → c .symbol2 .result ≡ natAbs (here (c .before .before))
+symbol-is c = c .symbol2 .ensures ∙ back-abs {l = here (c .before .before)} (record { sfits = c .before .symbol-arg .given })
+
+mul-first : tie.Need-mul-first Inv-loop μ-loop
+mul-first c = omega arith
+
+shared-slice-copy-out-first : tie.Need-shared-slice-copy-out-first Inv-loop μ-loop
+shared-slice-copy-out-first c = omega arith
+
+in-range-requires : tie.Need-in-range-requires Inv-loop μ-loop
+in-range-requires c κs = search needs
+
+returns : tie.Need-returns Inv-loop μ-loop
+returns c =
+    let s = c .before .before .before in
+    sym (row-no _ _ _ (s .pre) (in-range-is (c .before) ∙ not-true _ (c .if1 .taken)))
+
+add-end : tie.Need-add-end Inv-loop μ-loop
+add-end c = omega arith
+
+symbol-requires : tie.Need-symbol-requires Inv-loop μ-loop
+symbol-requires c κs = search needs
+
+add-k : tie.Need-add-k Inv-loop μ-loop
+add-k c = omega arith
+
+loop-holds : tie.Need-loop-holds Inv-loop μ-loop
+loop-holds c =
+    let i = c .before .before in
+    let first-is = c .symbol .ensures ∙ back-abs {l = head (i .before .before)} (record { sfits = i .before .first .given }) in
+    (omega arith, omega arith, row-first _ _ _ (i .before .before .pre) (in-range-is i ∙ not-false _ (c .before .if1 .left)) _ first-is)
+
+mul-symbol : tie.Need-mul-symbol Inv-loop μ-loop
+mul-symbol c = omega arith
+
+shared-slice-copy-out-symbol : tie.Need-shared-slice-copy-out-symbol Inv-loop μ-loop
+shared-slice-copy-out-symbol c = omega arith
+
+symbol-requires-2 : tie.Need-symbol-requires-2 Inv-loop μ-loop
+symbol-requires-2 c κs = search needs
+
+all-zero-requires : tie.Need-all-zero-requires Inv-loop μ-loop
+all-zero-requires c κs = omega arith
+
+returns-2 : tie.Need-returns-2 Inv-loop μ-loop
+returns-2 c =
+    let w = c .before .before in
+    let t = w .before .before in
+    c .all-zero .ensures ∙ sym (t .before .loop .inv .2 ∙ rising-zero _ _ _ _ _ (t .loop-test .taken) (start t .pre) _ (symbol-is w) (c .before .if2 .taken))
+
+returns-3 : tie.Need-returns-3 Inv-loop μ-loop
+returns-3 c =
+    let w = c .before .before in
+    let t = w .before .before in
+    let literal = c .before .if2 .left in
+    sym (t .before .loop .inv .2 ∙ ⊎-elim
+    (λ a. rising-low _ _ _ _ _ (t .loop-test .taken) (start t .pre) _ (symbol-is w) literal (a .taken))
+    (λ a. rising-high _ _ _ _ _ (t .loop-test .taken) (start t .pre) _ (symbol-is w) literal (a .0 .left) (ltb-true _ _ (a .1 .taken)))
+    (c .if3 .came))
+
+add-k-2 : tie.Need-add-k-2 Inv-loop μ-loop
+add-k-2 c = omega arith
+
+loop-less : tie.Need-loop-less Inv-loop μ-loop
+loop-less c = omega arith
+
+loop-again : tie.Need-loop-again Inv-loop μ-loop
+loop-again c =
+    let w = c .before .before .before in
+    let t = w .before .before in (
+      omega arith,
+      omega arith,
+      t .before .loop .inv .2 ∙ rising-next _ _ _ _ _ (t .loop-test .taken) (start t .pre) _ (symbol-is w) (c .before .before .if2 .left) (c .before .if3 .left) (ltb-false _ _ (c .if4 .left)),
+    )
+
+returns-4 : tie.Need-returns-4 Inv-loop μ-loop
+returns-4 c = sym (c .before .loop .inv .2 ∙ rising-none _ _ _ _ _ (c .loop-test .left))
+
+pub row-sound-spec : {M : Type 1} → statement M
+row-sound-spec =
+    tie.close
+    (tie.spec
+    Inv-loop
+    μ-loop
+    mul-first
+    shared-slice-copy-out-first
+    in-range-requires
+    returns
+    add-end
+    symbol-requires
+    add-k
+    loop-holds
+    mul-symbol
+    shared-slice-copy-out-symbol
+    symbol-requires-2
+    all-zero-requires
+    returns-2
+    returns-3
+    add-k-2
+    loop-less
+    loop-again
+    returns-4)

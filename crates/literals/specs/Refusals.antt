@@ -1,0 +1,20 @@
+-- 01, "Numbers of the refusals".
+use Prim.Native.Nat.{ℕ}
+use Rattle.literals.specs.declared.refusal.Refusal.{Refusal}
+use Rattle.literals.specs.declared.refusal.Refusal.the-variants.{BadBoard, BadLiteral, CutShort, UnknownKind, TooDeep, BytesLeftOver, TooManySymbols, NoAssignment, TableFull, AlreadyHeld, NotHeld, NothingToShow, TableTooShort, RankTooHigh}
+
+abbrev pub numberOf : Refusal → ℕ
+numberOf BadBoard = 1
+numberOf BadLiteral = 2
+numberOf CutShort = 3
+numberOf UnknownKind = 4
+numberOf TooDeep = 5
+numberOf BytesLeftOver = 6
+numberOf TooManySymbols = 7
+numberOf NoAssignment = 8
+numberOf TableFull = 9
+numberOf AlreadyHeld = 10
+numberOf NotHeld = 11
+numberOf NothingToShow = 12
+numberOf TableTooShort = 13
+numberOf RankTooHigh = 14

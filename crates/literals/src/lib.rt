@@ -1,0 +1,121 @@
+// Literals and rows of the clause table.
+
+pub mod refusal;
+
+ghost use mathlib.Core.Path.{_≡_};
+ghost use Prim.Native.Nat.{_+_, _-_, _*_, _≤_};
+ghost use lib.IntN.{natAbs};
+ghost use lib.ListN.{take, drop};
+ghost use Rattle.meaning.specs.Literals.{opp};
+ghost use Rattle.literals.specs.Literal.{inRange, placeOf};
+ghost use Rattle.literals.specs.Row.{width, rowsLent, zeros, rowSound, rowsSound};
+
+// How many numbers a row has.
+pub const WIDTH: usize = 8;
+
+// The most rows that are used, however many are lent.
+const MOST_ROWS: usize = 2048;
+
+// The number of a literal's symbol: its absolute value. -32768 has no opposite among the 16-bit numbers, so it is
+// tested for before anything is negated.
+pub fn symbol(l: i16) -> usize
+    ensures { λ r. ⌜ r ≡ natAbs l ⌝ }
+{
+    if l >= 0 {
+        return l as usize;
+    }
+    if l == -32768 {
+        return 32768;
+    }
+    (-l) as usize
+}
+
+// Whether `l` is a literal of one of the symbols 1 to `symbols`, for any 16-bit number.
+pub fn in_range(l: i16, symbols: usize) -> bool
+    ensures { λ r. ⌜ r ≡ inRange symbols l ⌝ }
+{
+    let s = symbol(l);
+    1 <= s && s <= symbols
+}
+
+// The place of a literal that was tested: +s stands at 2(s - 1), -s right after it. The callers of `rounds` and `board` test the
+// literal itself or the row that it stands in.
+pub fn place(l: i16) -> usize
+    requires { ⌜ (1 ≤ natAbs l) × (natAbs l ≤ 200) ⌝ }
+    ensures { λ r. ⌜ r ≡ placeOf l ⌝ }
+{
+    let pair = 2 * (symbol(l) - 1);
+    if l > 0 { pair } else { pair + 1 }
+}
+
+// The place of the opposite literal. The largest usize is odd, so that `p + 1` cannot wrap.
+pub fn opposite(p: usize) -> usize
+    ensures { λ r. ⌜ r ≡ opp p ⌝ }
+{
+    if p % 2 == 0 { p + 1 } else { p - 1 }
+}
+
+// The rows that a table lends.
+pub fn rows_lent(table: &[i16]) -> usize
+    ensures { λ r. ⌜ r ≡ rowsLent (now (table .entry)) ⌝ }
+{
+    let n = table.len() / WIDTH;
+    if n < MOST_ROWS { n } else { MOST_ROWS }
+}
+
+// Whether the numbers of `table` from place `from` up to `end` are all 0.
+fn all_zero(table: &[i16], from: usize, end: usize) -> bool
+    requires { do ⌜ (from ≤ end) × (end ≤ (← ⟦table.len()⟧)) ⌝ }
+    ensures { λ r. ⌜ r ≡ zeros (take (end - from) (drop from (now (table .entry)))) ⌝ }
+{
+    let mut k = from;
+    while k < end {
+        if table[k] != 0 {
+            return false;
+        }
+        k += 1;
+    }
+    true
+}
+
+// Whether the eight numbers from place `at` on are a sound row: one to eight literals of the symbols 1 to `symbols` with rising
+// symbol numbers, and zeros after them.
+fn row_sound(table: &[i16], at: usize, symbols: usize) -> bool
+    requires { do ⌜ at + width ≤ (← ⟦table.len()⟧) ⌝ }
+    ensures { λ r. ⌜ r ≡ rowSound symbols (take width (drop at (now (table .entry)))) ⌝ }
+{
+    let first = table[at];
+    if !in_range(first, symbols) {
+        return false;
+    }
+    let end = at + WIDTH;
+    let mut last = symbol(first);
+    let mut k = at + 1;
+    while k < end {
+        let s = symbol(table[k]);
+        if s == 0 {
+            return all_zero(table, k, end);
+        }
+        if s <= last || symbols < s {
+            return false;
+        }
+        last = s;
+        k += 1;
+    }
+    true
+}
+
+// Whether the first `used` rows of `table` are all sound. `board` tests first that so many rows are lent.
+pub fn rows_sound(table: &[i16], used: usize, symbols: usize) -> bool
+    requires { do ⌜ width * used ≤ (← ⟦table.len()⟧) ⌝ }
+    ensures { λ r. ⌜ r ≡ rowsSound symbols used (now (table .entry)) ⌝ }
+{
+    let mut row = 0;
+    while row < used {
+        if !row_sound(table, WIDTH * row, symbols) {
+            return false;
+        }
+        row += 1;
+    }
+    true
+}

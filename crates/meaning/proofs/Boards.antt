@@ -1,0 +1,161 @@
+-- 01's boards: what 01 says of each board "Marked P: to be proved" and of the journal's, and that the definitions say the same.
+use mathlib.Core.Path.{_≡_, refl}
+use mathlib.Core.Bool.{Bool, true, false, cond}
+use mathlib.Core.List.{List, [], _∷_, map}
+use Prim.Native.Nat.{ℕ, suc, _*_}
+use lib.ListN.{getD, set}
+use Rattle.meaning.specs.Tests.{tabulate, keep, from}
+use Rattle.meaning.specs.Literals.{place, opp, has, conflict}
+use Rattle.meaning.specs.Formulae.{Formula, symbol, neg, and, or, imp, same, value, occurs, symbolsOf, ruleOf}
+use Rattle.meaning.specs.Clauses.{hit, implicate, prime, ofSize, rowsOf, allRows, satisfiable}
+use Rattle.meaning.specs.Rounds.{gives, next, reached, rankBy, firstGiver, supportAt, label, rankOf, supportOf}
+use Rattle.meaning.specs.Ground.{reachesIn, reaches, ground, blamed, blame}
+use Rattle.meaning.specs.SecondWay.{rulesOf, forces, firstWay, secondWay}
+
+-- ---- what is asked of a board, and what the answers are
+
+-- the calls that change the premises, each with a literal
+data Call : Type 0 where
+  hold : ℕ → Call
+  withdraw : ℕ → Call
+
+-- the literals +s and −s
+abbrev plus : ℕ → ℕ
+plus s = place s true
+
+abbrev minus : ℕ → ℕ
+minus s = place s false
+
+-- S, the rules in the order in which they were added, and the calls that made the premises
+data Board : Type 0 where
+  board : ℕ → List Formula → List Call → Board
+
+data Question : Type 0 where
+  -- what does this rule on symbols 1 to S append?
+  rule : ℕ → Formula → Question
+  -- what does settle find, by the rows, and what does demand 3's second way find?
+  settled : Board → Question
+  second-way : Board → Question
+  -- why does a derived literal that is not held stand, and which premises does it stand on?
+  explained : Board → ℕ → Question
+  grounded : Board → ℕ → Question
+  -- which premises does the conflict stand on?
+  blamed-on : Board → Question
+
+data Answer : Type 0 where
+  -- the rows, or the number of the refusal
+  appends : List (List ℕ) → Answer
+  refused : ℕ → Answer
+  -- the labels of the symbols from 1 on (0 is open), where there is no conflict and where there is one
+  labels : List ℕ → Answer
+  conflict-with-labels : List ℕ → Answer
+  -- the rank, the number of the supporting row, and its literals
+  rank-row : ℕ → ℕ → List ℕ → Answer
+  -- the literals marked
+  marks : List ℕ → Answer
+
+-- ---- the answers by the definitions
+
+called : List Bool → List Call → List Bool
+called held [] = held
+called held (hold p ∷ calls) = called (set held p true) calls
+called held (withdraw p ∷ calls) = called (set held p false) calls
+
+held : Board → List Bool
+held (board S fs calls) = called (tabulate (2 * S) (λ p. false)) calls
+
+rows : Board → List (List ℕ)
+rows (board S fs calls) = allRows (rulesOf S fs)
+
+found : ℕ → List Bool → Answer
+found S known =
+    let all = tabulate S (λ i. label known (suc i)) in cond (conflict known) (conflict-with-labels all) (labels all)
+
+marked : ℕ → List Bool → Answer
+marked S set = marks (keep (has set) (from 0 (2 * S)))
+
+tell : Question → Answer
+tell (rule S f) = cond (satisfiable (ruleOf S f)) (appends (rowsOf (ruleOf S f))) (refused 8)
+tell (settled (board S fs calls)) = found S (firstWay S fs (held (board S fs calls)))
+tell (second-way (board S fs calls)) = found S (secondWay S fs (held (board S fs calls)))
+tell (explained (board S fs calls) p) =
+    let b = board S fs calls in
+    let r = supportOf (2 * S) (rows b) (held b) p in rank-row (rankOf (2 * S) (rows b) (held b) p) r (getD (rows b) r [])
+tell (grounded (board S fs calls) p) = let b = board S fs calls in marked S (ground (2 * S) (rows b) (held b) p)
+tell (blamed-on (board S fs calls)) = let b = board S fs calls in marked S (blame S (rows b) (held b))
+
+-- ---- the boards
+
+abbrev one : Formula
+one = symbol 1
+
+abbrev two : Formula
+two = symbol 2
+
+abbrev three : Formula
+three = symbol 3
+
+abbrev four : Formula
+four = symbol 4
+
+-- the boards that more than one question is asked of
+abbrev apart : Board
+apart = board 2 (imp one two ∷ imp (neg one) two ∷ []) []
+
+abbrev joined : Board
+joined = board 2 (and (imp one two) (imp (neg one) two) ∷ []) []
+
+abbrev circle : List Call → Board
+circle calls = board 2 (imp one two ∷ imp two one ∷ []) calls
+
+abbrev both : Board
+both = board 3 [] (hold (plus 3) ∷ hold (minus 3) ∷ [])
+
+abbrev journal : List Call → Board
+journal calls = board 4 (imp one two ∷ imp (and two three) four ∷ []) calls
+
+-- Quoted from 01. The second way is added where demand 3 speaks of it: it finds the same labels, or a conflict too.
+abbrev boards : List (Question × Answer)
+boards =
+    -- "1 and not 1: refusal 8. 1 or not 1: no row."
+    (rule 1 (and one (neg one)), refused 8)
+    ∷ (rule 1 (or one (neg one)), appends [])
+    -- "(1 implies 2) and (1 or 2): the row 2 alone."
+    ∷ (rule 2 (and (imp one two) (or one two)), appends ((plus 2 ∷ []) ∷ []))
+    -- "1 same 2: rows 1 −2; −1 2."
+    ∷ (rule 2 (same one two), appends ((plus 1 ∷ minus 2 ∷ []) ∷ (minus 1 ∷ plus 2 ∷ []) ∷ []))
+    -- "(1 or 2) and (not 1 or 3): rows 1 2; −1 3; 2 3."
+    ∷ (rule 3 (and (or one two) (or (neg one) three)), appends ((plus 1 ∷ plus 2 ∷ []) ∷ (minus 1 ∷ plus 3 ∷ []) ∷ (plus 2 ∷ plus 3 ∷ []) ∷ []))
+    -- "1 or (1 and 2): the row 1."
+    ∷ (rule 2 (or one (and one two)), appends ((plus 1 ∷ []) ∷ []))
+    -- "rules 1 implies 2, not 1 implies 2, nothing held: 2 is open."
+    ∷ (settled apart, labels (0 ∷ 0 ∷ []))
+    ∷ (second-way apart, labels (0 ∷ 0 ∷ []))
+    -- "both joined by "and" in one rule: 2 stands, rank 1."
+    ∷ (settled joined, labels (0 ∷ 1 ∷ []))
+    ∷ (second-way joined, labels (0 ∷ 1 ∷ []))
+    ∷ (explained joined (plus 2), rank-row 1 0 (plus 2 ∷ []))
+    -- "rules 1 implies 2, 2 implies 1; hold 1, withdraw 1: both open." In between both stand.
+    ∷ (settled (circle (hold (plus 1) ∷ [])), labels (1 ∷ 1 ∷ []))
+    ∷ (settled (circle (hold (plus 1) ∷ withdraw (plus 1) ∷ [])), labels (0 ∷ 0 ∷ []))
+    -- "hold 3 and −3: label 3, conflict, blame marks both."
+    ∷ (settled both, conflict-with-labels (0 ∷ 0 ∷ 3 ∷ []))
+    ∷ (blamed-on both, marks (plus 3 ∷ minus 3 ∷ []))
+    -- the journal: "2 rule rows 0 1", "3 rule rows 1 1", "6 ask stands", "7 why rank 2 row 1: -2 -3 4", of the literal 4
+    ∷ (rule 4 (imp one two), appends ((minus 1 ∷ plus 2 ∷ []) ∷ []))
+    ∷ (rule 4 (imp (and two three) four), appends ((minus 2 ∷ minus 3 ∷ plus 4 ∷ []) ∷ []))
+    ∷ (settled (journal (hold (plus 1) ∷ hold (plus 3) ∷ [])), labels (1 ∷ 1 ∷ 1 ∷ 1 ∷ []))
+    ∷ (second-way (journal (hold (plus 1) ∷ hold (plus 3) ∷ [])), labels (1 ∷ 1 ∷ 1 ∷ 1 ∷ []))
+    ∷ (explained (journal (hold (plus 1) ∷ hold (plus 3) ∷ [])) (plus 4), rank-row 2 1 (minus 2 ∷ minus 3 ∷ plus 4 ∷ []))
+    ∷ (grounded (journal (hold (plus 1) ∷ hold (plus 3) ∷ [])) (plus 4), marks (plus 1 ∷ plus 3 ∷ []))
+    -- "8 drop ok", "9 ask open"
+    ∷ (settled (journal (hold (plus 1) ∷ hold (plus 3) ∷ withdraw (plus 1) ∷ [])), labels (0 ∷ 0 ∷ 1 ∷ 0 ∷ []))
+    -- "10 hold ok", "11 ask conflict"
+    ∷ (settled (journal (hold (plus 1) ∷ hold (plus 3) ∷ withdraw (plus 1) ∷ hold (minus 3) ∷ [])), conflict-with-labels (0 ∷ 0 ∷ 3 ∷ 0 ∷ []))
+    ∷ (second-way (journal (hold (plus 1) ∷ hold (plus 3) ∷ withdraw (plus 1) ∷ hold (minus 3) ∷ [])), conflict-with-labels (3 ∷ 3 ∷ 3 ∷ 3 ∷ []))
+    ∷ []
+
+-- the definitions answer each question as 01 does
+boards-hold : map (λ b. tell (b .0)) boards ≡ map (λ b. b .1) boards
+unfolding tell called held rows found marked opp value occurs symbolsOf hit implicate prime ofSize gives next reached rankBy firstGiver supportAt supportOf reachesIn reaches ground blamed blame forces
+boards-hold = refl

@@ -1,0 +1,25 @@
+-- Laws and theorems, cited by the crates below.
+pub mod Tests
+pub mod Tables
+pub mod Literals
+pub mod Formulae
+pub mod Clauses
+pub mod Implicates
+pub mod Primes
+pub mod Order
+pub mod OrderOfRows
+pub mod Rows
+pub mod SoundRows
+pub mod Rounds
+pub mod Gives
+pub mod Ranks
+pub mod Supports
+pub mod Reach
+pub mod Derived
+mod Ways
+mod Reason
+pub mod TwoWays
+mod Words
+pub mod Forced
+pub mod DemandThree
+mod Boards

@@ -1,0 +1,90 @@
+-- Laws of `tabulate`, the table of a function, and of `first`, the least number that passes a test.
+use Prim.Native.Nat.{ℕ, zero, suc, _+_, _≤_, _<_}
+use mathlib.Core.Path.{_≡_, refl, sym, ap, _∙_, subst}
+use mathlib.Core.Logic.{_⊎_, inl, inr, ⊎-elim}
+use mathlib.Core.Bool.{Bool, true, false, cond, true≢false}
+use mathlib.Core.List.{List, [], _∷_, _++_, map}
+use native.Mathlib.Nat.{le-of-suc-le-suc, not-suc-le-zero, eq-or-lt-of-le}
+use native.Mathlib.Omega.{arith}
+use lib.ListN.{length, getD, set}
+use lib.Seq.{ext-getD, getD-set-same, getD-set-other}
+use lib.Dec.{ltb, leb}
+use borrow.Author.Count.{below-more}
+use borrow.Author.Tests.{lt-ltb, le-ltb, leb-true, leb-false}
+use Rattle.meaning.specs.Tests.{tabulate, none, first}
+
+-- ---- the table of a function
+
+module _ {A : Type 0} where
+  pub length-tabulate : (n : ℕ) (f : ℕ → A) → length (tabulate n f) ≡ n
+  length-tabulate zero f = refl
+  length-tabulate (suc n) f = ap suc (length-tabulate n (λ i. f (suc i)))
+
+  pub getD-tabulate : (n : ℕ) (f : ℕ → A) (i : ℕ) (d : A) → i < n → getD (tabulate n f) i d ≡ f i
+  getD-tabulate zero f i d h = absurd (not-suc-le-zero h)
+  getD-tabulate (suc n) f zero d h = refl
+  getD-tabulate (suc n) f (suc i) d h = getD-tabulate n (λ i. f (suc i)) i d (le-of-suc-le-suc h)
+
+  -- a list is the table of the function that its elements are
+  pub tabulate-ext : (d : A) (n : ℕ) (f : ℕ → A) (l : List A) → length l ≡ n → ((i : ℕ) → i < n → getD l i d ≡ f i) → l ≡ tabulate n f
+  tabulate-ext d n f l e h =
+      ext-getD d l (tabulate n f) (e ∙ sym (length-tabulate n f)) (λ i b. h i (rw e at b) ∙ sym (getD-tabulate n f i d (rw e at b)))
+
+  pub tabulate-same : (d : A) (n m : ℕ) (f g : ℕ → A) → n ≡ m → ((i : ℕ) → i < m → f i ≡ g i) → tabulate n f ≡ tabulate m g
+  tabulate-same d n m f g e h =
+      tabulate-ext d m g (tabulate n f) (length-tabulate n f ∙ e) (λ i b. getD-tabulate n f i d (rw e b) ∙ h i b)
+
+  pub tabulate-snoc : (n : ℕ) (f : ℕ → A) → tabulate (suc n) f ≡ tabulate n f ++ f n ∷ []
+  tabulate-snoc zero f = refl
+  tabulate-snoc (suc n) f = ap (λ l. f 0 ∷ l) (tabulate-snoc n (λ i. f (suc i)))
+
+  -- filling a list from the front by the values of a function: one more
+  pub filled-more : (d : A) (f : ℕ → A) (l : List A) (p : ℕ) (v : A) → p < length l → ((i : ℕ) → i < p → getD l i d ≡ f i) → v ≡ f p
+      → (i : ℕ) → i < p + 1 → getD (set l p v) i d ≡ f i
+  filled-more d f l p v h before here =
+      below-more (λ i. getD (set l p v) i d ≡ f i) p
+      (λ i b. getD-set-other l p i v d (λ e. omega (arith, e)) ∙ before i b)
+      (getD-set-same l p v d h ∙ here)
+
+pub map-tabulate : {A B : Type 0} (f : A → B) (n : ℕ) (g : ℕ → A) → map f (tabulate n g) ≡ tabulate n (λ i. f (g i))
+map-tabulate f zero g = refl
+map-tabulate f (suc n) g = ap (λ l. f (g 0) ∷ l) (map-tabulate f n (λ i. g (suc i)))
+
+-- ---- the least number that passes a test
+
+pub le-or-lt : (a b : ℕ) → (a ≤ b) ⊎ (b < a)
+le-or-lt a b = go (leb a b) refl
+  where
+    go : (t : Bool) → leb a b ≡ t → (a ≤ b) ⊎ (b < a)
+    go true e = inl (leb-true a b e)
+    go false e = inr (leb-false a b e)
+
+-- what holds below n and at n holds below suc n
+below-suc : (P : ℕ → Type 0) (n : ℕ) → ((i : ℕ) → i < n → P i) → P n → (i : ℕ) → i < suc n → P i
+below-suc P n all here i h = ⊎-elim (λ e. subst P (sym e) here) (λ l. all i l) (eq-or-lt-of-le (le-of-suc-le-suc h))
+
+-- r is the least number below n that passes the test, or none where there is none
+abbrev pub FirstIs : (ℕ → Bool) → ℕ → ℕ → Type 0
+FirstIs test n r =
+    ((r < n) × (test r ≡ true) × ((i : ℕ) → i < r → test i ≡ false)) ⊎ ((r ≡ none) × ((i : ℕ) → i < n → test i ≡ false))
+
+module _ (test : ℕ → Bool) where
+  first-more : (n r : ℕ) → suc n ≤ none → FirstIs test n r → (t : Bool) → test n ≡ t → FirstIs test (suc n) (cond (ltb r n) r (cond t n none))
+  first-more n r small (inl f) t q = rw (lt-ltb r n (f .0)) (inl (omega (arith, f .0), f .1, f .2))
+  first-more n r small (inr f) true q = rw (le-ltb r n (omega (arith, f .0))) (inl (omega arith, q, f .1))
+  first-more n r small (inr f) false q = rw (le-ltb r n (omega (arith, f .0))) (inr (refl, below-suc (λ i. test i ≡ false) n (f .1) q))
+
+  -- `first` is that number,
+  pub first-is : (n : ℕ) → n ≤ none → FirstIs test n (first test n)
+  first-is zero small = inr (refl, λ i h. absurd (not-suc-le-zero h))
+  first-is (suc n) small = first-more n (first test n) small (first-is n (omega arith)) (test n) refl
+
+  -- and no other number is
+  pub first-only : (n r s : ℕ) → FirstIs test n r → FirstIs test n s → r ≡ s
+  first-only n r s (inl f) (inl g) =
+      let not-less : ¬ (r < s) = λ l. true≢false (sym (f .1) ∙ g .2 r l) in
+      let not-more : ¬ (s < r) = λ l. true≢false (sym (g .1) ∙ f .2 s l) in
+      omega arith
+  first-only n r s (inl f) (inr g) = absurd (true≢false (sym (f .1) ∙ g .1 r (f .0)))
+  first-only n r s (inr f) (inl g) = absurd (true≢false (sym (g .1) ∙ f .1 s (g .0)))
+  first-only n r s (inr f) (inr g) = f .0 ∙ sym (g .0)

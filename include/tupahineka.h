@@ -1,0 +1,113 @@
+/* Tupahineka: a proved truth-maintenance board behind a trend screen. The nine calls of document 01 for C and C++.
+ *
+ * Link with libpanel.a (`make lib`). Every call ends, takes any numbers, and tests its own input. A call that is refused
+ * returns one of the numbers below, hands the board back as it was given (a refused tup_open: S = 0, no rows, no premises)
+ * and writes nothing. No call keeps a pointer, allocates, or touches anything but what it is lent.
+ *
+ * What the caller must still honour, since no library can test it:
+ * - a pointer is valid for as many elements as the count after it says (with a count of 0 it may be null);
+ * - a table that a call writes does not overlap another one lent to the same call.
+ *
+ * Places: the literal +s has place 2(s-1), and -s the next one. */
+#ifndef TUPAHINEKA_H
+#define TUPAHINEKA_H
+
+#include <stddef.h>
+#include <stdint.h>
+
+#ifdef __cplusplus
+extern "C" {
+#endif
+
+enum {
+    TUP_MOST_SYMBOLS = 200, /* S is from 1 to this */
+    TUP_PLACES = 400,       /* two for each symbol */
+    TUP_ROW_WIDTH = 8,      /* numbers in a row of the clause table */
+    TUP_MOST_ROWS = 2048,   /* rows used of a longer table */
+    TUP_NONE = 65535        /* no rank, no support, no row */
+};
+
+/* Numbers of the refusals; 0 is a call that is done. */
+enum {
+    TUP_DONE = 0,
+    TUP_BAD_BOARD = 1,        /* S outside 1 to 200, rows in use exceed rows lent, a row in use not sound, a premise beyond S */
+    TUP_BAD_LITERAL = 2,      /* a literal or symbol is 0 or beyond S; at open, the count is outside 1 to 200 */
+    TUP_CUT_SHORT = 3,        /* the formula's bytes end where a kind or body is due */
+    TUP_UNKNOWN_KIND = 4,     /* the byte where a kind is due is none */
+    TUP_TOO_DEEP = 5,         /* an operand is due at depth 17 */
+    TUP_BYTES_LEFT_OVER = 6,  /* bytes follow the complete formula */
+    TUP_TOO_MANY_SYMBOLS = 7, /* more than 8 different symbols */
+    TUP_NO_ASSIGNMENT = 8,    /* no assignment satisfies the rule */
+    TUP_TABLE_FULL = 9,       /* rows in use plus its prime implicates exceed rows lent */
+    TUP_ALREADY_HELD = 10,
+    TUP_NOT_HELD = 11,
+    TUP_NOTHING_TO_SHOW = 12, /* explain: not derived, or held; ground: not derived; blame: no conflict */
+    TUP_TABLE_TOO_SHORT = 13, /* a table to be written is shorter than stated */
+    TUP_RANK_TOO_HIGH = 14    /* never given: proved */
+};
+
+/* How a literal stands. */
+enum { TUP_OPEN = 0, TUP_STANDS = 1, TUP_RULED_OUT = 2, TUP_CONFLICT = 3 };
+
+/* A board: S, the rows of the clause table in use, and for each place a byte, 0 where the literal is not held. Any bytes are taken. */
+typedef struct tup_board {
+    uint16_t symbols;
+    uint16_t rows;
+    uint8_t held[TUP_PLACES];
+} tup_board;
+
+typedef struct tup_change {
+    uint8_t refusal;
+    tup_board board;
+} tup_change;
+
+typedef struct tup_addition {
+    uint8_t refusal;
+    uint16_t added; /* rows appended, from row board.rows of the board given on; 0 where refused */
+    tup_board board;
+} tup_addition;
+
+typedef struct tup_answer {
+    uint8_t refusal;
+    uint8_t standing; /* TUP_OPEN where refused */
+} tup_answer;
+
+typedef struct tup_reason {
+    uint8_t refusal;
+    uint8_t literals; /* how many literals the supporting row has, at table + 8 * row; 0 where refused */
+    uint16_t rank;    /* TUP_NONE where refused */
+    uint16_t row;     /* TUP_NONE where refused */
+} tup_reason;
+
+/* Opens a board of S symbols with no rows in use and no premises. Refused: 2. */
+tup_change tup_open(uint16_t symbols);
+
+/* Adds a rule, given in formula bytes: appends all its prime implicates, and no other row, to the table. Refused: 1, 2 to 6, 7, 8, 9. */
+tup_addition tup_rule(tup_board board, int16_t *table, size_t numbers, const uint8_t *formula, size_t bytes);
+
+/* Puts a literal into the premises. Refused: 1, 2, 10. */
+tup_change tup_hold(tup_board board, const int16_t *table, size_t numbers, int16_t literal);
+
+/* Takes a literal out of the premises. Refused: 1, 2, 11. */
+tup_change tup_withdraw(tup_board board, const int16_t *table, size_t numbers, int16_t literal);
+
+/* Writes S labels (0 neither literal derived, 1 only +s, 2 only -s, 3 both), 2S ranks and 2S supports. Refused: 1, 13, 14. */
+uint8_t tup_settle(tup_board board, const int16_t *table, size_t numbers, uint8_t *labels, size_t label_count,
+                   uint16_t *ranks, size_t rank_count, uint16_t *supports, size_t support_count);
+
+/* How a literal stands. Refused: 1, 2, 14. */
+tup_answer tup_ask(tup_board board, const int16_t *table, size_t numbers, int16_t literal);
+
+/* Why a derived literal that is not held stands: its rank and its supporting row. Refused: 1, 2, 14, 12. */
+tup_reason tup_explain(tup_board board, const int16_t *table, size_t numbers, int16_t literal);
+
+/* Writes 2S bytes, 1 for each premise that the literal stands on, else 0. Refused: 1, 2, 13, 14, 12. */
+uint8_t tup_ground(tup_board board, const int16_t *table, size_t numbers, int16_t literal, uint8_t *marks, size_t mark_count);
+
+/* Writes 2S bytes, 1 for each premise reached by +s or -s for the lowest s with label 3, else 0. Refused: 1, 13, 14, 12. */
+uint8_t tup_blame(tup_board board, const int16_t *table, size_t numbers, uint8_t *marks, size_t mark_count);
+
+#ifdef __cplusplus
+}
+#endif
+#endif
