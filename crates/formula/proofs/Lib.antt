@@ -1,0 +1,13 @@
+-- Facts that several proofs of the crate cite, and laws of its definitions.
+pub mod Parts
+pub mod Parsing
+pub mod Reaching
+pub mod Walk
+pub mod Widening
+pub mod Values
+pub mod Marking
+pub mod Gathering
+pub mod Listing
+pub mod Looking
+pub mod Assignments
+mod Vectors

@@ -1,0 +1,36 @@
+-- `reading::read_symbol` meets its contract: at each return the tests that led there pick the case of `symbolAt`. Assumes nothing.
+use borrow.Author.Needs.{needs}
+use mathlib.Core.Path.{sym, ap}
+use Rattle.formula.specs.Answers.{readOf}
+use native.Mathlib.Omega.{arith}
+use Rattle.formula.proofs.Parsing.{symbol-none, symbol-zero, symbol-beyond, symbol-good}
+use Rattle.formula.proofs.reading.read_symbol.Statement.{statement}
+use Rattle.formula.proofs.reading.read_symbol.Tie as tie
+
+returns : tie.Need-returns
+returns c = sym (ap readOf (symbol-none (c .before .args .symbols) (c .before .args .body .now) (c .if1 .taken)))
+
+shared-slice-read-number : tie.Need-shared-slice-read-number
+shared-slice-read-number c = search needs
+
+cast-number : tie.Need-cast-number
+cast-number c = omega (arith, c .shared-slice-known .given 0)
+
+returns-2 : tie.Need-returns-2
+returns-2 c =
+    let a = c .before .before .before .args in
+    sym (ap readOf (symbol-zero (a .symbols) (a .body .now) (omega arith) (c .if2 .taken)))
+
+returns-3 : tie.Need-returns-3
+returns-3 c =
+    let a = c .before .before .before .before .args in
+    sym (ap readOf (symbol-beyond (a .symbols) (a .body .now) (omega arith) (c .if3 .taken)))
+
+returns-4 : tie.Need-returns-4
+returns-4 c =
+    let a = c .before .before .before .before .args in
+    sym (ap readOf (symbol-good (a .symbols) (a .body .now) (omega arith) (omega arith) (c .if3 .left)))
+
+pub read-symbol-spec : {M : Type 1} → statement M
+read-symbol-spec =
+    tie.close (tie.spec returns shared-slice-read-number cast-number returns-2 returns-3 returns-4)

@@ -1,0 +1,4 @@
+-- How bytes spell a formula, and what the crate's functions answer of them.
+pub mod Kinds
+pub mod Parse
+pub mod Answers
