@@ -19,7 +19,8 @@ use Rattle.meaning.proofs.Gives.{gives-words}
 use Rattle.meaning.proofs.Ranks.{rankOf-is, rank-le}
 use Rattle.meaning.proofs.Supports.{supportOf-held, supportOf-none, supportOf-is}
 
-past-end : (rows : List (List ℕ)) (r : ℕ) → length rows ≤ r → getD rows r [] ≡ []
+-- past the last row there is nothing
+pub past-end : (rows : List (List ℕ)) (r : ℕ) → length rows ≤ r → getD rows r [] ≡ []
 past-end [] r h = refl
 past-end (row ∷ rows) zero h = absurd (omega arith)
 past-end (row ∷ rows) (suc r) h = past-end rows r (omega arith)

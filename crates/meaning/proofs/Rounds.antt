@@ -1,7 +1,7 @@
 -- Laws of rounds: they grow, a round that adds nothing is the last, nothing is added after as many rounds as there are places, and
 -- the order of work does not matter. Both ways of demand 3 are rounds; they differ in `step`, what a set gives.
 use mathlib.Core.Path.{_≡_, refl, sym, ap, _∙_}
-use mathlib.Core.Logic.{_⊎_, inl, inr}
+use mathlib.Core.Logic.{_⊎_, inl, inr, ⊎-elim}
 use mathlib.Core.Bool.{Bool, true, false, _||_, false≢true}
 use mathlib.Core.List.{List, [], _∷_}
 use Prim.Native.Nat.{ℕ, zero, suc, _+_, _-_, _≤_, _<_, zero-le, suc-le-suc}
@@ -79,37 +79,30 @@ module _ (places : ℕ) (step : List Bool → ℕ → Bool) where
       go (inl e) = inl (ap (λ (l : List Bool). next places step l) e)
       go (inr h) = later (fewer now (next places step now) (reached-length held k ∙ sym (reached-length held (suc k))) (next-keeps now (reached-length held k))) h
 
-  -- after as many rounds as there are places, one more adds nothing
-  pub settled : (held : List Bool) → next places step (closure places step held) ≡ closure places step held
+  -- a round adds nothing, or it is among the first, as many as there are places:
+  still-or-early : (held : List Bool) (k : ℕ) → (next places step (reached places step held k) ≡ reached places step held k) ⊎ (suc k ≤ places)
   unfolding reached
-  settled held = go (race held places)
-    where
-      now : List Bool
-      now = closure places step held
-
-      last : (now ≡ next places step now) ⊎ (count now < count (next places step now)) → places ≤ count now → next places step now ≡ now
-      last (inl e) h = sym e
-      last (inr l) h = let c = count-le (next places step now) in let e = reached-length held (suc places) in absurd (omega arith)
-
-      go : (next places step now ≡ now) ⊎ (places ≤ count now) → next places step now ≡ now
-      go (inl e) = e
-      go (inr h) = last (fewer now (next places step now) (reached-length held places ∙ sym (reached-length held (suc places))) (next-keeps now (reached-length held places))) h
-
-  -- a round that adds something is among the first, as many as there are places
-  pub adds-early : (held : List Bool) (k : ℕ) → (reached places step held (suc k) ≡ reached places step held k → ⊥) → suc k ≤ places
-  unfolding reached
-  adds-early held k adds = go (race held k)
+  still-or-early held k = go (race held k)
     where
       now : List Bool
       now = reached places step held k
 
-      more : (now ≡ next places step now) ⊎ (count now < count (next places step now)) → k ≤ count now → suc k ≤ places
-      more (inl e) h = absurd (adds (sym e))
-      more (inr l) h = let c = count-le (next places step now) in let e = reached-length held (suc k) in omega arith
+      more : (now ≡ next places step now) ⊎ (count now < count (next places step now)) → k ≤ count now → (next places step now ≡ now) ⊎ (suc k ≤ places)
+      more (inl e) h = inl (sym e)
+      more (inr l) h = let c = count-le (next places step now) in let e = reached-length held (suc k) in inr (omega arith)
 
-      go : (next places step now ≡ now) ⊎ (k ≤ count now) → suc k ≤ places
-      go (inl e) = absurd (adds e)
+      go : (next places step now ≡ now) ⊎ (k ≤ count now) → (next places step now ≡ now) ⊎ (suc k ≤ places)
+      go (inl e) = inl e
       go (inr h) = more (fewer now (next places step now) (reached-length held k ∙ sym (reached-length held (suc k))) (next-keeps now (reached-length held k))) h
+
+  -- after so many rounds, one more adds nothing,
+  pub settled : (held : List Bool) → next places step (closure places step held) ≡ closure places step held
+  settled held = ⊎-elim (λ e. e) (λ h. absurd (omega arith)) (still-or-early held places)
+
+  -- and one that adds something is among the first
+  pub adds-early : (held : List Bool) (k : ℕ) → (reached places step held (suc k) ≡ reached places step held k → ⊥) → suc k ≤ places
+  unfolding reached
+  adds-early held k adds = ⊎-elim (λ e. absurd (adds e)) (λ h. h) (still-or-early held k)
 
   -- once a round adds nothing, no later one does
   pub stays : (held : List Bool) (k d : ℕ) → reached places step held (suc k) ≡ reached places step held k → reached places step held (k + d) ≡ reached places step held k

@@ -1,0 +1,11 @@
+-- Laws of the numbers of clauses, of the tables of hits and primes, and of rows appended to the table.
+pub mod Numbers
+pub mod Digits
+pub mod Thirds
+pub mod Table
+pub mod Lone
+pub mod Counting
+pub mod Putting
+pub mod Appending
+pub mod Turns
+pub mod Rules

@@ -1,0 +1,63 @@
+-- `literal_count` meets its contract. The invariant: `rest` is the number of the first k symbols' digits, and `count` counts the literals of the others.
+--
+use mathlib.Core.Path.{_≡_, sym, ap, _∙_}
+use mathlib.Core.Logic.{⊎-elim}
+use Prim.Native.Nat.{ℕ, _≤_, _/_, _%_}
+use native.Mathlib.Omega.{arith}
+use lib.ListN.{take, drop, length, length-drop}
+use Rattle.meaning.specs.Clauses.{size}
+use Rattle.meaning.proofs.Clauses.{size-le}
+use Rattle.implicates.specs.Numbers.{number, clauseAt, weigh}
+use Rattle.implicates.proofs.Numbers.{length-clauseAt}
+use Rattle.implicates.proofs.Digits.{number-first, drop-first, size-more, size-same, digitOf, digit-turn, rest-turn, drop-turn}
+use Rattle.implicates.proofs.rows.literal_count.Statement.{statement}
+use Rattle.implicates.proofs.rows.literal_count.Tie as tie
+
+abbrev Inv-loop : tie.InvT-loop
+Inv-loop n c rest₀ count₀ k₀ rest count k =
+    (k ≤ n) × (rest ≡ number (take k (clauseAt n c))) × (count ≡ size (drop k (clauseAt n c)))
+
+abbrev μ-loop : tie.MeasureT-loop
+μ-loop n c rest₀ count₀ k₀ rest count k = k
+
+loop-holds : tie.Need-loop-holds Inv-loop μ-loop
+loop-holds c =
+    (omega arith, number-first (c .args .n) (c .args .c) (c .pre), sym (ap size (drop-first (c .args .n) (c .args .c) (c .pre))))
+
+add-count : tie.Need-add-count Inv-loop μ-loop
+add-count c =
+    let a = c .before .before .before .args in
+    let l = c .before .before .loop in
+    omega (arith, l .inv .2, size-le (drop (l .k) (clauseAt (a .n) (a .c))), length-drop (l .k) (clauseAt (a .n) (a .c)), length-clauseAt (a .n) (a .c))
+
+sub-k : tie.Need-sub-k Inv-loop μ-loop
+sub-k c = omega arith
+
+loop-less : tie.Need-loop-less Inv-loop μ-loop
+loop-less c = omega arith
+
+loop-again : tie.Need-loop-again Inv-loop μ-loop
+loop-again c =
+    let a = c .before .before .before .args in
+    let l = c .before .before .loop in
+    let v = clauseAt (a .n) (a .c) in
+    let low : l .k ≤ length v = omega (arith, length-clauseAt (a .n) (a .c)) in
+    let digit : l .rest % 3 ≡ weigh (digitOf v (l .k)) 1 = ap (λ (x : ℕ). x % 3) (l .inv .1) ∙ digit-turn v (l .k) (omega arith) low in (
+      omega arith,
+      ap (λ (x : ℕ). x / 3) (l .inv .1) ∙ rest-turn v (l .k) (omega arith) low,
+      ⊎-elim
+          (λ w. omega (arith, l .inv .2, size-more (digitOf v (l .k)) (drop (l .k) v) (omega arith)))
+          (λ w. omega (arith, l .inv .2, size-same (digitOf v (l .k)) (drop (l .k) v) (omega arith)))
+          (c .if1 .came)
+          ∙ sym (ap size (drop-turn v (l .k) (omega arith) low)),
+    )
+
+returns : tie.Need-returns Inv-loop μ-loop
+returns c =
+    let a = c .before .before .args in
+    let e : c .before .loop .k ≡ 0 = omega arith in
+    c .before .loop .inv .2 ∙ ap (λ (j : ℕ). size (drop j (clauseAt (a .n) (a .c)))) e
+
+pub literal-count-spec : {M : Type 1} → statement M
+literal-count-spec =
+    tie.close (tie.spec Inv-loop μ-loop loop-holds add-count sub-k loop-less loop-again returns)

@@ -1,0 +1,68 @@
+-- `row_count` meets its contract. The invariant: `count` counts those of the first c clauses that are marked.
+use mathlib.Core.Path.{_≡_, refl, ap, _∙_}
+use mathlib.Core.Logic.{⊎-elim}
+use Prim.Native.Nat.{ℕ, _≤_, _-_}
+use native.Mathlib.Omega.{arith}
+use lib.ListN.{length, take}
+use Rattle.meaning.specs.Tests.{keep}
+use Rattle.meaning.specs.Clauses.{clauses}
+use Rattle.implicates.specs.Numbers.{threes}
+use Rattle.implicates.specs.Hits.{marked}
+use Rattle.implicates.proofs.Numbers.{marked-at}
+use Rattle.implicates.proofs.Counting.{tally, count-turn, count-all}
+use Rattle.implicates.proofs.rows.row_count.Statement.{statement}
+use Rattle.implicates.proofs.rows.row_count.Tie as tie
+
+abbrev Inv-loop : tie.InvT-loop
+Inv-loop primes n count₀ c₀ count c = (c ≤ length primes) × (count ≤ c) × (count ≡ length (keep (marked primes) (take c (clauses n))))
+
+abbrev μ-loop : tie.MeasureT-loop
+μ-loop primes n count₀ c₀ count c = length primes - c
+
+loop-holds : tie.Need-loop-holds Inv-loop μ-loop
+loop-holds c = (omega arith, omega arith, refl)
+
+shared-slice-read-if1 : tie.Need-shared-slice-read-if1 Inv-loop μ-loop
+shared-slice-read-if1 c = omega arith
+
+add-count : tie.Need-add-count Inv-loop μ-loop
+add-count c = omega arith
+
+add-c : tie.Need-add-c Inv-loop μ-loop
+add-c c = omega arith
+
+loop-less : tie.Need-loop-less Inv-loop μ-loop
+loop-less c = omega arith
+
+loop-again : tie.Need-loop-again Inv-loop μ-loop
+loop-again c =
+    let a = c .before .before .before .before in
+    let l = c .before .before .before .loop in
+    let turn = count-turn (marked (a .args .primes .now)) (a .args .n) (l .c) (omega arith) in
+    let test = marked-at (a .args .primes .now) (a .args .n) (l .c) (omega arith) in
+    ⊎-elim
+    (λ w. let one = ap tally (test ∙ w .0 .taken) in (omega arith, omega arith, omega (arith, turn, one, w .1, l .inv .2)))
+    (λ w. let none = ap tally (test ∙ w .0 .left) in (omega arith, omega arith, omega (arith, turn, none, w .1, l .inv .2)))
+    (c .if1 .came)
+
+returns : tie.Need-returns Inv-loop μ-loop
+returns c =
+    let a = c .before .before in
+    let l = c .before .loop in
+    let p = marked (a .args .primes .now) in
+    let last : l .c ≡ threes (a .args .n) = omega arith in
+    l .inv .2 ∙ ap (λ (j : ℕ). length (keep p (take j (clauses (a .args .n))))) last ∙ count-all p (a .args .n)
+
+pub row-count-spec : {M : Type 1} → statement M
+row-count-spec =
+    tie.close
+    (tie.spec
+    Inv-loop
+    μ-loop
+    loop-holds
+    shared-slice-read-if1
+    add-count
+    add-c
+    loop-less
+    loop-again
+    returns)

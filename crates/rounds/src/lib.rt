@@ -1,0 +1,10 @@
+// Boolean constraint propagation by rounds over a lent clause table, and what the ranks tell. A table of ranks has one number for
+// each place; its length is the number of places. `board` tests the table and cuts every slice to its exact length first.
+
+pub mod labels;
+pub mod ranks;
+pub mod reach;
+pub mod supports;
+
+// No rank, no support.
+pub const NONE: u16 = 65535;
