@@ -4,4 +4,5 @@ pub mod Places
 pub mod Rows
 pub mod Decoding
 pub mod Encoding
+pub mod Counting
 mod Examples

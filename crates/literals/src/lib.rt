@@ -5,10 +5,10 @@ pub mod refusal;
 ghost use mathlib.Core.Path.{_≡_};
 ghost use Prim.Native.Nat.{_+_, _-_, _*_, _≤_};
 ghost use lib.IntN.{natAbs};
-ghost use lib.ListN.{take, drop};
+ghost use lib.ListN.{length, take, drop};
 ghost use Rattle.meaning.specs.Literals.{opp};
 ghost use Rattle.literals.specs.Literal.{inRange, placeOf};
-ghost use Rattle.literals.specs.Row.{width, rowsLent, zeros, rowSound, rowsSound};
+ghost use Rattle.literals.specs.Row.{width, rowsLent, zeros, rowSound, rowsSound, decode};
 
 // How many numbers a row has.
 pub const WIDTH: usize = 8;
@@ -118,4 +118,19 @@ pub fn rows_sound(table: &[i16], used: usize, symbols: usize) -> bool
         row += 1;
     }
     true
+}
+
+// How many literals the row from place `at` on has: its numbers before the first 0. `board` and `panel` ask it of rows in use.
+pub fn literal_count(table: &[i16], at: usize) -> usize
+    requires { ⌜ at + width ≤ length (now table) ⌝ }
+    ensures { λ r. ⌜ r ≡ length (decode (take width (drop at (now (table .entry))))) ⌝ }
+{
+    let mut n = 0;
+    while n < WIDTH {
+        if table[at + n] == 0 {
+            return n;
+        }
+        n += 1;
+    }
+    WIDTH
 }

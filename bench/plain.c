@@ -1,0 +1,319 @@
+/* Settle, ask, rule and ground as a C programmer would write them at once: rounds over the rows, each support by the search
+ * that its definition describes, prime implicates by marking all 3^n clauses. The same tests, the same outputs, no proof. */
+#include "plain.h"
+
+#include <stdbool.h>
+#include <stdlib.h>
+#include <string.h>
+
+enum { WIDTH = TUP_ROW_WIDTH, NONE = TUP_NONE, CLAUSES = 6561, DEEPEST = 16 };
+
+/* ---- The board ---- */
+
+/* The place of a literal. */
+static inline unsigned place(int literal) {
+    return literal > 0 ? 2u * (unsigned)literal - 2 : 2u * (unsigned)-literal - 1;
+}
+
+/* Rows lent. */
+static size_t lent(size_t numbers) {
+    return numbers / WIDTH < TUP_MOST_ROWS ? numbers / WIDTH : TUP_MOST_ROWS;
+}
+
+/* True if the row holds one to eight literals with rising symbols up to S, and zeros after them. */
+static bool sound(const int16_t *row, int symbols) {
+    int before = 0, i = 0;
+    for (; i < WIDTH && row[i] != 0; i++) {
+        int symbol = abs(row[i]);
+        if (symbol <= before || symbol > symbols) return false;
+        before = symbol;
+    }
+    if (i == 0) return false;
+    for (; i < WIDTH; i++)
+        if (row[i] != 0) return false;
+    return true;
+}
+
+/* The test behind refusal 1. */
+static bool good(const tup_board *board, const int16_t *table, size_t numbers) {
+    if (board->symbols < 1 || board->symbols > TUP_MOST_SYMBOLS || board->rows > lent(numbers)) return false;
+    for (size_t p = 2u * board->symbols; p < TUP_PLACES; p++)
+        if (board->held[p] != 0) return false;
+    for (size_t r = 0; r < board->rows; r++)
+        if (!sound(table + WIDTH * r, board->symbols)) return false;
+    return true;
+}
+
+/* True if the number is a literal of the board. */
+static bool fits(int literal, const tup_board *board) {
+    return literal != 0 && abs(literal) <= board->symbols;
+}
+
+/* ---- Rounds ---- */
+
+/* Gives the literal rank k if it has none, and notes the row if asked to. */
+static inline bool give(uint16_t *ranks, uint16_t *notes, unsigned p, unsigned k, size_t row) {
+    if (ranks[p] != NONE) return false;
+    ranks[p] = (uint16_t)k;
+    if (notes != NULL) notes[p] = (uint16_t)row;
+    return true;
+}
+
+/* One row in round k: with one opposite missing, that literal is given the rank; with none missing, all are. */
+static bool fire(const int16_t *row, size_t r, unsigned k, uint16_t *ranks, uint16_t *notes) {
+    unsigned missing = NONE;
+    int i = 0;
+    bool any = false;
+    for (; i < WIDTH && row[i] != 0; i++) {
+        unsigned p = place(row[i]);
+        if (ranks[p ^ 1] < k) continue;
+        if (missing != NONE) return false;
+        missing = p;
+    }
+    if (missing != NONE) return give(ranks, notes, missing, k, r);
+    while (i-- > 0) any |= give(ranks, notes, place(row[i]), k, r);
+    return any;
+}
+
+/* Ranks by rounds over the rows until one adds nothing. */
+static void rank_all(const tup_board *board, const int16_t *table, uint16_t *ranks, uint16_t *notes) {
+    bool any = true;
+    for (unsigned p = 0; p < 2u * board->symbols; p++) ranks[p] = board->held[p] ? 0 : NONE;
+    for (unsigned k = 1; any; k++) {
+        any = false;
+        for (size_t r = 0; r < board->rows; r++) any |= fire(table + WIDTH * r, r, k, ranks, notes);
+    }
+}
+
+/* The lowest-numbered row that gave place p its rank. */
+static uint16_t support(const tup_board *board, const int16_t *table, const uint16_t *ranks, unsigned p) {
+    for (size_t r = 0; r < board->rows; r++) {
+        const int16_t *row = table + WIDTH * r;
+        bool has = false;
+        int i = 0;
+        for (; i < WIDTH && row[i] != 0; i++) {
+            unsigned q = place(row[i]);
+            if (q == p) has = true;
+            else if (ranks[q ^ 1] >= ranks[p]) break;
+        }
+        if (has && (i == WIDTH || row[i] == 0)) return (uint16_t)r;
+    }
+    return NONE;
+}
+
+/* True if some symbol has both literals derived. */
+static bool conflict(const tup_board *board, const uint16_t *ranks) {
+    for (unsigned s = 0; s < board->symbols; s++)
+        if (ranks[2 * s] != NONE && ranks[2 * s + 1] != NONE) return true;
+    return false;
+}
+
+/* Writes the labels from the ranks. */
+static void label_all(const tup_board *board, const uint16_t *ranks, uint8_t *labels) {
+    for (unsigned s = 0; s < board->symbols; s++)
+        labels[s] = (uint8_t)((ranks[2 * s] != NONE) + 2 * (ranks[2 * s + 1] != NONE));
+}
+
+/* Tests of settle. */
+static uint8_t settle_tests(const tup_board *board, const int16_t *table, size_t numbers, size_t labels, size_t ranks, size_t supports) {
+    if (!good(board, table, numbers)) return 1;
+    size_t s = board->symbols;
+    return labels < s || ranks < 2 * s || supports < 2 * s ? 13 : 0;
+}
+
+uint8_t plain_settle(tup_board board, const int16_t *table, size_t numbers, uint8_t *labels, size_t label_count,
+                     uint16_t *ranks, size_t rank_count, uint16_t *supports, size_t support_count) {
+    uint8_t refusal = settle_tests(&board, table, numbers, label_count, rank_count, support_count);
+    if (refusal != 0) return refusal;
+    rank_all(&board, table, ranks, NULL);
+    label_all(&board, ranks, labels);
+    for (unsigned p = 0; p < 2u * board.symbols; p++)
+        supports[p] = ranks[p] == NONE || ranks[p] == 0 ? NONE : support(&board, table, ranks, p);
+    return 0;
+}
+
+uint8_t plain_settle_noting(tup_board board, const int16_t *table, size_t numbers, uint8_t *labels, size_t label_count,
+                            uint16_t *ranks, size_t rank_count, uint16_t *supports, size_t support_count) {
+    uint8_t refusal = settle_tests(&board, table, numbers, label_count, rank_count, support_count);
+    if (refusal != 0) return refusal;
+    for (unsigned p = 0; p < 2u * board.symbols; p++) supports[p] = NONE;
+    rank_all(&board, table, ranks, supports);
+    label_all(&board, ranks, labels);
+    return 0;
+}
+
+tup_answer plain_ask(tup_board board, const int16_t *table, size_t numbers, int16_t literal) {
+    uint16_t ranks[TUP_PLACES];
+    if (!good(&board, table, numbers)) return (tup_answer){1, TUP_OPEN};
+    if (!fits(literal, &board)) return (tup_answer){2, TUP_OPEN};
+    rank_all(&board, table, ranks, NULL);
+    if (conflict(&board, ranks)) return (tup_answer){0, TUP_CONFLICT};
+    if (ranks[place(literal)] != NONE) return (tup_answer){0, TUP_STANDS};
+    if (ranks[place(literal) ^ 1] != NONE) return (tup_answer){0, TUP_RULED_OUT};
+    return (tup_answer){0, TUP_OPEN};
+}
+
+uint8_t plain_ground(tup_board board, const int16_t *table, size_t numbers, int16_t literal, uint8_t *marks, size_t mark_count) {
+    uint16_t ranks[TUP_PLACES], todo[TUP_PLACES];
+    bool seen[TUP_PLACES] = {false};
+    unsigned count = 0;
+    if (!good(&board, table, numbers)) return 1;
+    if (!fits(literal, &board)) return 2;
+    if (mark_count < 2u * board.symbols) return 13;
+    rank_all(&board, table, ranks, NULL);
+    if (ranks[place(literal)] == NONE) return 12;
+    memset(marks, 0, 2u * board.symbols);
+    seen[todo[count++] = (uint16_t)place(literal)] = true;
+    while (count > 0) {
+        unsigned p = todo[--count];
+        if (ranks[p] == 0) {
+            marks[p] = 1;
+            continue;
+        }
+        const int16_t *row = table + WIDTH * support(&board, table, ranks, p);
+        for (int i = 0; i < WIDTH && row[i] != 0; i++) {
+            unsigned q = place(row[i]) ^ 1;
+            if (q == (p ^ 1) || seen[q]) continue;
+            seen[q] = true;
+            todo[count++] = (uint16_t)q;
+        }
+    }
+    return 0;
+}
+
+/* ---- Rules ---- */
+
+/* A formula being read. */
+typedef struct reader {
+    const uint8_t *at, *end;
+    unsigned symbols;
+    bool used[256];
+} reader;
+
+/* Reads one operand; 0 or the refusal. */
+static uint8_t read_operand(reader *in, unsigned depth) {
+    if (depth > DEEPEST) return 5;
+    if (in->at == in->end) return 3;
+    uint8_t kind = *in->at++;
+    if (kind < 0x10 || kind > 0x15) return 4;
+    if (kind == 0x10) {
+        if (in->at == in->end) return 3;
+        uint8_t symbol = *in->at++;
+        if (symbol == 0 || symbol > in->symbols) return 2;
+        in->used[symbol] = true;
+        return 0;
+    }
+    uint8_t refusal = read_operand(in, depth + 1);
+    if (refusal == 0 && kind > 0x11) refusal = read_operand(in, depth + 1);
+    return refusal;
+}
+
+/* The value of the operand at *at in an assignment; bit[s] is the bit of symbol s. */
+static bool value(const uint8_t **at, const uint8_t *bit, unsigned assignment) {
+    uint8_t kind = *(*at)++;
+    if (kind == 0x10) return assignment >> bit[*(*at)++] & 1;
+    bool a = value(at, bit, assignment);
+    if (kind == 0x11) return !a;
+    bool b = value(at, bit, assignment);
+    switch (kind) {
+    case 0x12: return a && b;
+    case 0x13: return a || b;
+    case 0x14: return !a || b;
+    default: return a == b;
+    }
+}
+
+/* A rule's clauses: number n has in base 3, digit i, 0 for symbol i absent, 1 for +, 2 for -. */
+typedef struct clauses {
+    unsigned count;
+    int16_t symbol[8];
+    unsigned power[9];
+    bool hit[CLAUSES]; /* some satisfying assignment makes the clause false */
+} clauses;
+
+/* Marks the full clause that each satisfying assignment makes false; true if there is one. */
+static bool hit_full(clauses *c, const uint8_t *formula, const uint8_t *bit) {
+    bool any = false;
+    for (unsigned a = 0; a < 1u << c->count; a++) {
+        const uint8_t *at = formula;
+        if (!value(&at, bit, a)) continue;
+        unsigned n = 0;
+        for (unsigned i = 0; i < c->count; i++) n += c->power[i] * (a >> i & 1 ? 2 : 1);
+        any = c->hit[n] = true;
+    }
+    return any;
+}
+
+/* Spreads the hits: a clause without symbol i is false where the clause with + or with - is. */
+static void spread(clauses *c) {
+    for (unsigned i = 0; i < c->count; i++) {
+        unsigned step = c->power[i];
+        for (unsigned base = 0; base < c->power[c->count]; base += 3 * step)
+            for (unsigned n = base; n < base + step; n++) c->hit[n] |= c->hit[n + step] | c->hit[n + 2 * step];
+    }
+}
+
+/* True if leaving out any one literal makes an implicate none. */
+static bool prime(const clauses *c, unsigned n) {
+    if (c->hit[n]) return false;
+    for (unsigned i = 0, rest = n; i < c->count; i++, rest /= 3)
+        if (rest % 3 != 0 && !c->hit[n - rest % 3 * c->power[i]]) return false;
+    return true;
+}
+
+/* Writes all prime clauses with `left` more literals, from symbol i on, in the document's order. */
+static unsigned collect(const clauses *c, unsigned i, unsigned left, unsigned n, int16_t *row, unsigned filled, int16_t (*out)[WIDTH],
+                        unsigned count) {
+    if (left == 0) {
+        if (prime(c, n)) memcpy(out[count++], row, WIDTH * sizeof row[0]);
+        return count;
+    }
+    for (; i + left <= c->count; i++) {
+        row[filled] = c->symbol[i];
+        count = collect(c, i + 1, left - 1, n + c->power[i], row, filled + 1, out, count);
+        row[filled] = (int16_t)-c->symbol[i];
+        count = collect(c, i + 1, left - 1, n + 2 * c->power[i], row, filled + 1, out, count);
+        row[filled] = 0;
+    }
+    return count;
+}
+
+/* Gives the used symbols their bits; false if there are more than eight. */
+static bool number_symbols(const reader *in, clauses *c, uint8_t *bit) {
+    c->count = 0;
+    c->power[0] = 1;
+    for (unsigned s = 1; s <= in->symbols; s++) {
+        if (!in->used[s]) continue;
+        if (c->count == 8) return false;
+        bit[s] = (uint8_t)c->count;
+        c->symbol[c->count++] = (int16_t)s;
+        c->power[c->count] = 3 * c->power[c->count - 1];
+    }
+    return true;
+}
+
+/* A refused rule. */
+static tup_addition refused(uint8_t refusal, const tup_board *board) {
+    return (tup_addition){refusal, 0, *board};
+}
+
+tup_addition plain_rule(tup_board board, int16_t *table, size_t numbers, const uint8_t *formula, size_t bytes) {
+    int16_t out[CLAUSES][WIDTH], row[WIDTH] = {0};
+    reader in = {formula, formula + bytes, board.symbols, {false}};
+    uint8_t bit[256];
+    clauses c;
+    unsigned count = 0;
+    if (!good(&board, table, numbers)) return refused(1, &board);
+    uint8_t refusal = read_operand(&in, 1);
+    if (refusal != 0) return refused(refusal, &board);
+    if (in.at != in.end) return refused(6, &board);
+    if (!number_symbols(&in, &c, bit)) return refused(7, &board);
+    memset(c.hit, 0, c.power[c.count]);
+    if (!hit_full(&c, formula, bit)) return refused(8, &board);
+    spread(&c);
+    for (unsigned length = 1; length <= c.count; length++) count = collect(&c, 0, length, 0, row, 0, out, count);
+    if (board.rows + count > lent(numbers)) return refused(9, &board);
+    if (count != 0) memcpy(table + WIDTH * board.rows, out, count * sizeof out[0]);
+    board.rows = (uint16_t)(board.rows + count);
+    return (tup_addition){0, (uint16_t)count, board};
+}

@@ -1,0 +1,14 @@
+-- Laws of the board's tests, and of what its ranks tell.
+pub mod Goodness
+pub mod Arguments
+pub mod Placing
+pub mod Ranked
+pub mod Copying
+pub mod Lending
+pub mod Explaining
+pub mod Settled
+pub mod Adding
+pub mod Clashes
+pub mod Marks
+pub mod Grounded
+mod Unique

@@ -1,0 +1,100 @@
+-- `asking::ask` meets its contract: its tests are the faults of `askFaults`, in their order, and the ranks tell how the literal stands.
+use borrow.Author.Needs.{needs}
+use mathlib.Core.Path.{_≡_, sym, ap, _∙_}
+use Prim.Native.Nat.{_*_}
+use native.Mathlib.Omega.{arith}
+use lib.ListN.{drop}
+use Rattle.meaning.specs.Tests.{none}
+use Rattle.meaning.proofs.Literals.{opp-in}
+use Rattle.rounds.specs.Ranks.{below}
+use Rattle.rounds.proofs.Final.{below-derived}
+use Rattle.board.specs.Ranking.{rowsOn, tooHigh}
+use Rattle.board.specs.Asking.{askFaults, asked, standing}
+use Rattle.board.proofs.Placing.{PlacedAt, placed-at, placed-refused}
+use Rattle.board.proofs.Lending.{Front, ranks-front, ranks-high}
+use Rattle.board.proofs.asking.ask.Statement.{statement}
+use Rattle.board.proofs.asking.ask.Tie as tie
+
+-- the place that the call looks at
+at : (c : tie.After-p) → let s = c .before .before .before in PlacedAt (s .args .table .now) (s .args .board) (s .args .l) (c .p .given .0 .0)
+at c = let s = c .before .before .before in placed-at _ _ (s .fits .l) (c .before .before .place-on .ensures) (c .p .given .1)
+
+-- the ranks, and whether one is too high
+front : (c : tie.After-ranks-on) → let s = c .before .before .before .before .before .before in Front (s .args .table .now) (s .args .board) (c .ranks-on .result .list)
+front c = ranks-front _ _ (at (c .before .before .before) .good) (c .ranks-on .ensures)
+
+high : (c : tie.After-ranks-on) → let s = c .before .before .before .before .before .before in tooHigh (s .args .table .now) (s .args .board) ≡ c .ranks-on .result .high
+high c = ranks-high _ _ (c .ranks-on .ensures)
+
+place-on-requires : tie.Need-place-on-requires
+place-on-requires c κs = search needs
+
+enum-known-why : tie.Need-enum-known-why
+enum-known-why c = search needs
+
+enum-known-p : tie.Need-enum-known-p
+enum-known-p c = search needs
+
+mul-places : tie.Need-mul-places
+mul-places c = omega (arith, at (c .before .before) .good .sound .symbols)
+
+ranks-on-requires : tie.Need-ranks-on-requires
+ranks-on-requires c κs = at (c .before .before) .is-good
+
+returns : tie.Need-returns
+unfolding asked askFaults
+returns c =
+    let p = at (c .before .before .before .before) in
+    rw (p .is-good, p .in-range, high (c .before) ∙ c .if1 .taken)
+
+array-share-prefix-ranks : tie.Need-array-share-prefix-ranks
+array-share-prefix-ranks c = front (c .before .before) .room
+
+slice-aggregate-standing-by : tie.Need-slice-aggregate-standing-by
+slice-aggregate-standing-by c = sym (front (c .before .before .before) .long)
+
+standing-by-requires : tie.Need-standing-by-requires
+standing-by-requires c κs =
+    let r = c .before .before .before in
+    let w = r .before .before .before in
+    let long = front r .long in
+    let low = at w .low in
+    (omega (arith, long, low), omega (arith, long, opp-in (w .p .given .0 .0) (2 * w .before .before .before .args .board .symbols) (omega arith) low))
+
+returns-2 : tie.Need-returns-2
+unfolding asked askFaults
+returns-2 c =
+    let w = c .before in
+    let s = w .before .before .before in
+    let own = drop 2 (askFaults (s .args .table .now) (s .args .board) (s .args .l)) in
+    rw (placed-refused _ _ (s .fits .l) (w .before .before .place-on .ensures) (w .why .given .1) own)
+
+returns-3 : tie.Need-returns-3
+unfolding asked askFaults
+returns-3 c =
+    let e = c .before .before .before in
+    let r = e .before in
+    let w = r .before .before .before in
+    let p = at w in
+    let s = w .before .before .before in
+    let b = s .args .board in
+    rw (p .is-good, p .in-range, high r ∙ e .if1 .left, ← p .place)
+    (c .standing-by .ensures
+    ∙ ap (λ known. standing known (w .p .given .0 .0))
+    (ap (below none) (front r .is) ∙ below-derived (2 * b .symbols) (rowsOn (s .args .table .now) b) (b .held) (omega (arith, p .good .sound .symbols))))
+
+pub ask-spec : {M : Type 1} → statement M
+ask-spec =
+    tie.close
+    (tie.spec
+    place-on-requires
+    enum-known-why
+    enum-known-p
+    mul-places
+    ranks-on-requires
+    returns
+    array-share-prefix-ranks
+    slice-aggregate-standing-by
+    standing-by-requires
+    returns-2
+    returns-3)

@@ -1,0 +1,77 @@
+-- `asking::standing_by` meets its contract: a place has a rank exactly if it is among those below none.
+use borrow.Author.Needs.{needs}
+use mathlib.Core.Path.{_≡_, sym, _∙_}
+use mathlib.Core.Bool.{false}
+use borrow.Author.Tests.{lt-ltb, le-ltb}
+use lib.Dec.{ltb}
+use lib.ListN.{getD}
+use Rattle.meaning.specs.Literals.{opp, has, conflict}
+use Rattle.meaning.specs.Tests.{none}
+use Rattle.rounds.specs.Ranks.{below}
+use Rattle.board.proofs.Ranked.{has-below}
+use Rattle.board.proofs.asking.standing_by.Statement.{statement}
+use Rattle.board.proofs.asking.standing_by.Tie as tie
+
+-- there is no conflict
+clear : (c : tie.Else1) → conflict (below none (c .before .before .before .args .ranks .now)) ≡ false
+clear c = sym (c .before .in-conflict .ensures) ∙ c .if1 .left
+
+-- the literal has no rank
+without : (c : tie.Else2) → let a = c .before .before .before .before .before .args in has (below none (a .ranks .now)) (a .p) ≡ false
+without c = let a = c .before .before .before .before .before in has-below none (a .args .ranks .now) (a .args .p) (a .pre .0) ∙ le-ltb _ none (c .if2 .left)
+
+-- the opposite's rank
+other : (c : tie.After-opposite) → let a = c .before .before .before .before .before .before .args in has (below none (a .ranks .now)) (opp (a .p)) ≡ ltb (getD (a .ranks .now) (c .opposite .result) 0) none
+other c = let a = c .before .before .before .before .before .before in rw (c .opposite .ensures) (has-below none (a .args .ranks .now) (opp (a .args .p)) (a .pre .1))
+
+in-conflict-requires : tie.Need-in-conflict-requires
+in-conflict-requires c κs = search needs
+
+returns : tie.Need-returns
+returns c = rw (sym (c .before .in-conflict .ensures) ∙ c .if1 .taken)
+
+mul-if2 : tie.Need-mul-if2
+mul-if2 c = search needs
+
+shared-slice-read-if2 : tie.Need-shared-slice-read-if2
+shared-slice-read-if2 c = search needs
+
+returns-2 : tie.Need-returns-2
+returns-2 c =
+    let e = c .before .before in
+    let a = e .before .before .before in
+    rw (clear e, has-below none (a .args .ranks .now) (a .args .p) (a .pre .0) ∙ lt-ltb _ none (c .if2 .taken))
+
+opposite-requires : tie.Need-opposite-requires
+opposite-requires c κs = search needs
+
+mul-if3 : tie.Need-mul-if3
+mul-if3 c = search needs
+
+shared-slice-read-if3 : tie.Need-shared-slice-read-if3
+shared-slice-read-if3 c = search needs
+
+returns-3 : tie.Need-returns-3
+returns-3 c =
+    let o = c .before .before in
+    rw (clear (o .before .before .before), without (o .before), other o ∙ lt-ltb _ none (c .if3 .taken))
+
+returns-4 : tie.Need-returns-4
+returns-4 c =
+    let o = c .before .before in
+    rw (clear (o .before .before .before), without (o .before), other o ∙ le-ltb _ none (c .if3 .left))
+
+pub standing-by-spec : {M : Type 1} → statement M
+standing-by-spec =
+    tie.close
+    (tie.spec
+    in-conflict-requires
+    returns
+    mul-if2
+    shared-slice-read-if2
+    returns-2
+    opposite-requires
+    mul-if3
+    shared-slice-read-if3
+    returns-3
+    returns-4)

@@ -1,0 +1,36 @@
+-- `rules::two_to` meets its contract. The invariant: `count` is 2 to the k.
+use mathlib.Core.Path.{_≡_, refl, ap, _∙_}
+use Prim.Native.Nat.{_≤_, _-_}
+use native.Mathlib.Omega.{arith}
+use native.Mathlib.Numerals.{add-one}
+use Rattle.meaning.specs.Clauses.{twos}
+use Rattle.board.proofs.Adding.{twos-mono}
+use Rattle.board.proofs.rules.two_to.Statement.{statement}
+use Rattle.board.proofs.rules.two_to.Tie as tie
+
+abbrev Inv-loop : tie.InvT-loop
+Inv-loop n count₀ k₀ count k = (k ≤ n) × (count ≡ twos k)
+
+abbrev μ-loop : tie.MeasureT-loop
+μ-loop n count₀ k₀ count k = n - k
+
+loop-holds : tie.Need-loop-holds Inv-loop μ-loop
+loop-holds c = (omega arith, refl)
+
+mul-count : tie.Need-mul-count Inv-loop μ-loop
+mul-count c = omega (arith, twos-mono (c .before .loop .k) 8 (omega arith))
+
+add-k : tie.Need-add-k Inv-loop μ-loop
+add-k c = omega arith
+
+loop-less : tie.Need-loop-less Inv-loop μ-loop
+loop-less c = omega arith
+
+loop-again : tie.Need-loop-again Inv-loop μ-loop
+loop-again c = rw add-one (omega arith, omega arith)
+
+returns : tie.Need-returns Inv-loop μ-loop
+returns c = let e : c .before .loop .k ≡ c .before .before .args .n = omega arith in c .before .loop .inv .1 ∙ ap twos e
+
+pub two-to-spec : {M : Type 1} → statement M
+two-to-spec = tie.close (tie.spec Inv-loop μ-loop loop-holds mul-count add-k loop-less loop-again returns)

@@ -1,0 +1,84 @@
+-- Ask and explain.
+use Prim.Native.Nat.{ℕ, _+_, _-_, _*_}
+use mathlib.Core.Path.{_≡_}
+use mathlib.Core.Bool.{Bool, cond, not, _||_}
+use mathlib.Core.List.{List, [], _∷_}
+use lib.IntN.{ℤ}
+use lib.ListN.{length, take, drop}
+use denote.Ref.{RefT, ptr, now}
+use Rattle.meaning.specs.Tests.{none}
+use Rattle.meaning.specs.Literals.{opp, has, conflict}
+use Rattle.meaning.specs.Rounds.{derived, rankOf, supportOf}
+use Rattle.literals.specs.Literal.{inRange, placeOf}
+use Rattle.literals.specs.Row.{width, numbersAt, decode}
+use Rattle.literals.specs.declared.refusal.Refusal.the-variants.{BadBoard, BadLiteral, RankTooHigh, NothingToShow}
+use Rattle.board.specs.Faults.{goodBoard, Fault, firstFault, ifDone}
+use Rattle.board.specs.Ranking.{rowsOn, tooHigh}
+use Rattle.board.specs.declared.Board.{Board}
+use Rattle.board.specs.declared.asking.Standing.{Standing}
+use Rattle.board.specs.declared.asking.Standing.the-variants.{Conflict, Stands, RuledOut, Open, Refused}
+use Rattle.board.specs.declared.asking.Reason.{Reason}
+
+-- the derived literals, the rank and the support on a board
+abbrev pub derivedOn : List ℤ → Board → List Bool
+derivedOn table b = derived (2 * b .symbols) (rowsOn table b) (b .held)
+
+abbrev pub rankOn : List ℤ → Board → ℕ → ℕ
+rankOn table b p = rankOf (2 * b .symbols) (rowsOn table b) (b .held) p
+
+abbrev pub supportOn : List ℤ → Board → ℕ → ℕ
+supportOn table b p = supportOf (2 * b .symbols) (rowsOn table b) (b .held) p
+
+-- ---- "Ask answers for one literal: conflict, if the board is in conflict; else stands, if derived; ruled out, if the opposite is
+-- derived; else open."
+
+unfoldable pub askFaults : List ℤ → Board → ℤ → List Fault
+askFaults table b l =
+    record { given = not (goodBoard table b); refusal = BadBoard }
+    ∷ record { given = not (inRange (b .symbols) l); refusal = BadLiteral }
+    ∷ record { given = tooHigh table b; refusal = RankTooHigh }
+    ∷ []
+
+abbrev pub standing : List Bool → ℕ → Standing
+standing known p = cond (conflict known) Conflict (cond (has known p) Stands (cond (has known (opp p)) RuledOut Open))
+
+unfoldable pub asked : List ℤ → Board → ℤ → Standing
+asked table b l = ifDone (firstFault (askFaults table b l)) (standing (derivedOn table b) (placeOf l)) Refused
+
+-- ---- "Explain returns the supporting row as that part of the caller's table, its literals without the zeros, with rank and row number."
+
+-- 12: "explain: not derived, or held"
+unfoldable pub explainFaults : List ℤ → Board → ℤ → List Fault
+explainFaults table b l =
+    record { given = not (goodBoard table b); refusal = BadBoard }
+    ∷ record { given = not (inRange (b .symbols) l); refusal = BadLiteral }
+    ∷ record { given = tooHigh table b; refusal = RankTooHigh }
+    ∷ record { given = not (has (derivedOn table b) (placeOf l)) || has (b .held) (placeOf l); refusal = NothingToShow }
+    ∷ []
+
+-- the two numbers: "65535 for rank and row number" where refused
+unfoldable pub reasoned : List ℤ → Board → ℤ → Reason
+reasoned table b l =
+    let outcome = firstFault (explainFaults table b l) in
+    ifDone outcome (record { outcome = outcome; rank = rankOn table b (placeOf l); row = supportOn table b (placeOf l) })
+    (λ _. record { outcome = outcome; rank = none; row = none })
+
+-- from the place `start` up to the place `stop`
+pub record Span : Type 0 where
+  pub start : ℕ
+  pub stop : ℕ
+
+-- the part: the row's literals, or "the empty part at the table's front" where refused
+unfoldable pub explained : List ℤ → Board → ℤ → Span
+explained table b l =
+    let row = supportOn table b (placeOf l) in
+    ifDone (firstFault (explainFaults table b l))
+    (record { start = width * row; stop = width * row + length (decode (numbersAt table row)) })
+    (λ _. record { start = 0; stop = 0 })
+
+-- `part` is that part of the lent table and no copy: the same numbers, in the same block of memory, two bytes a number after the
+-- table's first
+pub record IsPart (whole part : RefT (List ℤ)) (s : Span) : Type 0 where
+  pub holds : now part ≡ take (s .stop - s .start) (drop (s .start) (now whole))
+  pub block : ptr part .0 ≡ ptr whole .0
+  pub offset : ptr part .1 ≡ s .start * 2 + ptr whole .1

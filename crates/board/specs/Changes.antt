@@ -1,0 +1,55 @@
+-- Open, hold and withdraw: "A refused call returns the number with the board as given, except that a refused open returns a board with
+-- S = 0, no rows in use and no premises".
+use Prim.Native.Nat.{ℕ}
+use mathlib.Core.Bool.{Bool, true, false, not, _&&_}
+use mathlib.Core.List.{List, [], _∷_}
+use lib.Dec.{leb}
+use lib.IntN.{ℤ}
+use lib.ListN.{set, replicate}
+use Rattle.meaning.specs.Literals.{has}
+use Rattle.literals.specs.Literal.{inRange, placeOf}
+use Rattle.literals.specs.declared.refusal.Refusal.the-variants.{BadBoard, BadLiteral, AlreadyHeld, NotHeld}
+use Rattle.board.specs.Faults.{goodBoard, Fault, firstFault, ifDone}
+use Rattle.board.specs.declared.Board.{Board}
+use Rattle.board.specs.declared.Change.{Change}
+use Rattle.board.specs.declared.Outcome.{Outcome}
+
+-- what a call that changes the board answers: the board so changed, or as given
+abbrev pub changed : Outcome → Board → Board → Change
+changed outcome given next = record { outcome = outcome; board = ifDone outcome next (λ _. given) }
+
+-- "rows in use and premises start empty"
+abbrev pub emptyBoard : ℕ → Board
+emptyBoard S = record { symbols = S; rows = 0; held = replicate 400 false }
+
+-- "at open, the count is outside 1 to 200"
+unfoldable pub openFaults : ℕ → List Fault
+openFaults S = record { given = not (leb 1 S && leb S 200); refusal = BadLiteral } ∷ []
+
+unfoldable pub opened : ℕ → Change
+opened S = changed (firstFault (openFaults S)) (emptyBoard 0) (emptyBoard S)
+
+-- the board with the flag of one premise changed, and nothing else
+abbrev pub withFlag : Board → ℤ → Bool → Board
+withFlag b l flag = record { symbols = b .symbols; rows = b .rows; held = set (b .held) (placeOf l) flag }
+
+-- "Order: 1, then 2 for a given literal, 13, 14, then 10, 11 or 12"
+unfoldable pub holdFaults : List ℤ → Board → ℤ → List Fault
+holdFaults table b l =
+    record { given = not (goodBoard table b); refusal = BadBoard }
+    ∷ record { given = not (inRange (b .symbols) l); refusal = BadLiteral }
+    ∷ record { given = has (b .held) (placeOf l); refusal = AlreadyHeld }
+    ∷ []
+
+unfoldable pub held : List ℤ → Board → ℤ → Change
+held table b l = changed (firstFault (holdFaults table b l)) b (withFlag b l true)
+
+unfoldable pub withdrawFaults : List ℤ → Board → ℤ → List Fault
+withdrawFaults table b l =
+    record { given = not (goodBoard table b); refusal = BadBoard }
+    ∷ record { given = not (inRange (b .symbols) l); refusal = BadLiteral }
+    ∷ record { given = not (has (b .held) (placeOf l)); refusal = NotHeld }
+    ∷ []
+
+unfoldable pub withdrawn : List ℤ → Board → ℤ → Change
+withdrawn table b l = changed (firstFault (withdrawFaults table b l)) b (withFlag b l false)

@@ -1,0 +1,65 @@
+-- Ground and blame: they write "2S bytes in the places that ranks use, 1 for each premise reached .., else 0".
+use Prim.Native.Nat.{ℕ, _+_, _*_}
+use mathlib.Core.Bool.{Bool, cond, not, _&&_, _||_}
+use mathlib.Core.List.{List, [], _∷_, map}
+use lib.Dec.{leb, ltb}
+use lib.IntN.{ℤ}
+use lib.ListN.{length, getD}
+use Rattle.meaning.specs.Tests.{tabulate, none}
+use Rattle.meaning.specs.Literals.{has, conflict}
+use Rattle.meaning.specs.Ground.{reaches, ground, blame}
+use Rattle.literals.specs.Literal.{inRange, placeOf}
+use Rattle.literals.specs.declared.refusal.Refusal.the-variants.{BadBoard, BadLiteral, TableTooShort, RankTooHigh, NothingToShow}
+use Rattle.board.specs.Faults.{goodBoard, Fault, firstFault}
+use Rattle.board.specs.Settling.{over}
+use Rattle.board.specs.Ranking.{rowsOn, tooHigh}
+use Rattle.board.specs.Asking.{derivedOn}
+use Rattle.board.specs.declared.Board.{Board}
+use Rattle.board.specs.declared.Outcome.{Outcome}
+
+-- a premise that is reached as a byte
+abbrev pub byteOf : Bool → ℕ
+byteOf reached = cond reached 1 0
+
+-- the premises that one of two literals reaches
+unfoldable pub reachedOn : List ℤ → Board → (p q : ℕ) → List Bool
+reachedOn table b p q =
+    tabulate (2 * b .symbols)
+    (λ h. reaches (2 * b .symbols) (rowsOn table b) (b .held) p h || reaches (2 * b .symbols) (rowsOn table b) (b .held) q h)
+
+-- both literals of a symbol, counted from 0, have a rank
+unfoldable pub clashIn : List ℕ → ℕ → Bool
+clashIn ranks s = ltb (getD ranks (2 * s) 0) none && ltb (getD ranks (2 * s + 1) 0) none
+
+-- 12: "ground: not derived"; `lent` is how many places are lent
+unfoldable pub groundFaults : List ℤ → Board → ℤ → (lent : ℕ) → List Fault
+groundFaults table b l lent =
+    record { given = not (goodBoard table b); refusal = BadBoard }
+    ∷ record { given = not (inRange (b .symbols) l); refusal = BadLiteral }
+    ∷ record { given = not (leb (2 * b .symbols) lent); refusal = TableTooShort }
+    ∷ record { given = tooHigh table b; refusal = RankTooHigh }
+    ∷ record { given = not (has (derivedOn table b) (placeOf l)); refusal = NothingToShow }
+    ∷ []
+
+unfoldable pub groundOutcome : List ℤ → Board → ℤ → (marks : List ℕ) → Outcome
+groundOutcome table b l marks = firstFault (groundFaults table b l (length marks))
+
+unfoldable pub groundMarks : List ℤ → Board → ℤ → (marks : List ℕ) → List ℕ
+groundMarks table b l marks =
+    over (groundOutcome table b l marks) (map byteOf (ground (2 * b .symbols) (rowsOn table b) (b .held) (placeOf l))) marks
+
+-- 12: "blame: no conflict"
+unfoldable pub blameFaults : List ℤ → Board → (lent : ℕ) → List Fault
+blameFaults table b lent =
+    record { given = not (goodBoard table b); refusal = BadBoard }
+    ∷ record { given = not (leb (2 * b .symbols) lent); refusal = TableTooShort }
+    ∷ record { given = tooHigh table b; refusal = RankTooHigh }
+    ∷ record { given = not (conflict (derivedOn table b)); refusal = NothingToShow }
+    ∷ []
+
+unfoldable pub blameOutcome : List ℤ → Board → (marks : List ℕ) → Outcome
+blameOutcome table b marks = firstFault (blameFaults table b (length marks))
+
+unfoldable pub blameMarks : List ℤ → Board → (marks : List ℕ) → List ℕ
+blameMarks table b marks =
+    over (blameOutcome table b marks) (map byteOf (blame (b .symbols) (rowsOn table b) (b .held))) marks

@@ -1,0 +1,57 @@
+-- Add a rule: "For a rule: 1; then the formula from the front; then 6, 7, 8, 9." "An accepted rule appends exactly its prime implicates".
+use Prim.Native.Nat.{ℕ, _+_}
+use mathlib.Core.Bool.{not}
+use mathlib.Core.List.{List, [], _∷_}
+use lib.Dec.{leb}
+use lib.IntN.{ℤ}
+use lib.ListN.{length}
+use Rattle.meaning.specs.Formulae.{Formula, symbol, ruleOf}
+use Rattle.meaning.specs.Clauses.{rowsOf, satisfiable}
+use Rattle.literals.specs.Row.{rowsLent}
+use Rattle.literals.specs.declared.refusal.Refusal.{Refusal}
+use Rattle.literals.specs.declared.refusal.Refusal.the-variants.{BadBoard, TooManySymbols, NoAssignment, TableFull}
+use Rattle.formula.specs.Parse.{Parsed, good, bad, wholeOf}
+use Rattle.formula.specs.Answers.{isGood}
+use Rattle.implicates.specs.Appending.{appended}
+use Rattle.board.specs.Faults.{goodBoard, Fault, firstFault, ifDone}
+use Rattle.board.specs.declared.Board.{Board}
+use Rattle.board.specs.declared.rules.Addition.{Addition}
+
+-- why bytes are no formula (asked only of those that are none), and the formula that they are (asked only of those that are one)
+abbrev pub whyOf : Parsed → Refusal
+whyOf (good f used) = BadBoard
+whyOf (bad why at) = why
+
+abbrev pub formulaOf : Parsed → Formula
+formulaOf (good f used) = f
+formulaOf (bad why at) = symbol 0
+
+unfoldable pub ruleFaults : List ℤ → Board → List ℕ → List Fault
+ruleFaults table b bytes =
+    let read = wholeOf (b .symbols) bytes in
+    let rule = ruleOf (b .symbols) (formulaOf read) in
+    record { given = not (goodBoard table b); refusal = BadBoard }
+    ∷ record { given = not (isGood read); refusal = whyOf read }
+    ∷ record { given = not (leb (length (rule .symbols)) 8); refusal = TooManySymbols }
+    ∷ record { given = not (satisfiable rule); refusal = NoAssignment }
+    ∷ record { given = not (leb (b .rows + length (rowsOf rule)) (rowsLent table)); refusal = TableFull }
+    ∷ []
+
+-- the rows of the rule that the bytes are
+abbrev pub rowsOfBytes : ℕ → List ℕ → List (List ℕ)
+rowsOfBytes S bytes = rowsOf (ruleOf S (formulaOf (wholeOf S bytes)))
+
+-- "adding a rule changes neither S nor the premises"
+abbrev pub withRows : Board → ℕ → Board
+withRows b added = record { symbols = b .symbols; rows = b .rows + added; held = b .held }
+
+-- the answer, and the table after it
+unfoldable pub ruled : List ℤ → Board → List ℕ → Addition
+ruled table b bytes =
+    let outcome = firstFault (ruleFaults table b bytes) in
+    let added = length (rowsOfBytes (b .symbols) bytes) in
+    ifDone outcome (record { outcome = outcome; added = added; board = withRows b added }) (λ _. record { outcome = outcome; added = 0; board = b })
+
+unfoldable pub ruledTable : List ℤ → Board → List ℕ → List ℤ
+ruledTable table b bytes =
+    ifDone (firstFault (ruleFaults table b bytes)) (appended table (b .rows) (rowsOfBytes (b .symbols) bytes)) (λ _. table)

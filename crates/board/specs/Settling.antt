@@ -1,0 +1,40 @@
+-- Settle "writes three lent tables .. Only the first S, 2S and 2S places are written."
+use Prim.Native.Nat.{ℕ, _*_}
+use mathlib.Core.Bool.{not, _&&_}
+use mathlib.Core.List.{List, [], _∷_, _++_}
+use lib.Dec.{leb}
+use lib.IntN.{ℤ}
+use lib.ListN.{length, drop}
+use Rattle.meaning.specs.Rounds.{ranksOf, supportsOf, labelsOf}
+use Rattle.literals.specs.declared.refusal.Refusal.the-variants.{BadBoard, TableTooShort, RankTooHigh}
+use Rattle.board.specs.Faults.{goodBoard, Fault, firstFault, ifDone}
+use Rattle.board.specs.Ranking.{rowsOn, tooHigh}
+use Rattle.board.specs.declared.Board.{Board}
+use Rattle.board.specs.declared.Outcome.{Outcome}
+
+-- `labels`, `ranks` and `supports` are how many places are lent
+unfoldable pub settleFaults : List ℤ → Board → (labels ranks supports : ℕ) → List Fault
+settleFaults table b labels ranks supports =
+    record { given = not (goodBoard table b); refusal = BadBoard }
+    ∷ record { given = not (leb (b .symbols) labels && leb (2 * b .symbols) ranks && leb (2 * b .symbols) supports); refusal = TableTooShort }
+    ∷ record { given = tooHigh table b; refusal = RankTooHigh }
+    ∷ []
+
+-- a lent table after a call: its first places written, or all as it was
+abbrev pub over : {A : Type 0} → Outcome → List A → List A → List A
+over outcome new lent = ifDone outcome (new ++ drop (length new) lent) (λ _. lent)
+
+unfoldable pub settleOutcome : List ℤ → Board → (labels ranks supports : List ℕ) → Outcome
+settleOutcome table b labels ranks supports = firstFault (settleFaults table b (length labels) (length ranks) (length supports))
+
+unfoldable pub settledLabels : List ℤ → Board → (labels ranks supports : List ℕ) → List ℕ
+settledLabels table b labels ranks supports =
+    over (settleOutcome table b labels ranks supports) (labelsOf (b .symbols) (rowsOn table b) (b .held)) labels
+
+unfoldable pub settledRanks : List ℤ → Board → (labels ranks supports : List ℕ) → List ℕ
+settledRanks table b labels ranks supports =
+    over (settleOutcome table b labels ranks supports) (ranksOf (2 * b .symbols) (rowsOn table b) (b .held)) ranks
+
+unfoldable pub settledSupports : List ℤ → Board → (labels ranks supports : List ℕ) → List ℕ
+settledSupports table b labels ranks supports =
+    over (settleOutcome table b labels ranks supports) (supportsOf (2 * b .symbols) (rowsOn table b) (b .held)) supports

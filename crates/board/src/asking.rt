@@ -1,0 +1,124 @@
+// Ask and explain: one literal at a time, nothing written.
+
+ghost use mathlib.Core.Path.{_≡_};
+ghost use Prim.Native.Nat.{_+_, _<_};
+ghost use lib.ListN.{length};
+ghost use Rattle.meaning.specs.Tests.{none};
+ghost use Rattle.meaning.specs.Literals.{opp};
+ghost use Rattle.rounds.specs.Ranks.{below};
+ghost use Rattle.board.specs.Asking.{standing, asked, reasoned, explained, IsPart};
+use crate::Board;
+use crate::Outcome;
+use crate::ranking::ranks_on;
+use crate::testing::Placed;
+use crate::testing::place_on;
+use literals::WIDTH;
+use literals::refusal::Refusal;
+use rounds::NONE;
+
+// How a literal stands.
+pub enum Standing {
+    Conflict,
+    Stands,
+    RuledOut,
+    Open,
+    Refused(Refusal),
+}
+
+// Why a literal stands: its rank and its supporting row, both 65535 where explain is refused.
+pub struct Reason {
+    pub outcome: Outcome,
+    pub rank: u16,
+    pub row: u16,
+}
+
+// How the literal at p stands by the ranks.
+fn standing_by(ranks: &[u16], p: usize) -> Standing
+    requires { ⌜ (p < length (now ranks)) × (opp p < length (now ranks)) ⌝ }
+    ensures { λ r. ⌜ r ≡ standing (below none (now (ranks .entry))) p ⌝ }
+{
+    if rounds::labels::in_conflict(ranks) {
+        return Standing::Conflict;
+    }
+    if ranks[p] < NONE {
+        return Standing::Stands;
+    }
+    let other = literals::opposite(p);
+    if ranks[other] < NONE {
+        return Standing::RuledOut;
+    }
+    Standing::Open
+}
+
+// Answers for one literal.
+pub fn ask(board: Board, table: &[i16], l: i16) -> Standing
+    ensures { λ r. ⌜ r ≡ asked (now (table .entry)) board l ⌝ }
+{
+    match place_on(board, table, l) {
+        Placed::Refused(why) => Standing::Refused(why),
+        Placed::At(p) => {
+            let places = 2 * board.symbols;
+            let ranked = ranks_on(board, table);
+            if ranked.high {
+                return Standing::Refused(Refusal::RankTooHigh);
+            }
+            let ranks = ranked.list;
+            standing_by(&ranks[..places], p)
+        }
+    }
+}
+
+fn unexplained(why: Refusal) -> Reason
+    ensures { λ r. ⌜ r ≡ record { outcome = Outcome.Refused why; rank = none; row = none } ⌝ }
+{
+    Reason {
+        outcome: Outcome::Refused(why),
+        rank: NONE,
+        row: NONE,
+    }
+}
+
+// The rank of a literal and the number of its supporting row.
+pub fn explain_numbers(board: Board, table: &[i16], l: i16) -> Reason
+    ensures { λ r. ⌜ r ≡ reasoned (now (table .entry)) board l ⌝ }
+{
+    match place_on(board, table, l) {
+        Placed::Refused(why) => unexplained(why),
+        Placed::At(p) => {
+            let places = 2 * board.symbols;
+            let ranked = ranks_on(board, table);
+            if ranked.high {
+                return unexplained(Refusal::RankTooHigh);
+            }
+            let ranks = ranked.list;
+            let rank = ranks[p];
+            if rank == 0 {
+                return unexplained(Refusal::NothingToShow);
+            }
+            if rank == NONE {
+                return unexplained(Refusal::NothingToShow);
+            }
+            Reason {
+                outcome: Outcome::Done,
+                rank,
+                row: rounds::supports::support(table, board.rows, p, &ranks[..places]),
+            }
+        }
+    }
+}
+
+// The supporting row's literals, where they lie in the caller's table.
+pub fn explain(board: Board, table: &[i16], l: i16) -> &[i16]
+    ensures { λ r. ⌜ IsPart (table .entry) r (explained (now (table .entry)) board l) ⌝ }
+{
+    let reason = explain_numbers(board, table, l);
+    let outcome = reason.outcome;
+    match outcome {
+        Outcome::Refused(_) => &table[0..0],
+        Outcome::Done => {
+            let start = WIDTH * (reason.row as usize);
+            let stop = start + literals::literal_count(table, start);
+            &table[start..stop]
+        }
+    }
+}

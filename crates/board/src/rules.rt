@@ -1,0 +1,107 @@
+// Adding a rule: from its bytes to rows in the caller's table.
+
+ghost use mathlib.Core.Path.{_≡_};
+ghost use mathlib.Core.Bool.{true};
+ghost use Prim.Native.Nat.{_≤_};
+ghost use lib.ListN.{length};
+ghost use Rattle.meaning.specs.Formulae.{symbolsOf, ruleOf};
+ghost use Rattle.meaning.specs.Clauses.{twos};
+ghost use Rattle.literals.specs.Row.{rowsLent};
+ghost use Rattle.formula.specs.Parse.{wholeOf};
+ghost use Rattle.formula.specs.Answers.{isGood};
+ghost use Rattle.implicates.specs.Appending.{answerOf, tableOf};
+ghost use Rattle.board.specs.Faults.{goodBoard};
+ghost use Rattle.board.specs.Rules.{formulaOf, ruled, ruledTable};
+use crate::Board;
+use crate::Outcome;
+use crate::testing::good;
+use formula::reading::Answer;
+use implicates::Appended;
+use literals::refusal::Refusal;
+
+// What adding a rule answers: how many rows it appended, 0 where it was refused.
+pub struct Addition {
+    pub outcome: Outcome,
+    pub added: usize,
+    pub board: Board,
+}
+
+fn refused(board: Board, why: Refusal) -> Addition
+    ensures { λ r. ⌜ r ≡ record { outcome = Outcome.Refused why; added = 0; board = board } ⌝ }
+{
+    Addition {
+        outcome: Outcome::Refused(why),
+        added: 0,
+        board,
+    }
+}
+
+// How many assignments there are to n symbols.
+fn two_to(n: usize) -> usize
+    requires { ⌜ n ≤ 8 ⌝ }
+    ensures { λ r. ⌜ r ≡ twos n ⌝ }
+{
+    let mut count = 1;
+    let mut k = 0;
+    while k < n {
+        count = count * 2;
+        k += 1;
+    }
+    count
+}
+
+// Appends the rows of a formula that was read, whose symbols are listed.
+fn append(table: &mut [i16], rows: usize, bytes: &[u8], symbols: usize, names: &[u8]) -> Appended
+    requires { ⌜ (symbols ≤ 200) × (rows ≤ rowsLent (now table)) × (isGood (wholeOf symbols (now bytes)) ≡ true) ⌝ }
+    requires { ⌜ (length (now names) ≤ 8) × (now names ≡ symbolsOf symbols (formulaOf (wholeOf symbols (now bytes)))) ⌝ }
+    ensures { λ r. ⌜ r ≡ answerOf (ruleOf symbols (formulaOf (wholeOf symbols (now (bytes .entry))))) rows (rowsLent (now (table .entry))) ⌝ }
+    ensures { λ r. ⌜ now (table .exit) ≡ tableOf (ruleOf symbols (formulaOf (wholeOf symbols (now (bytes .entry))))) rows (rowsLent (now (table .entry))) (now (table .entry)) ⌝ }
+{
+    let mut truth = [false; 256];
+    let values = two_to(names.len());
+    formula::truth::fill_truth(bytes, symbols, names, &mut truth[..values]);
+    let lent = literals::rows_lent(table);
+    implicates::append_rule(table, rows, lent, names, &truth[..values])
+}
+
+// Adds the rule of a formula that was read.
+fn add_formula(board: Board, table: &mut [i16], bytes: &[u8]) -> Addition
+    requires { ⌜ goodBoard (now table) board ≡ true ⌝ }
+    requires { ⌜ isGood (wholeOf (board .symbols) (now bytes)) ≡ true ⌝ }
+    ensures { λ r. ⌜ r ≡ ruled (now (table .entry)) board (now (bytes .entry)) ⌝ }
+    ensures { λ r. ⌜ now (table .exit) ≡ ruledTable (now (table .entry)) board (now (bytes .entry)) ⌝ }
+{
+    let names = formula::naming::symbols_of(bytes, board.symbols);
+    if !names.fits {
+        return refused(board, Refusal::TooManySymbols);
+    }
+    let list = names.list;
+    let count = names.count;
+    match append(table, board.rows, bytes, board.symbols, &list[..count]) {
+        Appended::Unsatisfiable => refused(board, Refusal::NoAssignment),
+        Appended::Full => refused(board, Refusal::TableFull),
+        Appended::Rows(added) => {
+            let mut next = board;
+            next.rows = board.rows + added;
+            Addition {
+                outcome: Outcome::Done,
+                added,
+                board: next,
+            }
+        }
+    }
+}
+
+// Adds a rule.
+pub fn add_rule(board: Board, table: &mut [i16], bytes: &[u8]) -> Addition
+    ensures { λ r. ⌜ r ≡ ruled (now (table .entry)) board (now (bytes .entry)) ⌝ }
+    ensures { λ r. ⌜ now (table .exit) ≡ ruledTable (now (table .entry)) board (now (bytes .entry)) ⌝ }
+{
+    if !good(board, table) {
+        return refused(board, Refusal::BadBoard);
+    }
+    match formula::reading::read_whole(bytes, board.symbols) {
+        Answer::Refused(why, _) => refused(board, why),
+        Answer::Used(_) => add_formula(board, table, bytes),
+    }
+}

@@ -1,0 +1,61 @@
+// The tests that come first: refusal 1 for a board, and then 2 for a literal.
+
+ghost use mathlib.Core.Path.{_≡_};
+ghost use lib.ListN.{drop};
+ghost use Rattle.meaning.specs.Tests.{any};
+ghost use Rattle.board.specs.Faults.{goodBoard};
+ghost use Rattle.board.specs.Placing.{placed};
+use crate::Board;
+use literals::refusal::Refusal;
+
+// The place of a literal that a call is given, or why the call is refused.
+pub enum Placed {
+    At(usize),
+    Refused(Refusal),
+}
+
+// Whether a premise stands at `places` or beyond.
+fn held_beyond(held: &[bool], places: usize) -> bool
+    ensures { λ r. ⌜ r ≡ any (λ h. h) (drop places (now (held .entry))) ⌝ }
+{
+    let mut k = places;
+    while k < held.len() {
+        if held[k] {
+            return true;
+        }
+        k += 1;
+    }
+    false
+}
+
+// Whether S is from 1 to 200, the rows in use are lent and sound, and no premise is of a symbol beyond S.
+pub fn good(board: Board, table: &[i16]) -> bool
+    ensures { λ r. ⌜ r ≡ goodBoard (now (table .entry)) board ⌝ }
+{
+    if board.symbols < 1 {
+        return false;
+    }
+    if 200 < board.symbols {
+        return false;
+    }
+    if literals::rows_lent(table) < board.rows {
+        return false;
+    }
+    if !literals::rows_sound(table, board.rows, board.symbols) {
+        return false;
+    }
+    !held_beyond(&board.held, 2 * board.symbols)
+}
+
+// The place of a literal of a good board.
+pub fn place_on(board: Board, table: &[i16], l: i16) -> Placed
+    ensures { λ r. ⌜ r ≡ placed (now (table .entry)) board l ⌝ }
+{
+    if !good(board, table) {
+        return Placed::Refused(Refusal::BadBoard);
+    }
+    if !literals::in_range(l, board.symbols) {
+        return Placed::Refused(Refusal::BadLiteral);
+    }
+    Placed::At(literals::place(l))
+}

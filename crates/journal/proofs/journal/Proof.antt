@@ -1,0 +1,81 @@
+-- `journal::journal` meets its contract: the invariant: the next command stands in the input. The measure is what is left of the input. Assumes nothing.
+use borrow.Author.Needs.{needs}
+use Prim.Native.Nat.{_-_, _≤_}
+use mathlib.Core.Path.{_≡_, refl, sym, _∙_}
+use native.Mathlib.Omega.{arith}
+use lib.ListN.{length}
+use lib.Seq.{length-take-le}
+use Rattle.journal.specs.Told.{Runs}
+use Rattle.journal.proofs.journal.Statement.{statement}
+use Rattle.journal.proofs.journal.Tie as tie
+
+abbrev Inv-loop : tie.InvT-loop
+Inv-loop table₀ input out₀ run₀ table out run = Runs run input × (length out ≡ 4096) × (length table ≡ length table₀)
+
+abbrev μ-loop : tie.MeasureT-loop
+μ-loop table₀ input out₀ run₀ table out run = length input - run .next
+
+start-requires : tie.Need-start-requires Inv-loop μ-loop
+start-requires c κs = search needs
+
+loop-holds : tie.Need-loop-holds Inv-loop μ-loop
+loop-holds c = (rw (c .start .ensures) (record { inside = omega arith; counted = omega arith }), refl, refl)
+
+goes-on-requires : tie.Need-goes-on-requires Inv-loop μ-loop
+goes-on-requires c κs = search needs
+
+slice-aggregate-fill : tie.Need-slice-aggregate-fill Inv-loop μ-loop
+slice-aggregate-fill c = search needs
+
+fill-requires : tie.Need-fill-requires Inv-loop μ-loop
+fill-requires c κs =
+    let t = c .before .before in
+    let g = t .before in
+    let l = g .before .loop in
+    let room : 256 ≤ length (l .out) = omega arith in
+    (sym (g .goes-on .ensures) ∙ t .if1 .taken, l .inv .0, room)
+
+array-share-prefix-out : tie.Need-array-share-prefix-out Inv-loop μ-loop
+array-share-prefix-out c = omega (arith, c .before .before .fill .ensures .1 .2)
+
+slice-aggregate-write-all : tie.Need-slice-aggregate-write-all Inv-loop μ-loop
+slice-aggregate-write-all c = sym (length-take-le _ _ (c .before .before .before .fill .ensures .1 .2))
+
+write-all-requires : tie.Need-write-all-requires Inv-loop μ-loop
+write-all-requires c κs = search needs
+
+loop-less : tie.Need-loop-less Inv-loop μ-loop
+loop-less c =
+    let e = c .before .before .before .before .fill .ensures in
+    omega (arith, e .1 .0, e .1 .1 .inside)
+
+loop-again : tie.Need-loop-again Inv-loop μ-loop
+loop-again c =
+    let f = c .before .before .before .before in
+    let l = f .before .before .before .before .before .loop in
+    (f .fill .ensures .1 .1, f .fill .kept .1 .1 .1 .0 ∙ l .inv .1, f .fill .kept .1 .0 ∙ l .inv .2)
+
+same-length : tie.Need-same-length Inv-loop μ-loop
+same-length c = c .before .before .loop .inv .2
+
+returns : tie.Need-returns Inv-loop μ-loop
+returns c = search needs
+
+pub journal-spec : {M : Type 1} → statement M
+journal-spec =
+    tie.close
+    (tie.spec
+    Inv-loop
+    μ-loop
+    start-requires
+    loop-holds
+    goes-on-requires
+    slice-aggregate-fill
+    fill-requires
+    array-share-prefix-out
+    slice-aggregate-write-all
+    write-all-requires
+    loop-less
+    loop-again
+    same-length
+    returns)

@@ -1,0 +1,8 @@
+-- Laws of the crate's definitions.
+pub mod Pieces
+pub mod Reading
+pub mod Explaining
+pub mod Bodies
+pub mod Lines
+pub mod Runs
+mod Printed

@@ -1,0 +1,46 @@
+-- `lines::commands::put_rows` meets its contract: one piece after another. Assumes nothing.
+use borrow.Author.Needs.{needs}
+use Prim.Native.Nat.{_+_, _≤_}
+use native.Mathlib.Omega.{arith}
+use lib.ListN.{length}
+use Rattle.lines.proofs.Pieces.{put-length, put-put}
+use Rattle.lines.proofs.commands.put_rows.Statement.{statement}
+use Rattle.lines.proofs.commands.put_rows.Tie as tie
+
+slice-aggregate-put-named : tie.Need-slice-aggregate-put-named
+slice-aggregate-put-named c = search needs
+
+put-named-requires : tie.Need-put-named-requires
+put-named-requires c κs =
+    let s = c .before .before .before in
+    let h : s .args .at + 6 + 20 ≤ length (s .args .out .now) = omega arith in
+    h
+
+slice-aggregate-put-named-2 : tie.Need-slice-aggregate-put-named-2
+slice-aggregate-put-named-2 c = search needs
+
+put-named-requires-2 : tie.Need-put-named-requires-2
+put-named-requires-2 c κs =
+    let p = c .before .before .before .before in
+    let h : p .put-named .result + 1 + 20 ≤ length (p .put-named .last .0) = omega (arith, p .put-named .ensures .1, put-length (p .put-named .ensures .0)) in
+    h
+
+same-length : tie.Need-same-length
+same-length c = search needs
+
+returns : tie.Need-returns
+returns c =
+    let q = c .before .before in
+    let p = q .before .before .before .before .before in
+    (put-put _ _ (p .put-named .ensures .0) (q .put-named2 .ensures .0), omega (arith, p .put-named .ensures .1, q .put-named2 .ensures .1))
+
+pub put-rows-spec : {M : Type 1} → statement M
+put-rows-spec =
+    tie.close
+    (tie.spec
+    slice-aggregate-put-named
+    put-named-requires
+    slice-aggregate-put-named-2
+    put-named-requires-2
+    same-length
+    returns)

@@ -1,0 +1,56 @@
+-- `lines::commands::say_command` meets its contract: the body is cut short, or whole. Assumes nothing.
+use borrow.Author.Needs.{needs}
+use Rattle.lines.proofs.Bodies.{cut-said, cut-table, whole-said}
+use Rattle.lines.proofs.commands.say_command.Statement.{statement}
+use Rattle.lines.proofs.commands.say_command.Tie as tie
+
+body-length-requires : tie.Need-body-length-requires
+body-length-requires c κs = search needs
+
+add-refuse : tie.Need-add-refuse
+add-refuse c = search needs
+
+refuse-requires : tie.Need-refuse-requires
+refuse-requires c κs = search needs
+
+same-length : tie.Need-same-length
+same-length c = search needs
+
+returns : tie.Need-returns
+returns c =
+    let y = c .before .before in
+    let t = y .before .before in
+    let a = t .before .before .before .before .args in
+    let h = rw (t .before .body-length .ensures) at (t .if1 .taken) in
+    (rw (cut-said (a .board) (a .table .now) (a .body .now) (a .command) h) (y .refuse .ensures .0), (cut-table (a .board) (a .table .now) (a .body .now) (a .command) h, y .refuse .ensures .1))
+
+say-body-requires : tie.Need-say-body-requires
+say-body-requires c κs = search needs
+
+same-length-2 : tie.Need-same-length-2
+same-length-2 c = search needs
+
+same-length-3 : tie.Need-same-length-3
+same-length-3 c = search needs
+
+returns-2 : tie.Need-returns-2
+returns-2 c =
+    let y = c .before .before .before in
+    let t = y .before .before .before in
+    let a = t .before .before .before .before .args in
+    let h = rw (t .before .body-length .ensures) at (t .if1 .left) in
+    (rw (whole-said (a .board) (a .table .now) (a .body .now) (a .command) h) (y .say-body .ensures .0), y .say-body .ensures .1)
+
+pub say-command-spec : {M : Type 1} → statement M
+say-command-spec =
+    tie.close
+    (tie.spec
+    body-length-requires
+    add-refuse
+    refuse-requires
+    same-length
+    returns
+    say-body-requires
+    same-length-2
+    same-length-3
+    returns-2)

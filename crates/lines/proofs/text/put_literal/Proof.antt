@@ -1,0 +1,59 @@
+-- `lines::text::put_literal` meets its contract, by the sign. Assumes nothing.
+use borrow.Author.Needs.{needs}
+use mathlib.Core.Path.{ap, _∙_}
+use native.Mathlib.Omega.{arith}
+use lib.ListN.{length, length-set}
+use Rattle.lines.proofs.Pieces.{literal-neg, literal-pos, put-one, put-put}
+use Rattle.lines.proofs.text.put_literal.Statement.{statement}
+use Rattle.lines.proofs.text.put_literal.Tie as tie
+
+symbol-requires : tie.Need-symbol-requires
+symbol-requires c κs = search needs
+
+slice-write-out : tie.Need-slice-write-out
+slice-write-out c = omega (arith, c .before .before .before .pre, ap length (literal-neg (c .before .before .before .fits .l) _ (c .before .symbol .ensures) (c .if1 .taken)))
+
+add-put-natural : tie.Need-add-put-natural
+add-put-natural c = search needs
+
+put-natural-requires : tie.Need-put-natural-requires
+put-natural-requires c κs =
+    let s = c .before .before .before .before in
+    simp length-set (omega (arith, s .pre, ap length (literal-neg (s .fits .l) _ (c .before .before .symbol .ensures) (c .before .if1 .taken))))
+
+same-length : tie.Need-same-length
+same-length c = c .before .before .put-natural .kept .0 ∙ simp length-set
+
+returns : tie.Need-returns
+returns c =
+    let p = c .before .before in
+    let i = p .before .before in
+    rw (literal-neg (i .before .before .before .fits .l) _ (i .before .symbol .ensures) (i .if1 .taken)) (put-put _ _ (put-one _ _ _) (p .put-natural .ensures))
+
+put-natural-requires-2 : tie.Need-put-natural-requires-2
+put-natural-requires-2 c κs =
+    let s = c .before .before .before .before in
+    omega (arith, s .pre, ap length (literal-pos (s .fits .l) _ (c .before .before .symbol .ensures) (c .before .if1 .left)))
+
+same-length-2 : tie.Need-same-length-2
+same-length-2 c = search needs
+
+returns-2 : tie.Need-returns-2
+returns-2 c =
+    let p = c .before .before in
+    let i = p .before .before in
+    rw (literal-pos (i .before .before .before .fits .l) _ (i .before .symbol .ensures) (i .if1 .left)) (p .put-natural2 .ensures)
+
+pub put-literal-spec : {M : Type 1} → statement M
+put-literal-spec =
+    tie.close
+    (tie.spec
+    symbol-requires
+    slice-write-out
+    add-put-natural
+    put-natural-requires
+    same-length
+    returns
+    put-natural-requires-2
+    same-length-2
+    returns-2)

@@ -1,0 +1,90 @@
+-- `lines::text::put_literals` meets its contract. The invariant: the first k literals are written. Assumes nothing.
+use mathlib.Core.Path.{_≡_, refl, _∙_}
+use Prim.Native.Nat.{_+_, _*_, _-_, _≤_}
+use native.Mathlib.Omega.{arith}
+use lib.IntN.{ℤ, pos}
+use lib.ListN.{length, take, getD, length-set}
+use mir.Syntax.{w16}
+use mir.Val.{SFits}
+use mir.Facts.{toZ-ofZ}
+use lib.Seq.{take-all}
+use Rattle.lines.specs.Text.{Put, literalList}
+use Rattle.lines.proofs.Pieces.{list-none, list-put, literal-most, put-none}
+use Rattle.lines.proofs.text.put_literals.Statement.{statement}
+use Rattle.lines.proofs.text.put_literals.Tie as tie
+
+abbrev Inv-loop : tie.InvT-loop
+Inv-loop out₀ at part next₀ k₀ out next k = (k ≤ length part) × (length out ≡ length out₀) × Put out₀ out at (literalList (take k part)) next × (next ≤ at + 7 * k)
+
+abbrev μ-loop : tie.MeasureT-loop
+μ-loop out₀ at part next₀ k₀ out next k = length part - k
+
+-- what is known at the entry, from a turn
+abbrev start : tie.In-loop Inv-loop μ-loop → tie.Start Inv-loop μ-loop
+start c = c .before .before .before
+
+-- the literal that a turn writes
+abbrev here : tie.In-loop Inv-loop μ-loop → ℤ
+here c = getD (start c .args .part .now) (c .before .loop .k) (pos 0)
+
+loop-holds : tie.Need-loop-holds Inv-loop μ-loop
+loop-holds c = (omega arith, refl, rw (list-none (c .before .args .part .now)) (put-none _ _), omega arith)
+
+slice-write-out : tie.Need-slice-write-out Inv-loop μ-loop
+slice-write-out c = omega arith
+
+add-put-literal : tie.Need-add-put-literal Inv-loop μ-loop
+add-put-literal c = omega arith
+
+mul-put-literal : tie.Need-mul-put-literal Inv-loop μ-loop
+mul-put-literal c = omega arith
+
+shared-slice-copy-out-put-literal : tie.Need-shared-slice-copy-out-put-literal Inv-loop μ-loop
+shared-slice-copy-out-put-literal c = omega arith
+
+put-literal-requires : tie.Need-put-literal-requires Inv-loop μ-loop
+put-literal-requires c κs =
+    let t = c .before .before in
+    let f : SFits w16 (here t) = record { sfits = c .put-literal-arg2 .given } in
+    rw (toZ-ofZ f, length-set) (omega (arith, literal-most f))
+
+add-k : tie.Need-add-k Inv-loop μ-loop
+add-k c = omega arith
+
+loop-less : tie.Need-loop-less Inv-loop μ-loop
+loop-less c = omega arith
+
+loop-again : tie.Need-loop-again Inv-loop μ-loop
+loop-again c =
+    let p = c .before .before in
+    let t = p .before .before .before in
+    let l = t .before .loop in
+    let f : SFits w16 (here t) = record { sfits = p .before .put-literal-arg2 .given } in
+    let e = rw (toZ-ofZ f) at (p .put-literal .ensures) in
+    (omega arith, p .put-literal .kept .0 ∙ simp length-set (l .inv .1), list-put (start t .args .part .now) (l .k) (t .loop-test .taken) (l .inv .2) e, omega (arith, e .ends, literal-most f))
+
+same-length : tie.Need-same-length Inv-loop μ-loop
+same-length c = omega arith
+
+returns : tie.Need-returns Inv-loop μ-loop
+returns c =
+    let l = c .before .loop in
+    (rw (take-all (l .k) (c .before .before .before .args .part .now) (c .loop-test .left)) at (l .inv .2), omega arith)
+
+pub put-literals-spec : {M : Type 1} → statement M
+put-literals-spec =
+    tie.close
+    (tie.spec
+    Inv-loop
+    μ-loop
+    loop-holds
+    slice-write-out
+    add-put-literal
+    mul-put-literal
+    shared-slice-copy-out-put-literal
+    put-literal-requires
+    add-k
+    loop-less
+    loop-again
+    same-length
+    returns)

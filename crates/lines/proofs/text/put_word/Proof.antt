@@ -1,0 +1,67 @@
+-- `lines::text::put_word` meets its contract. The invariant: the first k bytes of the word are written. Assumes nothing.
+use mathlib.Core.Path.{_≡_, refl}
+use Prim.Native.Nat.{_+_, _-_, _≤_}
+use native.Mathlib.Nat.{add-zero}
+use native.Mathlib.Omega.{arith}
+use lib.ListN.{length, take, length-set}
+use lib.Seq.{take-all}
+use Rattle.lines.specs.Text.{Put}
+use Rattle.lines.proofs.Pieces.{put-none, word-next}
+use Rattle.lines.proofs.text.put_word.Statement.{statement}
+use Rattle.lines.proofs.text.put_word.Tie as tie
+
+abbrev Inv-loop : tie.InvT-loop
+Inv-loop out₀ at word k₀ out k = (k ≤ length word) × (length out ≡ length out₀) × Put out₀ out at (take k word) (at + k)
+
+abbrev μ-loop : tie.MeasureT-loop
+μ-loop out₀ at word k₀ out k = length word - k
+
+loop-holds : tie.Need-loop-holds Inv-loop μ-loop
+loop-holds c = (omega arith, refl, rw add-zero (put-none _ _))
+
+shared-slice-read-out : tie.Need-shared-slice-read-out Inv-loop μ-loop
+shared-slice-read-out c = omega arith
+
+add-out : tie.Need-add-out Inv-loop μ-loop
+add-out c = omega arith
+
+slice-write-out : tie.Need-slice-write-out Inv-loop μ-loop
+slice-write-out c = omega arith
+
+add-k : tie.Need-add-k Inv-loop μ-loop
+add-k c = omega arith
+
+loop-less : tie.Need-loop-less Inv-loop μ-loop
+loop-less c = omega arith
+
+loop-again : tie.Need-loop-again Inv-loop μ-loop
+loop-again c =
+    let t = c .before in
+    let l = t .before .loop in
+    (omega arith, simp length-set (l .inv .1), word-next (t .before .before .args .word .now) (l .k) (t .loop-test .taken) (l .inv .2))
+
+add-result : tie.Need-add-result Inv-loop μ-loop
+add-result c = omega arith
+
+same-length : tie.Need-same-length Inv-loop μ-loop
+same-length c = omega arith
+
+returns : tie.Need-returns Inv-loop μ-loop
+returns c = rw (take-all (c .before .loop .k) (c .before .before .args .word .now) (c .loop-test .left)) at (c .before .loop .inv .2)
+
+pub put-word-spec : {M : Type 1} → statement M
+put-word-spec =
+    tie.close
+    (tie.spec
+    Inv-loop
+    μ-loop
+    loop-holds
+    shared-slice-read-out
+    add-out
+    slice-write-out
+    add-k
+    loop-less
+    loop-again
+    add-result
+    same-length
+    returns)

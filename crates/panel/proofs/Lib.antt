@@ -1,0 +1,3 @@
+-- Laws of what crosses to C.
+pub mod Flags
+pub mod Narrow

@@ -1,0 +1,57 @@
+-- Every call hands back a board whose numbers fit C's sixteen bits, if it is given one.
+use mathlib.Core.Path.{_≡_, refl}
+use mathlib.Core.Bool.{Bool, true, false}
+use mathlib.Core.List.{List}
+use Prim.Native.Nat.{ℕ, _+_, _≤_, _<_}
+use native.Mathlib.Omega.{arith}
+use borrow.Author.Tests.{leb-true, not-false}
+use lib.IntN.{ℤ}
+use lib.ListN.{length}
+use Rattle.literals.specs.Row.{rowsLent}
+use Rattle.board.specs.Faults.{firstFault}
+use Rattle.board.specs.Changes.{changed, emptyBoard, openFaults, opened, withFlag, holdFaults, held, withdrawFaults, withdrawn}
+use Rattle.board.specs.Rules.{ruleFaults, rowsOfBytes, ruled}
+use Rattle.board.specs.declared.Board.{Board}
+use Rattle.board.specs.declared.Outcome.{Outcome}
+use Rattle.board.specs.declared.Outcome.the-variants.{Done, Refused}
+use Rattle.board.proofs.Explaining.{none-given}
+use Rattle.panel.specs.Crossing.{Narrow}
+
+narrow-changed : (o : Outcome) (given next : Board) → Narrow given → Narrow next → Narrow (changed o given next .board)
+narrow-changed Done given next n m = m
+narrow-changed (Refused why) given next n m = n
+
+pub narrow-opened : (S : ℕ) → S < 65536 → Narrow (opened S .board)
+unfolding opened
+narrow-opened S h =
+    narrow-changed (firstFault (openFaults S)) (emptyBoard 0) (emptyBoard S) (record { symbols = omega arith; rows = omega arith }) (record { symbols = h; rows = omega arith })
+
+module _ (table : List ℤ) (b : Board) (n : Narrow b) where
+  narrow-flagged : (o : Outcome) (l : ℤ) (flag : Bool) → Narrow (changed o b (withFlag b l flag) .board)
+  narrow-flagged o l flag = narrow-changed o b (withFlag b l flag) n (record { symbols = n .symbols; rows = n .rows })
+
+  pub narrow-held : (l : ℤ) → Narrow (held table b l .board)
+  unfolding held
+  narrow-held l = narrow-flagged (firstFault (holdFaults table b l)) l true
+
+  pub narrow-withdrawn : (l : ℤ) → Narrow (withdrawn table b l .board)
+  unfolding withdrawn
+  narrow-withdrawn l = narrow-flagged (firstFault (withdrawFaults table b l)) l false
+
+  -- "rows in use plus its prime implicates" are at most the rows lent
+  few-rows : (bytes : List ℕ) → firstFault (ruleFaults table b bytes) ≡ Done → b .rows + length (rowsOfBytes (b .symbols) bytes) ≤ 2048
+  unfolding ruleFaults
+  few-rows bytes e =
+      let fits : b .rows + length (rowsOfBytes (b .symbols) bytes) ≤ rowsLent table =
+      leb-true _ _ (not-false _ (none-given (ruleFaults table b bytes) e 4)) in
+      omega arith
+
+  pub narrow-ruled : (bytes : List ℕ) → Narrow (ruled table b bytes .board) × (ruled table b bytes .added < 65536)
+  unfolding ruled
+  narrow-ruled bytes = go (firstFault (ruleFaults table b bytes)) refl
+    where
+      go : (o : Outcome) → firstFault (ruleFaults table b bytes) ≡ o → Narrow (ruled table b bytes .board) × (ruled table b bytes .added < 65536)
+      go Done e =
+          let few = few-rows bytes e in
+          rw e (record { symbols = n .symbols; rows = omega arith }, omega arith)
+      go (Refused why) e = rw e (n, omega arith)

@@ -1,0 +1,29 @@
+-- `tup_ground` meets its contract: it is the board's `ground`.
+use borrow.Author.Needs.{needs}
+use mathlib.Core.Path.{ap, _∙_}
+use mir.Facts.{toZ-ofZ}
+use Rattle.panel.specs.Crossing.{numberIn}
+use Rattle.panel.proofs.tup_ground.Statement.{statement}
+use Rattle.panel.proofs.tup_ground.Tie as tie
+
+board-in-requires : tie.Need-board-in-requires
+board-in-requires c κs = search needs
+
+ground-requires : tie.Need-ground-requires
+ground-requires c κs = search needs
+
+number-of-requires : tie.Need-number-of-requires
+number-of-requires c κs = search needs
+
+same-length : tie.Need-same-length
+same-length c = search needs
+
+returns : tie.Need-returns
+returns c =
+    let w = c .before .before .before in
+    let b = w .before .before in
+    rw (← b .board-in .ensures, ← toZ-ofZ (b .before .before .fits .l)) (c .number-of .ensures ∙ ap numberIn (w .ground .ensures .0), w .ground .ensures .1)
+
+pub tup-ground-spec : {M : Type 1} → statement M
+tup-ground-spec =
+    tie.close (tie.spec board-in-requires ground-requires number-of-requires same-length returns)

@@ -1,0 +1,62 @@
+-- The C side's structs: plain numbers of fixed width. "any byte other than 0 meaning held", so that every bit pattern is a board.
+use Prim.Native.Nat.{ℕ, _<_}
+use mathlib.Core.Bool.{Bool, not}
+use mathlib.Core.List.{map}
+use lib.Dec.{eqb}
+use Rattle.literals.specs.Refusals.{numberOf}
+use Rattle.board.specs.Faults.{ifDone}
+use Rattle.board.specs.Grounds.{byteOf}
+use Rattle.board.specs.declared.Board.{Board}
+use Rattle.board.specs.declared.Change.{Change}
+use Rattle.board.specs.declared.Outcome.{Outcome}
+use Rattle.board.specs.declared.rules.Addition.{Addition}
+use Rattle.board.specs.declared.asking.Reason.{Reason}
+use Rattle.board.specs.declared.asking.Standing.{Standing}
+use Rattle.board.specs.declared.asking.Standing.the-variants.{Conflict, Stands, RuledOut, Open, Refused}
+use Rattle.panel.specs.declared.PanelBoard.{PanelBoard}
+use Rattle.panel.specs.declared.PanelChange.{PanelChange}
+use Rattle.panel.specs.declared.PanelAddition.{PanelAddition}
+use Rattle.panel.specs.declared.PanelAnswer.{PanelAnswer}
+use Rattle.panel.specs.declared.PanelReason.{PanelReason}
+
+-- any byte other than 0 is a premise held
+abbrev pub flagOf : ℕ → Bool
+flagOf byte = not (eqb byte 0)
+
+-- a board from C, and a board to C
+abbrev pub boardIn : PanelBoard → Board
+boardIn b = record { symbols = b .symbols; rows = b .rows; held = map flagOf (b .held) }
+
+abbrev pub boardOut : Board → PanelBoard
+boardOut b = record { symbols = b .symbols; rows = b .rows; held = map byteOf (b .held) }
+
+-- both numbers of a board fit C's sixteen bits
+pub record Narrow (b : Board) : Type 0 where
+  pub symbols : b .symbols < 65536
+  pub rows : b .rows < 65536
+
+-- 0 for a call that is done, else the refusal's number
+abbrev pub numberIn : Outcome → ℕ
+numberIn outcome = ifDone outcome 0 numberOf
+
+-- a refused call hands back the very board that it was given
+abbrev pub nextOut : PanelBoard → Outcome → Board → PanelBoard
+nextOut given outcome next = ifDone outcome (boardOut next) (λ _. given)
+
+abbrev pub changeOut : PanelBoard → Change → PanelChange
+changeOut given c = record { refusal = numberIn (c .outcome); board = nextOut given (c .outcome) (c .board) }
+
+abbrev pub additionOut : PanelBoard → Addition → PanelAddition
+additionOut given a = record { refusal = numberIn (a .outcome); added = a .added; board = nextOut given (a .outcome) (a .board) }
+
+-- the header's numbers for how a literal stands: 0 open, 1 stands, 2 ruled out, 3 conflict; 0 where refused
+abbrev pub answerOut : Standing → PanelAnswer
+answerOut Open = record { refusal = 0; standing = 0 }
+answerOut Stands = record { refusal = 0; standing = 1 }
+answerOut RuledOut = record { refusal = 0; standing = 2 }
+answerOut Conflict = record { refusal = 0; standing = 3 }
+answerOut (Refused why) = record { refusal = numberOf why; standing = 0 }
+
+-- explain's numbers, and how many literals the part has
+abbrev pub reasonOut : Reason → (literals : ℕ) → PanelReason
+reasonOut r literals = record { refusal = numberIn (r .outcome); literals = literals; rank = r .rank; row = r .row }

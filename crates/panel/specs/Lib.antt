@@ -1,0 +1,2 @@
+-- How boards and answers cross to C.
+pub mod Crossing

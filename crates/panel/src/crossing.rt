@@ -1,0 +1,142 @@
+// Boards and answers on their way to C and back.
+
+ghost use mathlib.Core.Path.{_≡_};
+ghost use mathlib.Core.List.{map};
+ghost use Prim.Native.Nat.{_<_};
+ghost use Rattle.board.specs.Grounds.{byteOf};
+ghost use Rattle.panel.specs.Crossing.{flagOf, boardIn, boardOut, Narrow, numberIn, nextOut, changeOut, additionOut, answerOut};
+use crate::PanelAddition;
+use crate::PanelAnswer;
+use crate::PanelBoard;
+use crate::PanelChange;
+use board::Board;
+use board::Change;
+use board::Outcome;
+use board::asking::Standing;
+use board::rules::Addition;
+use literals::refusal::number;
+
+// The premises that the bytes of a board hold.
+fn flags_in(bytes: [u8; 400]) -> [bool; 400]
+    ensures { λ r. ⌜ r ≡ map flagOf bytes ⌝ }
+{
+    let mut held = [false; 400];
+    let mut k = 0;
+    while k < 400 {
+        held[k] = bytes[k] != 0;
+        k += 1;
+    }
+    held
+}
+
+// The bytes of a board that holds these premises.
+fn flags_out(held: [bool; 400]) -> [u8; 400]
+    ensures { λ r. ⌜ r ≡ map byteOf held ⌝ }
+{
+    let mut bytes = [0; 400];
+    let mut k = 0;
+    while k < 400 {
+        bytes[k] = held[k] as u8;
+        k += 1;
+    }
+    bytes
+}
+
+// A board from C.
+pub fn board_in(given: PanelBoard) -> Board
+    ensures { λ r. ⌜ r ≡ boardIn given ⌝ }
+{
+    let bytes = given.held;
+    Board {
+        symbols: given.symbols as usize,
+        rows: given.rows as usize,
+        held: flags_in(bytes),
+    }
+}
+
+// A board to C.
+pub fn board_out(board: Board) -> PanelBoard
+    requires { ⌜ Narrow board ⌝ }
+    ensures { λ r. ⌜ r ≡ boardOut board ⌝ }
+{
+    let held = board.held;
+    PanelBoard {
+        symbols: board.symbols as u16,
+        rows: board.rows as u16,
+        held: flags_out(held),
+    }
+}
+
+// 0 for a call that is done, or the number of its refusal.
+pub fn number_of(outcome: Outcome) -> u8
+    ensures { λ r. ⌜ r ≡ numberIn outcome ⌝ }
+{
+    match outcome {
+        Outcome::Done => 0,
+        Outcome::Refused(why) => number(why),
+    }
+}
+
+// The board after a call: as the call made it, or where it was refused the very one that was given.
+fn next_board(given: PanelBoard, outcome: Outcome, next: Board) -> PanelBoard
+    requires { ⌜ Narrow next ⌝ }
+    ensures { λ r. ⌜ r ≡ nextOut given outcome next ⌝ }
+{
+    match outcome {
+        Outcome::Done => board_out(next),
+        Outcome::Refused(_) => given,
+    }
+}
+
+// What a call that changes the board tells C.
+pub fn change_out(given: PanelBoard, change: Change) -> PanelChange
+    requires { ⌜ Narrow (change .board) ⌝ }
+    ensures { λ r. ⌜ r ≡ changeOut given change ⌝ }
+{
+    let outcome = change.outcome;
+    let next = change.board;
+    PanelChange {
+        refusal: number_of(outcome),
+        board: next_board(given, outcome, next),
+    }
+}
+
+// What adding a rule tells C.
+pub fn addition_out(given: PanelBoard, addition: Addition) -> PanelAddition
+    requires { ⌜ Narrow (addition .board) × (addition .added < 65536) ⌝ }
+    ensures { λ r. ⌜ r ≡ additionOut given addition ⌝ }
+{
+    let outcome = addition.outcome;
+    let next = addition.board;
+    PanelAddition {
+        refusal: number_of(outcome),
+        added: addition.added as u16,
+        board: next_board(given, outcome, next),
+    }
+}
+
+// The answer of a call that is done.
+fn standing(of: u8) -> PanelAnswer
+    ensures { λ r. ⌜ r ≡ record { refusal = 0; standing = of } ⌝ }
+{
+    PanelAnswer {
+        refusal: 0,
+        standing: of,
+    }
+}
+
+// How a literal stands, in the header's numbers.
+pub fn answer_out(answer: Standing) -> PanelAnswer
+    ensures { λ r. ⌜ r ≡ answerOut answer ⌝ }
+{
+    match answer {
+        Standing::Open => standing(0),
+        Standing::Stands => standing(1),
+        Standing::RuledOut => standing(2),
+        Standing::Conflict => standing(3),
+        Standing::Refused(why) => PanelAnswer {
+            refusal: number(why),
+            standing: 0,
+        },
+    }
+}

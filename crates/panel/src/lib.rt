@@ -1,0 +1,154 @@
+// The C boundary: each exported function is the board's call and nothing else. include/tupahineka.h declares them.
+
+mod crossing;
+
+ghost use mathlib.Core.Path.{_≡_};
+ghost use Prim.Native.Nat.{_-_};
+ghost use Rattle.board.specs.Changes.{opened, held, withdrawn};
+ghost use Rattle.board.specs.Rules.{ruled, ruledTable};
+ghost use Rattle.board.specs.Settling.{settleOutcome, settledLabels, settledRanks, settledSupports};
+ghost use Rattle.board.specs.Asking.{asked, reasoned, explained};
+ghost use Rattle.board.specs.Grounds.{groundOutcome, groundMarks, blameOutcome, blameMarks};
+ghost use Rattle.panel.specs.Crossing.{boardIn, boardOut, numberIn, changeOut, additionOut, answerOut, reasonOut};
+use crate::crossing::addition_out;
+use crate::crossing::answer_out;
+use crate::crossing::board_in;
+use crate::crossing::board_out;
+use crate::crossing::change_out;
+use crate::crossing::number_of;
+use board::Outcome;
+use literals::WIDTH;
+
+// A board as C has it: any byte other than 0 is a premise held.
+#[repr(C)]
+pub struct PanelBoard {
+    pub symbols: u16,
+    pub rows: u16,
+    pub held: [u8; 400],
+}
+
+#[repr(C)]
+pub struct PanelChange {
+    pub refusal: u8,
+    pub board: PanelBoard,
+}
+
+#[repr(C)]
+pub struct PanelAddition {
+    pub refusal: u8,
+    pub added: u16,
+    pub board: PanelBoard,
+}
+
+#[repr(C)]
+pub struct PanelAnswer {
+    pub refusal: u8,
+    pub standing: u8,
+}
+
+#[repr(C)]
+pub struct PanelReason {
+    pub refusal: u8,
+    pub literals: u8,
+    pub rank: u16,
+    pub row: u16,
+}
+
+#[no_mangle]
+pub extern "C" fn tup_open(symbols: u16) -> PanelChange
+    ensures { λ r. ⌜ r ≡ changeOut (boardOut (opened symbols .board)) (opened symbols) ⌝ }
+{
+    let change = board::changes::open(symbols as usize);
+    let outcome = change.outcome;
+    let next = change.board;
+    PanelChange {
+        refusal: number_of(outcome),
+        board: board_out(next),
+    }
+}
+
+#[no_mangle]
+pub extern "C" fn tup_rule(given: PanelBoard, table: &mut [i16], bytes: &[u8]) -> PanelAddition
+    ensures { λ r. ⌜ r ≡ additionOut given (ruled (now (table .entry)) (boardIn given) (now (bytes .entry))) ⌝ }
+    ensures { λ _. ⌜ now (table .exit) ≡ ruledTable (now (table .entry)) (boardIn given) (now (bytes .entry)) ⌝ }
+{
+    let addition = board::rules::add_rule(board_in(given), table, bytes);
+    addition_out(given, addition)
+}
+
+#[no_mangle]
+pub extern "C" fn tup_hold(given: PanelBoard, table: &[i16], l: i16) -> PanelChange
+    ensures { λ r. ⌜ r ≡ changeOut given (held (now (table .entry)) (boardIn given) l) ⌝ }
+{
+    let change = board::changes::hold(board_in(given), table, l);
+    change_out(given, change)
+}
+
+#[no_mangle]
+pub extern "C" fn tup_withdraw(given: PanelBoard, table: &[i16], l: i16) -> PanelChange
+    ensures { λ r. ⌜ r ≡ changeOut given (withdrawn (now (table .entry)) (boardIn given) l) ⌝ }
+{
+    let change = board::changes::withdraw(board_in(given), table, l);
+    change_out(given, change)
+}
+
+#[no_mangle]
+pub extern "C" fn tup_settle(
+    given: PanelBoard,
+    table: &[i16],
+    labels: &mut [u8],
+    ranks: &mut [u16],
+    supports: &mut [u16],
+) -> u8
+    ensures { λ r. ⌜ r ≡ numberIn (settleOutcome (now (table .entry)) (boardIn given) (now (labels .entry)) (now (ranks .entry)) (now (supports .entry))) ⌝ }
+    ensures { λ _. ⌜ now (labels .exit) ≡ settledLabels (now (table .entry)) (boardIn given) (now (labels .entry)) (now (ranks .entry)) (now (supports .entry)) ⌝ }
+    ensures { λ _. ⌜ now (ranks .exit) ≡ settledRanks (now (table .entry)) (boardIn given) (now (labels .entry)) (now (ranks .entry)) (now (supports .entry)) ⌝ }
+    ensures { λ _. ⌜ now (supports .exit) ≡ settledSupports (now (table .entry)) (boardIn given) (now (labels .entry)) (now (ranks .entry)) (now (supports .entry)) ⌝ }
+{
+    let outcome = board::settling::settle(board_in(given), table, labels, ranks, supports);
+    number_of(outcome)
+}
+
+#[no_mangle]
+pub extern "C" fn tup_ask(given: PanelBoard, table: &[i16], l: i16) -> PanelAnswer
+    ensures { λ r. ⌜ r ≡ answerOut (asked (now (table .entry)) (boardIn given) l) ⌝ }
+{
+    let answer = board::asking::ask(board_in(given), table, l);
+    answer_out(answer)
+}
+
+#[no_mangle]
+pub extern "C" fn tup_explain(given: PanelBoard, table: &[i16], l: i16) -> PanelReason
+    ensures { λ r. ⌜ r ≡ reasonOut (reasoned (now (table .entry)) (boardIn given) l) (explained (now (table .entry)) (boardIn given) l .stop - explained (now (table .entry)) (boardIn given) l .start) ⌝ }
+{
+    let reason = board::asking::explain_numbers(board_in(given), table, l);
+    let outcome = reason.outcome;
+    let literals = match outcome {
+        Outcome::Done => literals::literal_count(table, WIDTH * (reason.row as usize)) as u8,
+        Outcome::Refused(_) => 0,
+    };
+    PanelReason {
+        refusal: number_of(outcome),
+        literals,
+        rank: reason.rank,
+        row: reason.row,
+    }
+}
+
+#[no_mangle]
+pub extern "C" fn tup_ground(given: PanelBoard, table: &[i16], l: i16, marks: &mut [u8]) -> u8
+    ensures { λ r. ⌜ r ≡ numberIn (groundOutcome (now (table .entry)) (boardIn given) l (now (marks .entry))) ⌝ }
+    ensures { λ _. ⌜ now (marks .exit) ≡ groundMarks (now (table .entry)) (boardIn given) l (now (marks .entry)) ⌝ }
+{
+    let outcome = board::grounds::ground(board_in(given), table, l, marks);
+    number_of(outcome)
+}
+
+#[no_mangle]
+pub extern "C" fn tup_blame(given: PanelBoard, table: &[i16], marks: &mut [u8]) -> u8
+    ensures { λ r. ⌜ r ≡ numberIn (blameOutcome (now (table .entry)) (boardIn given) (now (marks .entry))) ⌝ }
+    ensures { λ _. ⌜ now (marks .exit) ≡ blameMarks (now (table .entry)) (boardIn given) (now (marks .entry)) ⌝ }
+{
+    let outcome = board::grounds::blame(board_in(given), table, marks);
+    number_of(outcome)
+}

@@ -1,0 +1,142 @@
+-- 01's boards "Marked P: to be proved", together: what 01 says of each, and that the calls come to the same. Rules are given as 01's
+-- bytes, and each board is opened over a table of 8 rows of zeros.
+use mathlib.Core.Path.{_≡_, refl}
+use mathlib.Core.Bool.{true, false}
+use mathlib.Core.List.{List, [], _∷_, map}
+use Prim.Native.Nat.{ℕ, _*_}
+use lib.IntN.{ℤ, pos, negsuc}
+use lib.ListN.{replicate}
+use Rattle.meaning.specs.Literals.{place, opp}
+use Rattle.meaning.specs.Formulae.{value, occurs, symbolsOf}
+use Rattle.meaning.specs.Clauses.{hit, implicate, prime, ofSize}
+use Rattle.meaning.specs.Rounds.{gives, next, reached, rankBy, labelsOf, rankAbove}
+use Rattle.meaning.specs.Ground.{reachesIn, reaches, blamed, blame}
+use Rattle.literals.specs.Literal.{placeOf, literalAt}
+use Rattle.literals.specs.Row.{numbersAt, zeros, rising, rowSound, rowsSound, decode, rowsIn, encode}
+use Rattle.literals.specs.Refusals.{numberOf}
+use Rattle.formula.specs.Parse.{symbolAt, secondOf, bodyOf, parse, wholeOf}
+use Rattle.implicates.specs.Appending.{appended}
+use Rattle.board.specs.Faults.{goodBoard, ifDone}
+use Rattle.board.specs.Changes.{openFaults, opened, holdFaults, held, withdrawFaults, withdrawn, emptyBoard}
+use Rattle.board.specs.Rules.{ruleFaults, ruled, ruledTable}
+use Rattle.board.specs.Settling.{settleFaults, settleOutcome, settledLabels}
+use Rattle.board.specs.Asking.{askFaults, asked, explainFaults, reasoned}
+use Rattle.board.specs.Grounds.{blameFaults, blameOutcome, blameMarks}
+use Rattle.board.specs.declared.asking.Standing.{Standing}
+use Rattle.board.specs.declared.asking.Standing.the-variants.{Conflict, Stands, Open}
+use Rattle.promises.specs.Calls.{Call, opens, adds, holds, withdraws, World, faults, outcome, after, run}
+use Rattle.promises.specs.Demands.{rowsOfWorld}
+
+-- ---- what is asked of the board that some calls leave, and what the answers are
+
+data Question : Type 0 where
+  -- the number of the refusal of one call more
+  refusal : Call → Question
+  -- the rows in use
+  rows : Question
+  -- the labels that settle writes
+  labels : Question
+  -- how a literal stands, and its rank
+  ask : ℤ → Question
+  rank : ℤ → Question
+  -- the marks that blame writes, for each symbol + and then −
+  marks : Question
+
+data Answer : Type 0 where
+  number : ℕ → Answer
+  appended-rows : List (List ℕ) → Answer
+  bytes : List ℕ → Answer
+  standing : Standing → Answer
+
+-- ---- the answers by the calls
+
+-- how many numbers the table has, and how many are lent to each call: 8 rows
+abbrev lent : ℕ
+lent = 64
+
+-- before every call: no board yet, and a table of zeros
+abbrev fresh : World
+fresh = record { board = emptyBoard 0; table = replicate lent (pos 0) }
+
+-- a table to be written
+abbrev blank : ℕ → List ℕ
+blank n = replicate n 9
+
+tell : World → Question → Answer
+tell w (refusal c) = number (ifDone (outcome w c) 0 numberOf)
+tell w rows = appended-rows (rowsOfWorld w)
+tell w labels =
+    let S = w .board .symbols in bytes (settledLabels (w .table) (w .board) (blank S) (blank (2 * S)) (blank (2 * S)))
+tell w (ask l) = standing (asked (w .table) (w .board) l)
+tell w (rank l) = number (reasoned (w .table) (w .board) l .rank)
+tell w marks = bytes (blameMarks (w .table) (w .board) (blank (2 * w .board .symbols)))
+
+-- ---- the boards
+
+abbrev rule : List ℕ → Call
+rule formula = adds lent formula
+
+abbrev hold : ℤ → Call
+hold l = holds lent l
+
+abbrev withdraw : ℤ → Call
+withdraw l = withdraws lent l
+
+-- the literals +s and −s in a row
+abbrev plus : ℕ → ℕ
+plus s = place s true
+
+abbrev minus : ℕ → ℕ
+minus s = place s false
+
+-- the rules that more than one board has: 1 implies 2, not 1 implies 2, 2 implies 1
+abbrev forth : Call
+forth = rule (0x14 ∷ 0x10 ∷ 1 ∷ 0x10 ∷ 2 ∷ [])
+
+abbrev otherwise : Call
+otherwise = rule (0x14 ∷ 0x11 ∷ 0x10 ∷ 1 ∷ 0x10 ∷ 2 ∷ [])
+
+abbrev back : Call
+back = rule (0x14 ∷ 0x10 ∷ 2 ∷ 0x10 ∷ 1 ∷ [])
+
+-- Quoted from 01.
+abbrev boards : List (List Call × List (Question × Answer))
+boards =
+    -- "1 and not 1: refusal 8. 1 or not 1: no row."
+    (opens 1 ∷ [], (refusal (rule (0x12 ∷ 0x10 ∷ 1 ∷ 0x11 ∷ 0x10 ∷ 1 ∷ [])), number 8) ∷ [])
+    ∷ (opens 1 ∷ rule (0x13 ∷ 0x10 ∷ 1 ∷ 0x11 ∷ 0x10 ∷ 1 ∷ []) ∷ [], (rows, appended-rows []) ∷ [])
+    -- "(1 implies 2) and (1 or 2): the row 2 alone."
+    ∷ (opens 2 ∷ rule (0x12 ∷ 0x14 ∷ 0x10 ∷ 1 ∷ 0x10 ∷ 2 ∷ 0x13 ∷ 0x10 ∷ 1 ∷ 0x10 ∷ 2 ∷ []) ∷ [], (rows, appended-rows ((plus 2 ∷ []) ∷ [])) ∷ [])
+    -- "1 same 2: rows 1 −2; −1 2."
+    ∷ (opens 2 ∷ rule (0x15 ∷ 0x10 ∷ 1 ∷ 0x10 ∷ 2 ∷ []) ∷ [], (rows, appended-rows ((plus 1 ∷ minus 2 ∷ []) ∷ (minus 1 ∷ plus 2 ∷ []) ∷ [])) ∷ [])
+    -- "(1 or 2) and (not 1 or 3): rows 1 2; −1 3; 2 3."
+    ∷ (
+      opens 3 ∷ rule (0x12 ∷ 0x13 ∷ 0x10 ∷ 1 ∷ 0x10 ∷ 2 ∷ 0x13 ∷ 0x11 ∷ 0x10 ∷ 1 ∷ 0x10 ∷ 3 ∷ []) ∷ [],
+      (rows, appended-rows ((plus 1 ∷ plus 2 ∷ []) ∷ (minus 1 ∷ plus 3 ∷ []) ∷ (plus 2 ∷ plus 3 ∷ []) ∷ [])) ∷ [],
+    )
+    -- "1 or (1 and 2): the row 1."
+    ∷ (opens 2 ∷ rule (0x13 ∷ 0x10 ∷ 1 ∷ 0x12 ∷ 0x10 ∷ 1 ∷ 0x10 ∷ 2 ∷ []) ∷ [], (rows, appended-rows ((plus 1 ∷ []) ∷ [])) ∷ [])
+    -- "rules 1 implies 2, not 1 implies 2, nothing held: 2 is open."
+    ∷ (opens 2 ∷ forth ∷ otherwise ∷ [], (ask (pos 2), standing Open) ∷ (labels, bytes (0 ∷ 0 ∷ [])) ∷ [])
+    -- "both joined by "and" in one rule: 2 stands, rank 1."
+    ∷ (
+      opens 2 ∷ rule (0x12 ∷ 0x14 ∷ 0x10 ∷ 1 ∷ 0x10 ∷ 2 ∷ 0x14 ∷ 0x11 ∷ 0x10 ∷ 1 ∷ 0x10 ∷ 2 ∷ []) ∷ [],
+      (ask (pos 2), standing Stands) ∷ (rank (pos 2), number 1) ∷ (labels, bytes (0 ∷ 1 ∷ [])) ∷ [],
+    )
+    -- "rules 1 implies 2, 2 implies 1; hold 1, withdraw 1: both open." In between both stand.
+    ∷ (opens 2 ∷ forth ∷ back ∷ hold (pos 1) ∷ [], (labels, bytes (1 ∷ 1 ∷ [])) ∷ (rank (pos 2), number 1) ∷ [])
+    ∷ (
+      opens 2 ∷ forth ∷ back ∷ hold (pos 1) ∷ withdraw (pos 1) ∷ [],
+      (labels, bytes (0 ∷ 0 ∷ [])) ∷ (ask (pos 1), standing Open) ∷ (ask (pos 2), standing Open) ∷ [],
+    )
+    -- "hold 3 and −3: label 3, conflict, blame marks both."
+    ∷ (
+      opens 3 ∷ hold (pos 3) ∷ hold (negsuc 2) ∷ [],
+      (labels, bytes (0 ∷ 0 ∷ 3 ∷ [])) ∷ (ask (pos 1), standing Conflict) ∷ (marks, bytes (0 ∷ 0 ∷ 0 ∷ 0 ∷ 1 ∷ 1 ∷ [])) ∷ [],
+    )
+    ∷ []
+
+-- the calls answer each question as 01 does
+boards-hold : map (λ b. map (λ q. tell (run fresh (b .0)) (q .0)) (b .1)) boards ≡ map (λ b. map (λ q. q .1) (b .1)) boards
+unfolding tell after faults opp value occurs symbolsOf hit implicate prime ofSize gives next reached rankBy labelsOf rankAbove reachesIn reaches blamed blame placeOf literalAt numbersAt zeros rising rowSound rowsSound decode rowsIn encode symbolAt secondOf bodyOf parse wholeOf appended goodBoard openFaults opened holdFaults held withdrawFaults withdrawn ruleFaults ruled ruledTable settleFaults settleOutcome settledLabels askFaults asked explainFaults reasoned blameFaults blameOutcome blameMarks
+boards-hold = refl

@@ -1,0 +1,65 @@
+-- Demand 2, what explain tells: the rank, the row number, and the literals of that row.
+use mathlib.Core.Path.{_≡_, refl, sym, ap, _∙_}
+use mathlib.Core.List.{List, [], _∷_}
+use Prim.Native.Nat.{ℕ, zero, suc, _+_, _-_, _*_, _≤_, _<_}
+use native.Mathlib.Omega.{arith}
+use borrow.Author.Tests.{eq-eqb, ne-eqb}
+use lib.IntN.{ℤ, natAbs}
+use lib.ListN.{length, take, drop, getD}
+use Rattle.literals.specs.Literal.{placeOf}
+use Rattle.literals.specs.Row.{width, numbersAt, decode}
+use Rattle.literals.proofs.Decoding.{rows-at}
+use Rattle.board.specs.Ranking.{rowsOn}
+use Rattle.board.specs.Asking.{explainFaults, reasoned, explained}
+use Rattle.board.specs.declared.Outcome.the-variants.{Done}
+use Rattle.board.proofs.Explaining.{none-given, row-used}
+use Rattle.promises.specs.Calls.{explains, World, front, faults, outcome}
+use Rattle.promises.specs.Demands.{rowsOfWorld, rankIn, supportIn, ExplainTells}
+use Rattle.promises.proofs.Lent.{numbers-lent}
+use Rattle.promises.proofs.Told.{rows-read}
+
+-- as many numbers from the front as literals are decoded decode to the same literals
+decode-part : (n : ℕ) (ls : List ℤ) → decode (take (length (decode (take n ls))) ls) ≡ decode (take n ls)
+unfolding decode
+decode-part zero ls = refl
+decode-part (suc n) [] = refl
+decode-part (suc n) (l ∷ ls) = go (natAbs l) refl (decode-part n ls)
+  where
+    go : (a : ℕ) → natAbs l ≡ a → decode (take (length (decode (take n ls))) ls) ≡ decode (take n ls)
+        → decode (take (length (decode (l ∷ take n ls))) (l ∷ ls)) ≡ decode (l ∷ take n ls)
+    go zero z same = rw (eq-eqb (natAbs l) 0 z)
+    go (suc a) z same = let some = ne-eqb (natAbs l) 0 (λ q. omega (arith, q)) in rw (some, some) (ap (λ (row : List ℕ). placeOf l ∷ row) same)
+
+-- the part of a table where a row's literals stand
+decode-span : (table : List ℤ) (r : ℕ) → decode (take (width * r + length (decode (numbersAt table r)) - width * r) (drop (width * r) table)) ≡ decode (numbersAt table r)
+unfolding numbersAt
+decode-span table r =
+    let count = length (decode (take width (drop (width * r) table))) in
+    let long : width * r + count - width * r ≡ count = omega arith in
+    rw long (decode-part width (drop (width * r) table))
+
+module _ (w : World) (lent : ℕ) (l : ℤ) (e : outcome w (explains lent l) ≡ Done) where
+  rows : rowsOn (front w lent) (w .board) ≡ rowsOfWorld w
+  unfolding faults explainFaults
+  rows = rows-read w lent (none-given (explainFaults (front w lent) (w .board) l) e 0)
+
+  rank-is : reasoned (front w lent) (w .board) l .rank ≡ rankIn w (placeOf l)
+  unfolding faults reasoned
+  rank-is = rw (e, rows)
+
+  row-is : reasoned (front w lent) (w .board) l .row ≡ supportIn w (placeOf l)
+  unfolding faults reasoned
+  row-is = rw (e, rows)
+
+  used : (supportIn w (placeOf l) < w .board .rows) × (width * w .board .rows ≤ length (front w lent))
+  unfolding faults reasoned
+  used = let r = row-used (front w lent) (w .board) l (rw e) in (omega (arith, r .0, row-is), r .2)
+
+  part-is : let span = explained (front w lent) (w .board) l in decode (take (span .stop - span .start) (drop (span .start) (w .table))) ≡ getD (rowsOfWorld w) (supportIn w (placeOf l)) []
+  unfolding faults explained
+  part-is =
+      rw (e, rows, numbers-lent lent (w .board .rows) (w .table) (used .1) (supportIn w (placeOf l)) (used .0))
+      (decode-span (w .table) (supportIn w (placeOf l)) ∙ sym (rows-at (w .board .rows) (w .table) (supportIn w (placeOf l)) (used .0)))
+
+pub explain-tells : ExplainTells
+explain-tells w lent l e = record { rank = rank-is w lent l e; row = row-is w lent l e; part = part-is w lent l e }

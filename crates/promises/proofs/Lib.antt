@@ -1,0 +1,11 @@
+-- The demands, proved.
+pub mod Refusals
+pub mod Changes
+mod Lent
+mod Tested
+pub mod Stored
+pub mod Told
+pub mod Explained
+mod History
+pub mod Ways
+mod Boards

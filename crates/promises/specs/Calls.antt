@@ -1,0 +1,106 @@
+-- "After every sequence of calls": the calls with all that each is lent, and what they do to the board and the caller's table, by the
+-- very definitions that the contracts of `board` cite.
+use Prim.Native.Nat.{ℕ}
+use mathlib.Core.Bool.{Bool, true, false}
+use mathlib.Core.List.{List, [], _∷_, _++_}
+use lib.IntN.{ℤ}
+use lib.ListN.{length, take, drop}
+use Rattle.meaning.specs.Formulae.{Formula}
+use Rattle.formula.specs.Parse.{wholeOf}
+use Rattle.board.specs.Faults.{Fault, firstFault, ifDone}
+use Rattle.board.specs.Changes.{openFaults, opened, holdFaults, held, withdrawFaults, withdrawn}
+use Rattle.board.specs.Rules.{ruleFaults, ruled, ruledTable, formulaOf}
+use Rattle.board.specs.Settling.{settleFaults}
+use Rattle.board.specs.Asking.{askFaults, explainFaults}
+use Rattle.board.specs.Grounds.{groundFaults, blameFaults}
+use Rattle.board.specs.declared.Board.{Board}
+use Rattle.board.specs.declared.Outcome.{Outcome}
+
+-- Every call but open is lent the table "from its front": its first `lent` numbers, as many as the caller likes at each call.
+pub data Call : Type 0 where
+  opens : (symbols : ℕ) → Call
+  adds : (lent : ℕ) (bytes : List ℕ) → Call
+  holds withdraws asks explains : (lent : ℕ) (l : ℤ) → Call
+  settles : (lent : ℕ) (labels ranks supports : List ℕ) → Call
+  grounds : (lent : ℕ) (l : ℤ) (marks : List ℕ) → Call
+  blames : (lent : ℕ) (marks : List ℕ) → Call
+
+-- the board and the whole table, "written by nobody else"
+pub record World : Type 0 where
+  pub board : Board
+  pub table : List ℤ
+
+-- the front of the table, as a call is lent it
+abbrev pub front : World → ℕ → List ℤ
+front w lent = take lent (w .table)
+
+-- the tests of a call, in 01's order
+unfoldable pub faults : World → Call → List Fault
+faults w (opens S) = openFaults S
+faults w (adds lent bytes) = ruleFaults (front w lent) (w .board) bytes
+faults w (holds lent l) = holdFaults (front w lent) (w .board) l
+faults w (withdraws lent l) = withdrawFaults (front w lent) (w .board) l
+faults w (asks lent l) = askFaults (front w lent) (w .board) l
+faults w (explains lent l) = explainFaults (front w lent) (w .board) l
+faults w (settles lent labels ranks supports) = settleFaults (front w lent) (w .board) (length labels) (length ranks) (length supports)
+faults w (grounds lent l marks) = groundFaults (front w lent) (w .board) l (length marks)
+faults w (blames lent marks) = blameFaults (front w lent) (w .board) (length marks)
+
+-- what a call comes to
+abbrev pub outcome : World → Call → Outcome
+outcome w c = firstFault (faults w c)
+
+-- "In a sequence of calls each is given the board that the one before handed back."
+unfoldable pub after : World → Call → World
+after w (opens S) = record { board = opened S .board; table = w .table }
+after w (adds lent bytes) =
+    record {
+      board = ruled (front w lent) (w .board) bytes .board;
+      table = ruledTable (front w lent) (w .board) bytes ++ drop lent (w .table);
+    }
+after w (holds lent l) = record { board = held (front w lent) (w .board) l .board; table = w .table }
+after w (withdraws lent l) = record { board = withdrawn (front w lent) (w .board) l .board; table = w .table }
+after w (asks lent l) = w
+after w (explains lent l) = w
+after w (settles lent labels ranks supports) = w
+after w (grounds lent l marks) = w
+after w (blames lent marks) = w
+
+abbrev pub run : World → List Call → World
+run w [] = w
+run w (c ∷ calls) = run (after w c) calls
+
+-- ---- the rules accepted since the last open
+
+-- the formula of a rule call
+abbrev pub formulaIn : ℕ → List ℕ → Formula
+formulaIn S bytes = formulaOf (wholeOf S bytes)
+
+-- the rules accepted since the last open, after one call more: an open forgets them, a good rule call adds its formula
+unfoldable pub rulesAfter : World → List Formula → Call → List Formula
+rulesAfter w fs (opens S) = []
+rulesAfter w fs (adds lent bytes) = ifDone (outcome w (adds lent bytes)) (fs ++ (formulaIn (w .board .symbols) bytes ∷ [])) (λ _. fs)
+rulesAfter w fs (holds lent l) = fs
+rulesAfter w fs (withdraws lent l) = fs
+rulesAfter w fs (asks lent l) = fs
+rulesAfter w fs (explains lent l) = fs
+rulesAfter w fs (settles lent labels ranks supports) = fs
+rulesAfter w fs (grounds lent l marks) = fs
+rulesAfter w fs (blames lent marks) = fs
+
+-- and after several
+abbrev pub rulesAfterAll : World → List Formula → List Call → List Formula
+rulesAfterAll w fs [] = fs
+rulesAfterAll w fs (c ∷ calls) = rulesAfterAll (after w c) (rulesAfter w fs c) calls
+
+-- the call is no open
+abbrev pub notOpen : Call → Bool
+notOpen (opens S) = false
+notOpen (adds lent bytes) = true
+notOpen (holds lent l) = true
+notOpen (withdraws lent l) = true
+notOpen (asks lent l) = true
+notOpen (explains lent l) = true
+notOpen (settles lent labels ranks supports) = true
+notOpen (grounds lent l marks) = true
+notOpen (blames lent marks) = true

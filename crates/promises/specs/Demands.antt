@@ -1,0 +1,170 @@
+-- The three demands, each as a type. `proofs/` has a proof of each, under the same name in small letters.
+use mathlib.Core.Path.{_≡_}
+use mathlib.Core.Logic.{_↔_, _⊎_}
+use mathlib.Core.Bool.{Bool, true, false, cond}
+use mathlib.Core.List.{List, [], _∷_, _++_, map}
+use Prim.Native.Nat.{ℕ, _-_, _*_, _≤_, _<_}
+use lib.IntN.{ℤ}
+use lib.ListN.{take, drop, getD}
+use Rattle.meaning.specs.Literals.{place, conflict}
+use Rattle.meaning.specs.Formulae.{Formula, ruleOf}
+use Rattle.meaning.specs.Clauses.{rowsOf}
+use Rattle.meaning.specs.Rounds.{derived, rankOf, supportOf, label}
+use Rattle.meaning.specs.Ground.{ground, blame}
+use Rattle.meaning.specs.SecondWay.{secondWay}
+use Rattle.meaning.specs.Promises.{Derived, Forced, TwoWays}
+use Rattle.literals.specs.Literal.{placeOf}
+use Rattle.literals.specs.Row.{decode, rowsIn}
+use Rattle.literals.specs.declared.refusal.Refusal.{Refusal}
+use Rattle.board.specs.Faults.{Fault}
+use Rattle.board.specs.Changes.{emptyBoard, withFlag}
+use Rattle.board.specs.Settling.{settledLabels, settledRanks, settledSupports}
+use Rattle.board.specs.Asking.{asked, standing, reasoned, explained}
+use Rattle.board.specs.Grounds.{byteOf, groundMarks, blameMarks}
+use Rattle.board.specs.declared.Outcome.the-variants.{Done, Refused}
+use Rattle.promises.specs.Calls.{Call, opens, adds, holds, withdraws, asks, explains, settles, grounds, blames, World, front, faults, outcome, after, run, formulaIn, rulesAfterAll, notOpen}
+
+-- ---- demand 1: "Each refusal is given exactly in the case document 01 names, and leaves each table untouched."
+
+-- of the cases in their order, the first that is given is this refusal's
+pub data FirstGiven (why : Refusal) : List Fault → Type 0 where
+  here : {f : Fault} {fs : List Fault} → f .given ≡ true → f .refusal ≡ why → FirstGiven why (f ∷ fs)
+  later : {f : Fault} {fs : List Fault} → f .given ≡ false → FirstGiven why fs → FirstGiven why (f ∷ fs)
+
+abbrev pub RefusedExactly : Type 0
+RefusedExactly = (w : World) (c : Call) (why : Refusal) → (outcome w c ≡ Refused why) ↔ FirstGiven why (faults w c)
+
+-- what a refused call leaves: board and table as they were, "except that a refused open returns a board with S = 0, no rows in use
+-- and no premises"
+abbrev pub asBefore : World → Call → World
+asBefore w c = cond (notOpen c) w (record { board = emptyBoard 0; table = w .table })
+
+abbrev pub RefusedUntouched : Type 0
+RefusedUntouched = (w : World) (c : Call) (why : Refusal) → outcome w c ≡ Refused why → after w c ≡ asBefore w c
+
+-- "it writes nothing in a lent table": settle's three, and the marks of ground and blame
+pub record Unwritten (w : World) (lent : ℕ) (why : Refusal) : Type 0 where
+  pub settle : (labels ranks supports : List ℕ) → outcome w (settles lent labels ranks supports) ≡ Refused why
+      → (settledLabels (front w lent) (w .board) labels ranks supports ≡ labels)
+      × (settledRanks (front w lent) (w .board) labels ranks supports ≡ ranks)
+      × (settledSupports (front w lent) (w .board) labels ranks supports ≡ supports)
+  pub ground : (l : ℤ) (marks : List ℕ) → outcome w (grounds lent l marks) ≡ Refused why
+      → groundMarks (front w lent) (w .board) l marks ≡ marks
+  pub blame : (marks : List ℕ) → outcome w (blames lent marks) ≡ Refused why → blameMarks (front w lent) (w .board) marks ≡ marks
+
+abbrev pub RefusedUnwritten : Type 0
+RefusedUnwritten = (w : World) (lent : ℕ) (why : Refusal) → Unwritten w lent why
+
+-- ---- demand 2: what the calls leave
+
+-- "A good hold puts its literal into the premises, a good withdraw takes it out, and neither changes anything else in the board"
+abbrev pub HoldPuts : Type 0
+HoldPuts =
+    (w : World) (lent : ℕ) (l : ℤ) → outcome w (holds lent l) ≡ Done
+    → after w (holds lent l) ≡ record { board = withFlag (w .board) l true; table = w .table }
+
+abbrev pub WithdrawTakes : Type 0
+WithdrawTakes =
+    (w : World) (lent : ℕ) (l : ℤ) → outcome w (withdraws lent l) ≡ Done
+    → after w (withdraws lent l) ≡ record { board = withFlag (w .board) l false; table = w .table }
+
+-- the rows in use of a world, as lists of places
+abbrev pub rowsOfWorld : World → List (List ℕ)
+rowsOfWorld w = rowsIn (w .board .rows) (w .table)
+
+-- "The rows stored for a rule are all its prime implicates and no others": the rows in use are those before, and then the rule's
+abbrev pub RuleAppends : Type 0
+RuleAppends =
+    (w : World) (lent : ℕ) (bytes : List ℕ) → outcome w (adds lent bytes) ≡ Done
+    → rowsOfWorld (after w (adds lent bytes))
+    ≡ rowsOfWorld w ++ rowsOf (ruleOf (w .board .symbols) (formulaIn (w .board .symbols) bytes))
+
+-- ---- demand 2: what the calls tell, "over the rows in the table and the premises then held, in 01's rounds"
+
+-- the literal is derived on the board, by the definition with no rounds
+abbrev pub DerivedOn : World → ℕ → Type 0
+DerivedOn w p = Derived (2 * w .board .symbols) (rowsOfWorld w) (w .board .held) p
+
+-- the derived literals by the rounds, and the rank and the support of a literal
+abbrev pub derivedSet : World → List Bool
+derivedSet w = derived (2 * w .board .symbols) (rowsOfWorld w) (w .board .held)
+
+abbrev pub rankIn : World → ℕ → ℕ
+rankIn w p = rankOf (2 * w .board .symbols) (rowsOfWorld w) (w .board .held) p
+
+abbrev pub supportIn : World → ℕ → ℕ
+supportIn w p = supportOf (2 * w .board .symbols) (rowsOfWorld w) (w .board .held) p
+
+-- the tables that settle left: "A literal is derived exactly if that definition derives it"
+pub record Tells (w : World) (labels ranks supports : List ℕ) : Type 0 where
+  pub plus : (s : ℕ) → 1 ≤ s → s ≤ w .board .symbols → ((getD labels (s - 1) 0 ≡ 1) ⊎ (getD labels (s - 1) 0 ≡ 3)) ↔ DerivedOn w (place s true)
+  pub minus : (s : ℕ) → 1 ≤ s → s ≤ w .board .symbols → ((getD labels (s - 1) 0 ≡ 2) ⊎ (getD labels (s - 1) 0 ≡ 3)) ↔ DerivedOn w (place s false)
+  pub rank : (p : ℕ) → p < 2 * w .board .symbols → getD ranks p 0 ≡ rankIn w p
+  pub support : (p : ℕ) → p < 2 * w .board .symbols → getD supports p 0 ≡ supportIn w p
+
+-- "After every sequence of calls on a board"
+abbrev pub SettleTells : Type 0
+SettleTells =
+    (w₀ : World) (calls : List Call) (lent : ℕ) (labels ranks supports : List ℕ)
+    → let w = run w₀ calls in
+    outcome w (settles lent labels ranks supports) ≡ Done
+    → Tells w (settledLabels (front w lent) (w .board) labels ranks supports) (settledRanks (front w lent) (w .board) labels ranks supports)
+    (settledSupports (front w lent) (w .board) labels ranks supports)
+
+-- the other answers agree with the same derived literals, ranks and supports (for any board and table, so after every sequence too)
+abbrev pub AskTells : Type 0
+AskTells =
+    (w : World) (lent : ℕ) (l : ℤ) → outcome w (asks lent l) ≡ Done
+    → asked (front w lent) (w .board) l ≡ standing (derivedSet w) (placeOf l)
+
+-- the rank and the row number, and the literals of that row
+pub record Explains (w : World) (lent : ℕ) (l : ℤ) : Type 0 where
+  pub rank : reasoned (front w lent) (w .board) l .rank ≡ rankIn w (placeOf l)
+  pub row : reasoned (front w lent) (w .board) l .row ≡ supportIn w (placeOf l)
+  pub part : let span = explained (front w lent) (w .board) l in
+      decode (take (span .stop - span .start) (drop (span .start) (w .table))) ≡ getD (rowsOfWorld w) (supportIn w (placeOf l)) []
+
+abbrev pub ExplainTells : Type 0
+ExplainTells = (w : World) (lent : ℕ) (l : ℤ) → outcome w (explains lent l) ≡ Done → Explains w lent l
+
+abbrev pub GroundTells : Type 0
+GroundTells =
+    (w : World) (lent : ℕ) (l : ℤ) (marks : List ℕ) → outcome w (grounds lent l marks) ≡ Done
+    → groundMarks (front w lent) (w .board) l marks
+    ≡ map byteOf (ground (2 * w .board .symbols) (rowsOfWorld w) (w .board .held) (placeOf l)) ++ drop (2 * w .board .symbols) marks
+
+abbrev pub BlameTells : Type 0
+BlameTells =
+    (w : World) (lent : ℕ) (marks : List ℕ) → outcome w (blames lent marks) ≡ Done
+    → blameMarks (front w lent) (w .board) marks
+    ≡ map byteOf (blame (w .board .symbols) (rowsOfWorld w) (w .board .held)) ++ drop (2 * w .board .symbols) marks
+
+-- ---- demand 3
+
+-- "For the rules accepted since the last open, a good one, one table lent from its front to every call since and written by nobody
+-- else": whatever went before, an open, and then any calls. (After a refused open no rule is accepted, and no row is in use.)
+abbrev pub since : World → ℕ → List Call → World
+since w₀ S calls = run w₀ (opens S ∷ calls)
+
+abbrev pub acceptedSince : World → ℕ → List Call → List Formula
+acceptedSince w₀ S calls = rulesAfterAll w₀ [] (opens S ∷ calls)
+
+-- "any premises: either both ways find a literal and its opposite or neither does; where neither does, every label is the same"
+abbrev pub WaysAgree : Type 0
+WaysAgree =
+    (w₀ : World) (S : ℕ) (calls : List Call) (held : List Bool)
+    → let w = since w₀ S calls in
+    TwoWays (Derived (2 * w .board .symbols) (rowsOfWorld w) held) (Forced (w .board .symbols) (acceptedSince w₀ S calls) held)
+
+-- and in the bytes that settle writes, for the premises then held; `known` is what the second way finds
+pub record LabelsAgree (S : ℕ) (labels : List ℕ) (known : List Bool) : Type 0 where
+  pub conflicts : ((s : ℕ) × (1 ≤ s) × (s ≤ S) × (getD labels (s - 1) 0 ≡ 3)) ↔ (conflict known ≡ true)
+  pub same : conflict known ≡ false → (s : ℕ) → 1 ≤ s → s ≤ S → getD labels (s - 1) 0 ≡ label known s
+
+abbrev pub SettleAgrees : Type 0
+SettleAgrees =
+    (w₀ : World) (S : ℕ) (calls : List Call) (lent : ℕ) (labels ranks supports : List ℕ)
+    → let w = since w₀ S calls in
+    outcome w (settles lent labels ranks supports) ≡ Done
+    → LabelsAgree (w .board .symbols) (settledLabels (front w lent) (w .board) labels ranks supports)
+    (secondWay (w .board .symbols) (acceptedSince w₀ S calls) (w .board .held))

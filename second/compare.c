@@ -1,0 +1,93 @@
+/* Every result, the whole board, and every place of every lent table with its guards: the library's against the model's. */
+#include <stdio.h>
+#include <string.h>
+
+#include "steps.h"
+
+/* Notes a difference in words; returns false so that the caller can return it. */
+static bool differs(Play *play, const char *what, long place, long theirs, long ours) {
+    int used = snprintf(play->difference, sizeof play->difference, "%s", what);
+    if (place != NONE)
+        used += snprintf(play->difference + used, sizeof play->difference - (size_t)used, " place %ld", place);
+    snprintf(play->difference + used, sizeof play->difference - (size_t)used, ": library %ld, model %ld", theirs, ours);
+    return false;
+}
+
+/* Compares one number. */
+static bool same(Play *play, const char *what, long place, unsigned theirs, unsigned ours) {
+    return theirs == ours || differs(play, what, place, theirs, ours);
+}
+
+/* Compares what the two calls returned. */
+static bool same_outcome(Play *play, const Outcome *ours, const Outcome *theirs) {
+    return same(play, "refusal", NONE, theirs->refusal, ours->refusal) &&
+           same(play, "rows added", NONE, theirs->added, ours->added) &&
+           same(play, "standing", NONE, theirs->standing, ours->standing) &&
+           same(play, "literals of the reason", NONE, theirs->literals, ours->literals) &&
+           same(play, "rank of the reason", NONE, theirs->rank, ours->rank) &&
+           same(play, "row of the reason", NONE, theirs->row, ours->row);
+}
+
+/* Compares the boards handed back; a premise as held or not. */
+static bool same_board(Play *play) {
+    bool alike = same(play, "board: S", NONE, play->library_board.symbols, play->board.symbols) &&
+                 same(play, "board: rows in use", NONE, play->library_board.rows, play->board.rows);
+    for (unsigned p = 0; p < PLACES && alike; p++)
+        alike = same(play, "board: held", p, play->library_board.held[p] != 0, play->board.held[p]);
+    return alike;
+}
+
+/* Compares two clause tables, guards included; the first place lent is place 0. */
+static bool same_table(Play *play, const int16_t *theirs, const int16_t *ours, size_t bytes) {
+    if (memcmp(theirs, ours, bytes) == 0) return true;
+    size_t i = 0;
+    while (theirs[i] == ours[i]) i++;
+    return differs(play, "clause table", (long)i - GUARD, theirs[i], ours[i]);
+}
+
+/* Compares two tables of ranks or supports, guards included. */
+static bool same_numbers(Play *play, const char *what, const uint16_t *theirs, const uint16_t *ours, size_t bytes) {
+    if (memcmp(theirs, ours, bytes) == 0) return true;
+    size_t i = 0;
+    while (theirs[i] == ours[i]) i++;
+    return differs(play, what, (long)i - GUARD, theirs[i], ours[i]);
+}
+
+/* Compares two tables of bytes, guards included. */
+static bool same_bytes(Play *play, const char *what, const uint8_t *theirs, const uint8_t *ours, size_t bytes, long guard) {
+    if (memcmp(theirs, ours, bytes) == 0) return true;
+    size_t i = 0;
+    while (theirs[i] == ours[i]) i++;
+    return differs(play, what, (long)i - guard, theirs[i], ours[i]);
+}
+
+/* Compares every table, those that the call was not lent included. */
+static bool same_tables(Play *play, const Step *step) {
+    const Tables *theirs = &play->theirs, *ours = &play->ours;
+    return same_table(play, theirs->table, ours->table, sizeof ours->table) &&
+           same_bytes(play, "labels", theirs->labels, ours->labels, sizeof ours->labels, GUARD) &&
+           same_numbers(play, "ranks", theirs->ranks, ours->ranks, sizeof ours->ranks) &&
+           same_numbers(play, "supports", theirs->supports, ours->supports, sizeof ours->supports) &&
+           same_bytes(play, "marks", theirs->marks, ours->marks, sizeof ours->marks, GUARD) &&
+           same_bytes(play, "formula", theirs->formula, ours->formula, step->kind == RULE ? step->standing : 0, 0);
+}
+
+/* Compares everything after a call. */
+bool same_everywhere(Play *play, const Step *step, const Outcome *ours, const Outcome *theirs) {
+    return same_outcome(play, ours, theirs) && same_board(play) && same_tables(play, step);
+}
+
+/* Demand 3 after a good settle: both ways find a conflict or neither does, and without one every label is the same. */
+bool same_by_rules(Play *play) {
+    const uint8_t *labels = (play->with_library ? play->theirs.labels : play->ours.labels) + GUARD;
+    bool forced[PLACES], by_rows = false, by_rules = false, alike;
+    force_by_rules(play->book.rules, play->book.count, play->board.held, forced);
+    for (unsigned s = 0; s < play->board.symbols; s++) {
+        by_rows |= labels[s] == 3;
+        by_rules |= forced[2 * s] && forced[2 * s + 1];
+    }
+    alike = same(play, "demand 3, conflict (library: by rows, model: by rules)", NONE, by_rows, by_rules);
+    for (unsigned s = 0; s < play->board.symbols && alike && !by_rules; s++)
+        alike = same(play, "demand 3, label (library: by rows, model: by rules)", s, labels[s], forced[2 * s] + 2u * forced[2 * s + 1]);
+    return alike;
+}

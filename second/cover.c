@@ -1,0 +1,274 @@
+/* Counts of what came up, and the list of what has to. */
+#include "cover.h"
+
+#include <stdio.h>
+#include <stdlib.h>
+
+#include "draw.h"
+
+enum { NUMBERS = 15 };
+
+/* Cases beyond the table of refusals, each of which has to come up. */
+enum {
+    ASK_OPEN, ASK_STANDS, ASK_RULED_OUT, ASK_CONFLICT, EXPLAIN_HELD, EXPLAIN_NOT_DERIVED, EXPLAIN_ONE_LITERAL, GROUND_HELD,
+    GROUND_NO_PREMISE, GROUND_MORE, SHORT_LABELS, SHORT_RANKS, SHORT_SUPPORTS, SHORT_BY_ONE, JUST_LONG_ENOUGH, CONFLICT_SETTLED,
+    BOTH_SIGNS_HELD, BLAME_MORE, RULE_ALWAYS_TRUE, RULE_FILLS_TABLE, RULE_FILLS_2048, RULE_OF_7, RULE_OF_8, RULE_OF_128_ROWS, RULE_OF_200_ROWS,
+    RULE_DEPTH_16, RULE_LONG, NOTHING_LENT, BEYOND_2048, LOWEST_ASKED, ODD_BYTES_DONE, ODD_LENGTH, LENGTH_CHANGED, FEWER_SYMBOLS,
+    FEWER_ROWS, UNUSED_NUMBER, SYMBOLS_1, SYMBOLS_200, FULL_BOARD, TWO_FAULTS, DEMAND_3_CONFLICT, DEMAND_3_LABELS, REFUSED_6_NOT_7,
+    REFUSED_6_NOT_8, REFUSED_7_NOT_9, REFUSED_8_NOT_9, FULL_AND_MORE_LENT, PAST_2048_LENT, RANK_150, RANK_ABOVE_S,
+    CASES
+};
+
+static const char *const case_words[CASES] = {
+    "ask: open", "ask: stands", "ask: ruled out", "ask: conflict", "explain 12, held", "explain 12, not derived",
+    "explain by a row of one literal", "ground of a premise", "ground without a premise", "ground of 2 or more premises",
+    "settle 13, labels", "settle 13, ranks", "settle 13, supports", "13 with one place missing", "done with no place to spare",
+    "settled in conflict", "both signs held", "blame of 2 or more premises", "rule always true, done", "rule fills the rows lent",
+    "rule fills row 2,047", "rule of 7 symbols, done", "rule of 8 symbols, done", "rule of 128 rows", "rule of 200 rows or more", "rule of depth 16, done",
+    "rule of 500 bytes or more, done", "done with no number lent", "done with more than 2,048 rows lent", "-32768 given",
+    "done with held bytes beyond 1", "done with a length not of whole rows", "length lent changed between calls",
+    "done with S lowered", "done with rows in use lowered", "done with noise beyond the rows in use", "done with S = 1",
+    "done with S = 200", "settled 2,048 rows", "two faults or more at once", "demand 3 in conflict", "demand 3, a label not 0",
+    "6 where 7 is due as well", "6 where 8 is due as well", "7 with no row free", "8 with no row free", "9 at 2,048 rows with more lent",
+    "rows in use past 2,048 with more lent", "boards with a rank of 150 or more", "boards with a rank above S"};
+
+static const char *const damage_words[BAD_BOARDS] = {
+    "", "S is 0", "S is 201", "S is 65535", "S above 201", "rows in use past lent", "table lent too short", "premise beyond S",
+    "row with 0 in front", "row with 0 inside", "row falling", "row repeating", "row with -32768", "row beyond S"};
+
+/* The refusals that can come up, by call. */
+static const unsigned possible[CALLS][NUMBERS] = {
+    [OPEN] = {2},         [RULE] = {1, 2, 3, 4, 5, 6, 7, 8, 9}, [HOLD] = {1, 2, 10},       [WITHDRAW] = {1, 2, 11}, [SETTLE] = {1, 13},
+    [ASK] = {1, 2},       [EXPLAIN] = {1, 2, 12},               [GROUND] = {1, 2, 12, 13}, [BLAME] = {1, 12, 13}};
+
+static unsigned long calls[CALLS], refusals[CALLS][NUMBERS + 1], damaged[BAD_BOARDS][CALLS], cases[CASES];
+static unsigned long labels_seen[4], demand_3, settled, rules_done, rows_added, acts;
+static unsigned highest_rank, most_rows;
+static size_t length_before;
+
+/* Counts the marks that are set. */
+static unsigned marks_set(const Play *play) {
+    unsigned count = 0;
+    for (unsigned p = 0; p < 2 * play->board.symbols; p++) count += play->ours.marks[GUARD + p];
+    return count;
+}
+
+/* The depth of a formula that was accepted. */
+static unsigned depth_of(const uint8_t *bytes, size_t *at) {
+    uint8_t kind = bytes[(*at)++];
+    if (kind == 0x10) return (*at)++, 1;
+    unsigned first = depth_of(bytes, at), second = kind == 0x11 ? 0 : depth_of(bytes, at);
+    return 1 + (first > second ? first : second);
+}
+
+/* Counts what a good settle wrote. */
+static void cover_settle(const Play *play, const Step *step) {
+    const Board *board = &play->board;
+    bool conflict = false, both = false, any = false;
+    unsigned highest = 0;
+    for (unsigned s = 0; s < board->symbols; s++) {
+        uint8_t label = play->ours.labels[GUARD + s];
+        labels_seen[label]++;
+        conflict |= label == 3;
+        any |= label != 0;
+        both |= board->held[2 * s] && board->held[2 * s + 1];
+    }
+    for (unsigned p = 0; p < 2 * board->symbols; p++) {
+        uint16_t rank = play->ours.ranks[GUARD + p];
+        if (rank != NONE && rank > highest) highest = rank;
+    }
+    if (highest > highest_rank) highest_rank = highest;
+    cases[RANK_150] += highest >= 150;
+    cases[RANK_ABOVE_S] += highest > board->symbols;
+    settled++;
+    cases[CONFLICT_SETTLED] += conflict;
+    cases[BOTH_SIGNS_HELD] += both;
+    cases[FULL_BOARD] += board->rows == MOST_ROWS;
+    cases[JUST_LONG_ENOUGH] += step->lent[0] == board->symbols && step->lent[1] == 2 * board->symbols && step->lent[2] == step->lent[1];
+    demand_3 += play->demand_3;
+    cases[DEMAND_3_CONFLICT] += play->demand_3 && conflict;
+    cases[DEMAND_3_LABELS] += play->demand_3 && !conflict && any;
+}
+
+/* Counts what an accepted rule did. */
+static void cover_rule(const Play *play, const Step *step) {
+    uint8_t symbols[MOST_SYMBOLS];
+    unsigned count = different_symbols(step->formula, step->bytes, symbols), added = play->last.added;
+    size_t at = 0;
+    rules_done++;
+    rows_added += added;
+    if (added > most_rows) most_rows = added;
+    cases[RULE_ALWAYS_TRUE] += added == 0;
+    cases[RULE_FILLS_TABLE] += added > 0 && play->board.rows == rows_lent(step->numbers);
+    cases[RULE_FILLS_2048] += added > 0 && play->board.rows == MOST_ROWS;
+    cases[RULE_OF_7] += count == 7;
+    cases[RULE_OF_8] += count == 8;
+    cases[RULE_OF_128_ROWS] += added == 128;
+    cases[RULE_OF_200_ROWS] += added >= 200;
+    cases[RULE_DEPTH_16] += depth_of(step->formula, &at) == DEEPEST;
+    cases[RULE_LONG] += step->bytes >= 500;
+}
+
+/* Counts a refusal 13 by the table that was short. */
+static void cover_short(const Play *play, const Step *step) {
+    size_t symbols = play->board.symbols;
+    if (step->kind != SETTLE) {
+        cases[SHORT_BY_ONE] += step->lent[0] == 2 * symbols - 1;
+        return;
+    }
+    cases[SHORT_LABELS] += step->lent[0] + 1 == symbols && step->lent[1] >= 2 * symbols && step->lent[2] >= 2 * symbols;
+    cases[SHORT_RANKS] += step->lent[0] >= symbols && step->lent[1] + 1 == 2 * symbols && step->lent[2] >= 2 * symbols;
+    cases[SHORT_SUPPORTS] += step->lent[0] >= symbols && step->lent[1] >= 2 * symbols && step->lent[2] + 1 == 2 * symbols;
+}
+
+/* Counts the refusals of a rule that come ahead of another one due as well. */
+static void cover_refused_rule(const Play *play, const Step *step) {
+    uint8_t symbols[MOST_SYMBOLS];
+    size_t lent = rows_lent(step->numbers);
+    unsigned refusal = play->last.refusal, rows = play->board.rows;
+    if (refusal == 6) {
+        size_t used = read_formula(step->formula, step->bytes, play->board.symbols).used;
+        bool many = different_symbols(step->formula, used, symbols) > RULE_SYMBOLS;
+        cases[REFUSED_6_NOT_7] += many;
+        cases[REFUSED_6_NOT_8] += !many && rule_of(step->formula, used).satisfying == 0;
+    }
+    cases[REFUSED_7_NOT_9] += refusal == 7 && rows == lent;
+    cases[REFUSED_8_NOT_9] += refusal == 8 && rows == lent;
+    cases[FULL_AND_MORE_LENT] += refusal == 9 && rows == MOST_ROWS && step->numbers >= WIDTH * (MOST_ROWS + 1);
+}
+
+/* Counts a refused call. */
+static void cover_refused(const Play *play, const Step *step) {
+    unsigned refusal = play->last.refusal;
+    if (refusal == 1 && step->damage != NO_DAMAGE && step->damage < BAD_BOARDS) damaged[step->damage][step->kind]++;
+    if (refusal == 13) cover_short(play, step);
+    if (step->kind == RULE) cover_refused_rule(play, step);
+    cases[PAST_2048_LENT] += refusal == 1 && play->board.rows > MOST_ROWS && play->board.rows <= step->numbers / WIDTH;
+    if (refusal == 2 && step->kind != RULE && step->value == -32768) cases[LOWEST_ASKED]++;
+    if (refusal != 12 || step->kind != EXPLAIN) return;
+    cases[play->board.held[place_of(step->value)] ? EXPLAIN_HELD : EXPLAIN_NOT_DERIVED]++;
+}
+
+/* Counts how the tables and the board of a call that was done looked. */
+static void cover_lent(const Play *play, const Step *step) {
+    bool odd = false;
+    for (unsigned p = 0; p < PLACES && step->kind >= SETTLE; p++) odd |= play->library_board.held[p] > 1;
+    cases[ODD_BYTES_DONE] += odd;
+    cases[NOTHING_LENT] += step->numbers == 0;
+    cases[BEYOND_2048] += step->numbers > WIDTH * MOST_ROWS;
+    cases[ODD_LENGTH] += step->numbers % WIDTH != 0;
+    cases[LENGTH_CHANGED] += step->numbers != length_before;
+    cases[FEWER_SYMBOLS] += step->damage == SYMBOLS_FEWER;
+    cases[FEWER_ROWS] += step->damage == ROWS_FEWER;
+    cases[UNUSED_NUMBER] += step->damage == NUMBER_UNUSED;
+    cases[SYMBOLS_1] += play->board.symbols == 1;
+    cases[SYMBOLS_200] += play->board.symbols == MOST_SYMBOLS;
+    length_before = step->numbers;
+}
+
+/* Counts a call that was done. */
+static void cover_done(const Play *play, const Step *step) {
+    unsigned marks = step->kind == GROUND || step->kind == BLAME ? marks_set(play) : 0;
+    if (step->kind == OPEN) return;
+    cover_lent(play, step);
+    if (step->kind == SETTLE) cover_settle(play, step);
+    if (step->kind == RULE) cover_rule(play, step);
+    if (step->kind == ASK) cases[ASK_OPEN + play->last.standing]++;
+    if (step->kind == EXPLAIN) cases[EXPLAIN_ONE_LITERAL] += play->last.literals == 1;
+    if (step->kind == BLAME) cases[BLAME_MORE] += marks > 1;
+    if (step->kind != GROUND) return;
+    cases[GROUND_HELD] += play->board.held[place_of(step->value)];
+    cases[GROUND_NO_PREMISE] += marks == 0;
+    cases[GROUND_MORE] += marks > 1;
+}
+
+/* Counts one step that was played. */
+void cover_step(const Play *play, const Step *step) {
+    if (step->kind >= CALLS) {
+        acts++;
+        return;
+    }
+    calls[step->kind]++;
+    refusals[step->kind][play->last.refusal]++;
+    cases[TWO_FAULTS] += step->faults > 1;
+    if (play->last.refusal == 0) cover_done(play, step);
+    else cover_refused(play, step);
+}
+
+/* All calls made. */
+unsigned long cover_calls(void) {
+    unsigned long sum = 0;
+    for (unsigned k = 0; k < CALLS; k++) sum += calls[k];
+    return sum;
+}
+
+/* True if the refusal can come up for the call. */
+static bool can_come_up(unsigned kind, unsigned number) {
+    for (unsigned i = 0; i < NUMBERS; i++)
+        if (number != 0 && possible[kind][i] == number) return true;
+    return false;
+}
+
+/* Prints the table of calls and refusals; a dot where a number cannot come up. */
+static void print_refusals(void) {
+    printf("%-9s%9s%9s", "call", "made", "done");
+    for (unsigned n = 1; n < NUMBERS; n++) printf("%7u", n);
+    printf("\n");
+    for (unsigned k = 0; k < CALLS; k++) {
+        printf("%-9s%9lu%9lu", kind_word((Kind)k), calls[k], refusals[k][0]);
+        for (unsigned n = 1; n < NUMBERS; n++) {
+            if (can_come_up(k, n)) printf("%7lu", refusals[k][n]);
+            else printf("%7s", ".");
+        }
+        printf("\n");
+    }
+}
+
+/* Prints the damage that was refused with 1, by call. */
+static void print_damage(void) {
+    printf("\n%-24s", "refusal 1 for");
+    for (unsigned k = RULE; k < CALLS; k++) printf("%9s", kind_word((Kind)k));
+    printf("\n");
+    for (unsigned d = 1; d < BAD_BOARDS; d++) {
+        printf("%-24s", damage_words[d]);
+        for (unsigned k = RULE; k < CALLS; k++) printf("%9lu", damaged[d][k]);
+        printf("\n");
+    }
+}
+
+/* Prints all counts. */
+void cover_print(void) {
+    print_refusals();
+    print_damage();
+    printf("\n");
+    for (unsigned c = 0; c < CASES; c++)
+        printf("%-42s%9lu%s", case_words[c], cases[c], c % 2 == 0 ? "    " : "\n");
+    printf("\nlabels 0, 1, 2, 3: %lu %lu %lu %lu\n", labels_seen[0], labels_seen[1], labels_seen[2], labels_seen[3]);
+    printf("highest rank: %u; boards settled: %lu, of them in conflict: %lu\n", highest_rank, settled, cases[CONFLICT_SETTLED]);
+    printf("rules accepted: %lu, rows they added: %lu, most of one rule: %u; the caller's own acts: %lu\n", rules_done, rows_added, most_rows, acts);
+    printf("demand 3 compared: %lu boards, of them in conflict: %lu\n", demand_3, cases[DEMAND_3_CONFLICT]);
+}
+
+/* Says what is missing of one thing that has to come up. */
+static bool came_up(unsigned long count, const char *what, const char *of, unsigned number) {
+    if (count > 0) return true;
+    printf("missing: %s %s", of, what);
+    if (number != 0) printf(" %u", number);
+    printf("\n");
+    return false;
+}
+
+/* True if all that can come up did; says what did not. */
+bool cover_is_whole(void) {
+    bool whole = true;
+    for (unsigned k = 0; k < CALLS; k++) {
+        whole &= came_up(refusals[k][0], "done", kind_word((Kind)k), 0);
+        for (unsigned n = 1; n < NUMBERS; n++)
+            if (can_come_up(k, n)) whole &= came_up(refusals[k][n], "refusal", kind_word((Kind)k), n);
+    }
+    for (unsigned d = 1; d < BAD_BOARDS; d++)
+        for (unsigned k = RULE; k < CALLS; k++) whole &= came_up(damaged[d][k], damage_words[d], kind_word((Kind)k), 0);
+    for (unsigned c = 0; c < CASES; c++) whole &= came_up(cases[c], case_words[c], "case", 0);
+    for (unsigned l = 0; l < 4; l++) whole &= came_up(labels_seen[l], "a label", "settle", l);
+    return whole;
+}

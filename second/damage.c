@@ -1,0 +1,122 @@
+/* Damage to a board or its table, for one call: first what spoils it, and for afterwards what puts it right. */
+#include "draw.h"
+
+/* Adds a step of the caller's, and notes the step that undoes it. */
+static void spoil(Draft *draft, Step undo[2], unsigned *undone, Kind kind, unsigned place, int value, int before) {
+    Step *step = add_step(draft, kind);
+    step->place = place;
+    step->value = value;
+    undo[*undone] = *step;
+    undo[(*undone)++].value = before;
+}
+
+/* The literals in a row. */
+static unsigned literals_in(const int16_t *row) {
+    unsigned count = 0;
+    while (count < WIDTH && row[count] != 0) count++;
+    return count;
+}
+
+/* A row in use: often the first or the last. */
+static unsigned some_row(Draft *draft, const Play *play) {
+    unsigned sort = random_below(&draft->random, 4), last = play->board.rows - 1;
+    return sort == 0 ? 0 : sort == 1 ? last : random_below(&draft->random, last + 1);
+}
+
+/* Spoils one number, or two, of a row in use. */
+static void spoil_row(Draft *draft, const Play *play, Damage damage, Step undo[2], unsigned *undone) {
+    Random *random = &draft->random;
+    unsigned r = some_row(draft, play), base = WIDTH * r, symbols = play->board.symbols;
+    const int16_t *row = play->ours.table + GUARD + base;
+    unsigned length = literals_in(row) > 0 ? literals_in(row) : 1;
+    unsigned at = random_below(random, length), next = at + 1 < WIDTH ? at + 1 : at - 1;
+    int far = (int)random_between(random, symbols + 1, random_chance(random, 50) ? symbols + 2 : 32767);
+    switch (damage) {
+    case ROW_EMPTY: /* a zero in front; the row may have more after it */
+        spoil(draft, undo, undone, SET_NUMBER, base, 0, row[0]);
+        break;
+    case ROW_ZERO_INSIDE: /* a number after the first zero, or a zero before the last number */
+        if (length >= 2 && at + 1 < length) spoil(draft, undo, undone, SET_NUMBER, base + at, 0, row[at]);
+        else if (length <= 6) spoil(draft, undo, undone, SET_NUMBER, base + 7, (int)symbols, row[7]);
+        else spoil(draft, undo, undone, SET_NUMBER, base + 3, 0, row[3]);
+        break;
+    case ROW_FALLING: /* a number, and a lower one after it */
+        spoil(draft, undo, undone, SET_NUMBER, base, (int)symbols, row[0]);
+        spoil(draft, undo, undone, SET_NUMBER, base + 1, symbols > 1 ? (int)symbols - 1 : 1, row[1]);
+        break;
+    case ROW_REPEATED: /* the same symbol twice, with the same sign or the other one */
+        spoil(draft, undo, undone, SET_NUMBER, base + next, random_chance(random, 50) ? row[at] : -row[at], row[next]);
+        break;
+    case ROW_LOWEST:
+        spoil(draft, undo, undone, SET_NUMBER, base + at, -32768, row[at]);
+        break;
+    default: /* ROW_BEYOND */
+        spoil(draft, undo, undone, SET_NUMBER, base + length - 1, random_chance(random, 50) ? far : -far, row[length - 1]);
+    }
+}
+
+/* Sets the rows in use past the rows lent. */
+static void spoil_rows(Draft *draft, const Play *play, const Step *call, Step undo[2], unsigned *undone) {
+    unsigned lent = (unsigned)rows_lent(call->numbers), sort = random_below(&draft->random, 3);
+    unsigned rows = sort == 0 ? 65535 : sort == 1 ? MOST_ROWS + 1 : lent + 1;
+    spoil(draft, undo, undone, SET_ROWS, 0, (int)rows, (int)play->board.rows);
+}
+
+/* Sets a premise of a symbol beyond S; S is below 200. */
+static void spoil_premises(Draft *draft, const Play *play, Step undo[2], unsigned *undone) {
+    unsigned from = 2 * play->board.symbols, sort = random_below(&draft->random, 3);
+    unsigned place = sort == 0 ? from : sort == 1 ? PLACES - 1 : random_between(&draft->random, from, PLACES - 1);
+    spoil(draft, undo, undone, SET_HELD, place, (int)random_between(&draft->random, 1, 255), play->board.held[place]);
+}
+
+/* Writes noise into a number that no row in use has: a good board still. */
+static void spoil_unused(Draft *draft, const Play *play, Step undo[2], unsigned *undone) {
+    unsigned from = WIDTH * play->board.rows;
+    unsigned place = random_between(&draft->random, from, TABLE_LENDABLE - 1);
+    spoil(draft, undo, undone, SET_NUMBER, place, -32768, play->ours.table[GUARD + place]);
+    *undone = 0;
+}
+
+/* A sort of damage that this board can take. */
+Damage draw_damage(Draft *draft, const Play *play) {
+    const Board *board = &play->board;
+    if (board->symbols == 0 || board->symbols > MOST_SYMBOLS || board->rows > MOST_ROWS) return NO_DAMAGE;
+    for (;;) {
+        Damage damage = (Damage)random_between(&draft->random, 1, DAMAGES - 1);
+        bool of_row = damage >= TABLE_TOO_SHORT && damage <= ROW_BEYOND && damage != PREMISE_BEYOND;
+        if (of_row && board->rows == 0) continue;
+        if (damage == PREMISE_BEYOND && board->symbols == MOST_SYMBOLS) continue;
+        return damage;
+    }
+}
+
+/* Adds the steps that spoil the board, changes what the call is lent if need be, and hands back the steps that put it right. */
+void add_damage(Draft *draft, const Play *play, Damage damage, Step *call, Step undo[2], unsigned *undone) {
+    Random *random = &draft->random;
+    int symbols = (int)play->board.symbols, rows = (int)play->board.rows;
+    *undone = 0;
+    switch (damage) {
+    case NO_DAMAGE: break;
+    case SYMBOLS_0: spoil(draft, undo, undone, SET_SYMBOLS, 0, 0, symbols); break;
+    case SYMBOLS_201: spoil(draft, undo, undone, SET_SYMBOLS, 0, 201, symbols); break;
+    case SYMBOLS_65535: spoil(draft, undo, undone, SET_SYMBOLS, 0, 65535, symbols); break;
+    case SYMBOLS_OTHER: spoil(draft, undo, undone, SET_SYMBOLS, 0, (int)random_between(random, 202, 65534), symbols); break;
+    case ROWS_PAST_LENT: spoil_rows(draft, play, call, undo, undone); break;
+    case TABLE_TOO_SHORT: call->numbers = WIDTH * (unsigned)rows - random_between(random, 1, WIDTH); break;
+    case PREMISE_BEYOND: spoil_premises(draft, play, undo, undone); break;
+    case SYMBOLS_FEWER: spoil(draft, undo, undone, SET_SYMBOLS, 0, (int)random_between(random, 1, (unsigned)symbols), symbols); break;
+    case ROWS_FEWER: spoil(draft, undo, undone, SET_ROWS, 0, (int)random_between(random, 0, (unsigned)rows), rows); break;
+    case NUMBER_UNUSED: spoil_unused(draft, play, undo, undone); break;
+    default: spoil_row(draft, play, damage, undo, undone);
+    }
+}
+
+/* Gives held premises bytes other than 1, which mean the same. */
+void add_odd_bytes(Draft *draft, const Play *play) {
+    for (unsigned p = 0; p < PLACES; p++) {
+        if (!play->board.held[p]) continue;
+        Step *step = add_step(draft, SET_HELD);
+        step->place = p;
+        step->value = (int)random_between(&draft->random, 2, 255);
+    }
+}

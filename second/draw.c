@@ -1,0 +1,377 @@
+/* Random sequences: a style for each, its opening and setting up, then calls of all kinds, damaged now and then. */
+#include "draw.h"
+
+#include <string.h>
+
+/* Styles of sequences. */
+enum { FREE, PLANTS, CIRCLE, CHAIN, ROWS, FULL, TIGHT, BROAD, PACKED, STYLES };
+
+static const unsigned style_weights[STYLES] = {
+    [FREE] = 330, [PLANTS] = 230, [CIRCLE] = 80, [CHAIN] = 30, [ROWS] = 160, [FULL] = 14, [TIGHT] = 120, [BROAD] = 70, [PACKED] = 14};
+
+/* Which sorts of formulae a style has, in the order PLANT, TREE, SPINE, WIDE, PARITY, LITERALS, NEVER, ALWAYS, LONG, NOISE,
+ * PARITY_OF_8, ANY_TRUTH, WIDE_TRUTH, TOO_MANY. */
+static const unsigned sort_weights[STYLES][SORTS] = {
+    [FREE] = {250, 250, 60, 20, 40, 80, 40, 40, 14, 30, 1, 150, 25, 20},
+    [PLANTS] = {900, 20, 5, 2, 5, 10, 5, 5, 0, 5, 0, 20, 0, 15},
+    [CIRCLE] = {900, 50, 5, 0, 5, 10, 5, 5, 0, 5, 0, 20, 0, 5},
+    [CHAIN] = {900, 50, 5, 1, 5, 10, 5, 5, 0, 5, 0, 20, 0, 5},
+    [ROWS] = {500, 200, 20, 2, 20, 50, 20, 20, 4, 20, 0, 60, 2, 20},
+    [FULL] = {500, 200, 20, 2, 20, 50, 20, 20, 1, 20, 0, 60, 2, 10},
+    [TIGHT] = {200, 300, 40, 10, 100, 200, 50, 50, 4, 20, 0, 100, 10, 80},
+    [BROAD] = {50, 50, 30, 400, 100, 100, 80, 50, 0, 10, 10, 50, 600, 150},
+    [PACKED] = {10, 10, 0, 10, 10, 10, 5, 5, 0, 5, 60, 20, 20, 15}};
+
+/* How often each call comes: at first, and later on. */
+static const unsigned call_weights[2][CALLS] = {
+    {[OPEN] = 3, [RULE] = 90, [HOLD] = 60, [WITHDRAW] = 10, [SETTLE] = 20, [ASK] = 10, [EXPLAIN] = 10, [GROUND] = 10, [BLAME] = 5},
+    {[OPEN] = 5, [RULE] = 20, [HOLD] = 34, [WITHDRAW] = 20, [SETTLE] = 40, [ASK] = 28, [EXPLAIN] = 26, [GROUND] = 26, [BLAME] = 16}};
+
+/* Adds an empty step. */
+Step *add_step(Draft *draft, Kind kind) {
+    Step *step = &draft->steps[draft->count < MOST_STEPS - 1 ? draft->count++ : draft->count];
+    memset(step, 0, sizeof *step);
+    step->kind = kind;
+    step->numbers = draft->usual;
+    step->noise = random_next(&draft->random);
+    return step;
+}
+
+/* A count of symbols that suits the style. */
+static unsigned draw_symbols(Random *random, unsigned style) {
+    switch (style) {
+    case PLANTS: return random_between(random, 3, random_chance(random, 80) ? 24 : 90);
+    case CIRCLE: return random_between(random, 2, random_chance(random, 90) ? 12 : 60);
+    case CHAIN: return random_chance(random, 40) ? MOST_SYMBOLS : random_between(random, 2, random_chance(random, 40) ? 20 : MOST_SYMBOLS);
+    case ROWS: return random_between(random, 1, random_chance(random, 70) ? 20 : 80);
+    case FULL: return random_chance(random, 40) ? MOST_SYMBOLS : random_between(random, 60, MOST_SYMBOLS);
+    case BROAD: return random_between(random, 8, 14);
+    case PACKED: return random_between(random, 8, 10);
+    case TIGHT: return random_chance(random, 30) ? random_between(random, 9, 14) : random_between(random, 1, 8);
+    default: return random_chance(random, 4) ? random_between(random, 1, MOST_SYMBOLS) : random_between(random, 1, 10);
+    }
+}
+
+/* Numbers usually lent in the style; now and then more than 2,048 rows. */
+static unsigned draw_usual(Random *random, unsigned style) {
+    unsigned rows = MOST_ROWS, odd = random_below(random, WIDTH);
+    if (style == TIGHT) rows = random_between(random, 0, 9);
+    if ((style == FREE || style == ROWS) && random_chance(random, 50)) rows = random_between(random, 8, 200);
+    return rows == MOST_ROWS && random_chance(random, 40) ? TABLE_LENDABLE - odd : WIDTH * rows + odd;
+}
+
+/* How many rules or rows a style sets up. */
+static unsigned draw_setup(Random *random, unsigned style, unsigned symbols) {
+    switch (style) {
+    case PLANTS: return random_between(random, 1, symbols);
+    case CIRCLE: case CHAIN: return symbols;
+    case ROWS: return random_between(random, 1, random_chance(random, 70) ? 30 : 150);
+    case FULL: return random_chance(random, 40) ? MOST_ROWS : random_between(random, 200, MOST_ROWS);
+    case PACKED: return 16;
+    default: return 0;
+    }
+}
+
+/* Starts a sequence: its style and what follows from it. */
+void draft_start(Draft *draft, uint64_t seed, uint64_t number) {
+    Random *random = &draft->random;
+    *random = random_for(seed, number);
+    draft->count = draft->pooled = 0;
+    draft->style = random_weighted(random, style_weights, STYLES);
+    draft->symbols = draw_symbols(random, draft->style);
+    draft->usual = draw_usual(random, draft->style);
+    draft->lean = random_chance(random, 30) ? 100 : random_between(random, 50, 99);
+    draft->setup = draw_setup(random, draft->style, draft->symbols);
+    draft->calls = random_between(random, 8, 15) + (draft->setup == 0 ? random_between(random, 2, 8) : 0);
+    bool chain = draft->style == CHAIN && random_chance(random, 80), all = chain || random_chance(random, 50);
+    if (chain) draft->lean = 100;
+    for (unsigned s = 0; s <= MOST_SYMBOLS; s++) draft->leaning[s] = all || random_chance(random, 50);
+}
+
+/* A literal of symbols 1 to S that mostly leans. */
+static int leaning_literal(Draft *draft, unsigned symbol) {
+    bool plus = draft->leaning[symbol] == random_chance(&draft->random, draft->lean);
+    return plus ? (int)symbol : -(int)symbol;
+}
+
+/* A number that is no literal of symbols 1 to S. */
+int draw_bad_literal(Random *random, unsigned symbols) {
+    int beyond = (int)(symbols < MOST_SYMBOLS ? symbols : MOST_SYMBOLS) + 1;
+    switch (random_below(random, 6)) {
+    case 0: return 0;
+    case 1: return -32768;
+    case 2: return beyond;
+    case 3: return -beyond;
+    case 4: return random_chance(random, 50) ? 32767 : -32767;
+    default: return (int)random_between(random, (unsigned)beyond, 32767) * (random_chance(random, 50) ? 1 : -1);
+    }
+}
+
+/* A literal: one that leans, one of a row in use, or any. */
+int draw_literal(Draft *draft, const Play *play) {
+    Random *random = &draft->random;
+    const Board *board = &play->board;
+    unsigned most = board->symbols >= 1 && board->symbols <= MOST_SYMBOLS ? board->symbols : draft->symbols;
+    if (board->rows > 0 && board->rows <= MOST_ROWS && random_chance(random, 30)) {
+        int number = play->ours.table[GUARD + WIDTH * random_below(random, board->rows)];
+        if (number != 0) return number;
+    }
+    unsigned symbol = random_between(random, 1, most);
+    return random_chance(random, 60) ? leaning_literal(draft, symbol) : literal_at(2 * (symbol - 1) + random_below(random, 2));
+}
+
+/* A literal for explain or ground that is derived, mostly not held, if there is one. */
+static int draw_derived(Draft *draft, const Play *play, bool held_too) {
+    const Board *board = &play->board;
+    unsigned places[PLACES], count = 0;
+    if (!board_is_good(board, play->ours.table + GUARD, TABLE_LENDABLE)) return draw_literal(draft, play);
+    Findings found = propagate(board, play->ours.table + GUARD);
+    for (unsigned p = 0; p < 2 * board->symbols; p++)
+        if (derived(&found, p) && (held_too || !board->held[p])) places[count++] = p;
+    return count == 0 ? draw_literal(draft, play) : literal_at(places[random_below(&draft->random, count)]);
+}
+
+/* A literal for hold or withdraw that mostly passes. */
+static int draw_premise(Draft *draft, const Play *play, bool held) {
+    int literal = draw_literal(draft, play);
+    for (unsigned tries = 0; tries < 200 && literal >= -MOST_SYMBOLS && literal <= MOST_SYMBOLS && literal != 0; tries++) {
+        if (play->board.held[place_of(literal)] == held) return literal;
+        literal = draw_literal(draft, play);
+    }
+    return literal;
+}
+
+/* The literal that suits a call, or now and then none at all. */
+static void draw_given_literal(Draft *draft, const Play *play, Step *step) {
+    Random *random = &draft->random;
+    bool pass = random_chance(random, 75);
+    if (random_chance(random, 6)) {
+        step->value = draw_bad_literal(random, play->board.symbols);
+        step->faults++;
+    } else if ((step->kind == HOLD || step->kind == WITHDRAW) && pass) {
+        step->value = draw_premise(draft, play, step->kind == WITHDRAW);
+    } else if ((step->kind == EXPLAIN || step->kind == GROUND) && pass) {
+        step->value = draw_derived(draft, play, step->kind == GROUND && random_chance(random, 20));
+    } else {
+        step->value = draw_literal(draft, play);
+    }
+}
+
+/* Numbers of the clause table to lend: as usual, all, just the rows in use, a few more, or any. */
+static size_t draw_numbers(Draft *draft, const Play *play) {
+    Random *random = &draft->random;
+    size_t rows = play->board.rows <= MOST_ROWS ? play->board.rows : MOST_ROWS, odd = random_below(random, WIDTH);
+    unsigned sort = random_below(random, 100);
+    if (sort < 70) return draft->usual / WIDTH >= rows ? draft->usual : WIDTH * rows + odd;
+    if (sort < 75) return TABLE_LENDABLE;
+    if (sort < 78) return WIDTH * MOST_ROWS + odd;
+    if (sort < 90) return WIDTH * rows + odd;
+    if (sort < 98) return WIDTH * (rows + random_below(random, rows + 6 <= MOST_ROWS ? 6 : 1)) + odd;
+    return random_below(random, TABLE_LENDABLE + 1);
+}
+
+/* The length of one table to be written: enough, just enough, one short, or nothing. */
+static size_t draw_length(Draft *draft, Step *step, size_t need, size_t lendable) {
+    unsigned sort = random_below(&draft->random, 100);
+    size_t least = need < lendable ? need : lendable;
+    if (sort < 5 && least > 0) {
+        step->faults++;
+        return sort == 0 ? 0 : least - 1;
+    }
+    return sort < 40 ? least : random_between(&draft->random, (unsigned)least, (unsigned)lendable);
+}
+
+/* Lends the tables that the call writes. */
+static void draw_lengths(Draft *draft, const Play *play, Step *step) {
+    size_t symbols = play->board.symbols;
+    if (step->kind == SETTLE) {
+        step->lent[0] = draw_length(draft, step, symbols, LABELS_LENDABLE);
+        step->lent[1] = draw_length(draft, step, 2 * symbols, PLACES_LENDABLE);
+        step->lent[2] = draw_length(draft, step, 2 * symbols, PLACES_LENDABLE);
+    }
+    if (step->kind == GROUND || step->kind == BLAME) step->lent[0] = draw_length(draft, step, 2 * symbols, PLACES_LENDABLE);
+}
+
+/* Puts a formula that was written into the step; its bytes stay in the pool. */
+static void keep_formula(Draft *draft, Step *step, const Ink *ink) {
+    if (draft->pooled + ink->length > POOL) {
+        step->kind = ASK;
+        step->value = 1;
+        return;
+    }
+    memcpy(draft->pool + draft->pooled, ink->bytes, ink->length);
+    step->formula = draft->pool + draft->pooled;
+    step->bytes = ink->given;
+    step->standing = ink->length;
+    draft->pooled += ink->length;
+}
+
+/* Rows that the step's rule would add, or 0. */
+static size_t rows_needed(const Step *step, unsigned symbols) {
+    static int16_t rows[MOST_CLAUSES][WIDTH];
+    uint8_t different[MOST_SYMBOLS];
+    Reading reading = read_formula(step->formula, step->bytes, symbols);
+    if (reading.refusal != 0 || reading.used < step->bytes) return 0;
+    if (different_symbols(step->formula, step->bytes, different) > RULE_SYMBOLS) return 0;
+    Rule rule = rule_of(step->formula, step->bytes);
+    return rule.satisfying == 0 ? 0 : prime_rows(&rule, rows);
+}
+
+/* An ink for this sequence. */
+static void start_ink(Draft *draft, const Play *play, Ink *ink) {
+    unsigned symbols = play->board.symbols;
+    ink->random = &draft->random;
+    ink->leaning = draft->leaning;
+    ink->lean = draft->lean;
+    ink->symbols = symbols >= 1 && symbols <= MOST_SYMBOLS ? symbols : draft->symbols;
+}
+
+/* Writes the formula of a rule, and now and then lends just the table it needs, or one number less. */
+static void draw_rule(Draft *draft, const Play *play, Step *step) {
+    static Ink ink;
+    Random *random = &draft->random;
+    start_ink(draft, play, &ink);
+    write_formula(&ink, random_weighted(random, sort_weights[draft->style], SORTS));
+    if (random_chance(random, 16)) spoil_formula(&ink);
+    if (random_chance(random, 3)) append_noise(&ink);
+    keep_formula(draft, step, &ink);
+    if (step->kind != RULE || !random_chance(random, 12)) return;
+    size_t numbers = WIDTH * (play->board.rows + rows_needed(step, ink.symbols));
+    if (numbers > 0 && numbers <= WIDTH * MOST_ROWS)
+        step->numbers = random_chance(random, 50) ? numbers - 1 : numbers + random_below(random, WIDTH);
+}
+
+/* The count for open: good, or not. */
+static int draw_opening(Draft *draft) {
+    static const int bad[] = {0, 201, 65535, 255, 256, 32768};
+    if (random_chance(&draft->random, 80)) return (int)draft->symbols;
+    if (random_chance(&draft->random, 50)) return (int)random_between(&draft->random, 1, MOST_SYMBOLS);
+    return bad[random_below(&draft->random, 6)];
+}
+
+/* Fills in all that a call is given. */
+static void draw_call(Draft *draft, const Play *play, Step *step) {
+    step->numbers = draw_numbers(draft, play);
+    switch (step->kind) {
+    case OPEN: step->value = draw_opening(draft); break;
+    case RULE: draw_rule(draft, play, step); break;
+    case SETTLE: case BLAME: break;
+    default: draw_given_literal(draft, play, step);
+    }
+    draw_lengths(draft, play, step);
+}
+
+/* Adds one call with damage around it: any call but open, each as often. */
+static void add_damaged_call(Draft *draft, const Play *play) {
+    Step call = *add_step(draft, (Kind)random_between(&draft->random, RULE, BLAME)), undo[2];
+    unsigned undone = 0;
+    draft->count--;
+    draw_call(draft, play, &call);
+    call.damage = draw_damage(draft, play);
+    call.faults++;
+    add_damage(draft, play, (Damage)call.damage, &call, undo, &undone);
+    *add_step(draft, call.kind) = call;
+    while (undone > 0) *add_step(draft, undo[undone - 1].kind) = undo[undone - 1], undone--;
+}
+
+/* Adds one call; after a refused open mostly an open. */
+static void add_call(Draft *draft, const Play *play) {
+    Random *random = &draft->random;
+    if (random_chance(random, 3)) add_odd_bytes(draft, play);
+    if (play->board.symbols == 0 && random_chance(random, 70)) {
+        add_step(draft, OPEN)->value = (int)draft->symbols;
+    } else if (random_chance(random, 12)) {
+        add_damaged_call(draft, play);
+    } else {
+        bool later = draft->style != PACKED && (draft->calls < 12 || draft->style == ROWS || draft->style == FULL);
+        Step *step = add_step(draft, (Kind)random_weighted(random, call_weights[later], CALLS));
+        draw_call(draft, play, step);
+    }
+}
+
+/* Adds a rule "from implies to". */
+static void add_implication(Draft *draft, const Play *play, unsigned from, unsigned to) {
+    static Ink ink;
+    start_ink(draft, play, &ink);
+    write_implication(&ink, from, to);
+    keep_formula(draft, add_step(draft, RULE), &ink);
+}
+
+/* Adds a rule of a sort. */
+static void add_rule(Draft *draft, const Play *play, unsigned sort) {
+    static Ink ink;
+    start_ink(draft, play, &ink);
+    write_formula(&ink, sort);
+    keep_formula(draft, add_step(draft, RULE), &ink);
+}
+
+/* Adds a sound row of the caller's: literals that the leaning mostly makes false, but for one. */
+static void add_row(Draft *draft, unsigned symbols, unsigned most) {
+    Random *random = &draft->random;
+    Step *step = add_step(draft, APPEND_ROW);
+    unsigned length = random_between(random, random_chance(random, 3) ? 1 : 2, most), used = 0;
+    if (length > symbols) length = symbols;
+    unsigned head = random_below(random, length);
+    for (unsigned s = 1; s <= symbols && used < length; s++) {
+        if (random_below(random, symbols - s + 1) >= length - used) continue;
+        int literal = leaning_literal(draft, s);
+        step->row[used] = (int16_t)(used == head ? literal : -literal);
+        used++;
+    }
+}
+
+/* Adds a link of a chain as the caller's own row; a turn leads back along the opposites, to ranks up to 2S - 2. */
+static void add_link(Draft *draft, unsigned from, bool turn) {
+    Step *step = add_step(draft, APPEND_ROW);
+    step->row[0] = (int16_t)-(int)from;
+    step->row[1] = (int16_t)(turn ? -(int)(from + 1) : (int)(from + 1));
+}
+
+/* Sets up the style's rules or rows. */
+static void add_setup(Draft *draft, const Play *play) {
+    Random *random = &draft->random;
+    unsigned symbols = draft->symbols, most = random_chance(random, 60) ? 4 : 8;
+    bool links = random_chance(random, 50), falling = random_chance(random, 50);
+    for (unsigned i = 0; i < draft->setup; i++) {
+        unsigned from = falling ? symbols - i : i + 1, to = from < symbols ? from + 1 : 1;
+        switch (draft->style) {
+        case PLANTS: add_rule(draft, play, PLANT); break;
+        case PACKED: add_rule(draft, play, random_chance(random, 99) ? PARITY_OF_8 : WIDE); break;
+        case CIRCLE: add_implication(draft, play, from, to); break;
+        case CHAIN:
+            if (to == 1) break;
+            if (links) add_link(draft, from, false);
+            else add_implication(draft, play, from, to);
+            break;
+        default: add_row(draft, symbols, most);
+        }
+    }
+    if (draft->style == CHAIN && symbols > 1 && random_chance(random, 40)) add_link(draft, symbols - 1, true);
+}
+
+/* Holds a premise or two after setting up, so that there is something to derive. */
+static void add_premises(Draft *draft) {
+    for (unsigned n = random_below(&draft->random, 6); n > 0; n--) {
+        unsigned symbol = draft->style == CHAIN ? 1 : random_between(&draft->random, 1, draft->symbols);
+        Step *step = add_step(draft, HOLD);
+        step->value = draft->style == CHAIN ? 1 : leaning_literal(draft, symbol);
+    }
+}
+
+/* Adds the next steps of the sequence: opening, setting up, then call after call; false where it is at its end. */
+bool draft_next(Draft *draft, const Play *play) {
+    if (draft->count == 0) {
+        Step *step = add_step(draft, OPEN);
+        step->value = random_chance(&draft->random, 97) ? (int)draft->symbols : draw_opening(draft);
+    } else if (draft->setup > 0) {
+        add_setup(draft, play);
+        add_premises(draft);
+        draft->setup = 0;
+    } else if (draft->calls > 0 && draft->count + 40 < MOST_STEPS) {
+        add_call(draft, play);
+        draft->calls--;
+    } else {
+        return false;
+    }
+    return true;
+}

@@ -1,0 +1,54 @@
+/* The library's side of a step: each call with exactly what the step lends. */
+#include "steps.h"
+
+/* A pointer for a count; with a count of 0 it is null every other time. */
+#define LENT(pointer, count, step) ((count) == 0 && ((step)->noise & 1) ? NULL : (pointer))
+
+/* The outcome of a call that hands a board back. */
+static Outcome changed(tup_change change, tup_board *board) {
+    *board = change.board;
+    return (Outcome){.refusal = change.refusal};
+}
+
+/* Adds a rule. */
+static Outcome call_rule(const Step *step, tup_board *board, int16_t *table, const uint8_t *formula) {
+    tup_addition addition = tup_rule(*board, table, step->numbers, LENT(formula, step->bytes, step), step->bytes);
+    *board = addition.board;
+    return (Outcome){.refusal = addition.refusal, .added = addition.added};
+}
+
+/* Settles. */
+static Outcome call_settle(const Step *step, const tup_board *board, const int16_t *table, Tables *tables) {
+    const size_t *lent = step->lent;
+    return (Outcome){.refusal = tup_settle(*board, table, step->numbers,
+                                           LENT(tables->labels + GUARD, lent[0], step), lent[0],
+                                           LENT(tables->ranks + GUARD, lent[1], step), lent[1],
+                                           LENT(tables->supports + GUARD, lent[2], step), lent[2])};
+}
+
+/* Explains. */
+static Outcome call_explain(const Step *step, const tup_board *board, const int16_t *table) {
+    tup_reason reason = tup_explain(*board, table, step->numbers, (int16_t)step->value);
+    return (Outcome){.refusal = reason.refusal, .literals = reason.literals, .rank = reason.rank, .row = reason.row};
+}
+
+/* Makes the step's call on the library's board and tables. */
+Outcome library_call(const Step *step, tup_board *board, Tables *tables) {
+    int16_t *table = LENT(tables->table + GUARD, step->numbers, step);
+    uint8_t *marks = LENT(tables->marks + GUARD, step->lent[0], step);
+    int16_t literal = (int16_t)step->value;
+    tup_answer answer;
+    switch (step->kind) {
+    case OPEN: return changed(tup_open((uint16_t)step->value), board);
+    case RULE: return call_rule(step, board, table, tables->formula);
+    case HOLD: return changed(tup_hold(*board, table, step->numbers, literal), board);
+    case WITHDRAW: return changed(tup_withdraw(*board, table, step->numbers, literal), board);
+    case SETTLE: return call_settle(step, board, table, tables);
+    case ASK:
+        answer = tup_ask(*board, table, step->numbers, literal);
+        return (Outcome){.refusal = answer.refusal, .standing = answer.standing};
+    case EXPLAIN: return call_explain(step, board, table);
+    case GROUND: return (Outcome){.refusal = tup_ground(*board, table, step->numbers, literal, marks, step->lent[0])};
+    default: return (Outcome){.refusal = tup_blame(*board, table, step->numbers, marks, step->lent[0])};
+    }
+}

@@ -1,0 +1,176 @@
+/* The nine calls by document 01: what each tests, in its order, what it returns and what it writes. */
+#include "model.h"
+
+#include <string.h>
+
+/* Rows lent: length divided by 8, rounded down, never more than 2,048. */
+size_t rows_lent(size_t numbers) {
+    return numbers / WIDTH < MOST_ROWS ? numbers / WIDTH : MOST_ROWS;
+}
+
+/* True for a number that is a literal of symbols 1 to S. */
+static bool is_literal(int number, unsigned symbols) {
+    int symbol = number < 0 ? -number : number;
+    return symbol >= 1 && symbol <= (int)symbols;
+}
+
+/* A sound row: one to eight literals with strictly rising symbols, zeros after them. */
+static bool row_is_sound(const int16_t *row, unsigned symbols) {
+    unsigned length = 0;
+    while (length < WIDTH && row[length] != 0) length++;
+    if (length == 0) return false;
+    for (unsigned i = length; i < WIDTH; i++)
+        if (row[i] != 0) return false;
+    for (unsigned i = 0; i < length; i++)
+        if (!is_literal(row[i], symbols)) return false;
+    for (unsigned i = 1; i < length; i++)
+        if ((row[i - 1] < 0 ? -row[i - 1] : row[i - 1]) >= (row[i] < 0 ? -row[i] : row[i])) return false;
+    return true;
+}
+
+/* The test behind refusal 1. */
+bool board_is_good(const Board *board, const int16_t *table, size_t numbers) {
+    if (board->symbols < 1 || board->symbols > MOST_SYMBOLS) return false;
+    if (board->rows > rows_lent(numbers)) return false;
+    for (unsigned r = 0; r < board->rows; r++)
+        if (!row_is_sound(table + WIDTH * r, board->symbols)) return false;
+    for (unsigned p = 2 * board->symbols; p < PLACES; p++)
+        if (board->held[p]) return false;
+    return true;
+}
+
+/* An outcome with a refusal, or with 0 for a call that is done. */
+static Outcome outcome(unsigned refusal) {
+    return (Outcome){.refusal = refusal};
+}
+
+/* The tests 1 and 2 of the calls that are given a literal. */
+static unsigned literal_tests(const Board *board, const int16_t *table, size_t numbers, int literal) {
+    if (!board_is_good(board, table, numbers)) return 1;
+    return is_literal(literal, board->symbols) ? 0 : 2;
+}
+
+/* Opens a board; refused, it is the board with S = 0. */
+Outcome model_open(Board *board, unsigned symbols) {
+    bool good = symbols >= 1 && symbols <= MOST_SYMBOLS;
+    *board = (Board){.symbols = good ? symbols : 0};
+    return outcome(good ? 0 : 2);
+}
+
+/* The refusal of a formula by its bytes alone: 2 to 6, then 7. */
+static unsigned formula_tests(const uint8_t *formula, size_t bytes, unsigned symbols) {
+    uint8_t different[MOST_SYMBOLS];
+    Reading reading = read_formula(formula, bytes, symbols);
+    if (reading.refusal != 0) return reading.refusal;
+    if (reading.used < bytes) return 6;
+    return different_symbols(formula, bytes, different) > RULE_SYMBOLS ? 7 : 0;
+}
+
+/* Appends the prime implicates of a rule. */
+Outcome model_rule(Board *board, int16_t *table, size_t numbers, const uint8_t *formula, size_t bytes) {
+    static int16_t primes[MOST_CLAUSES][WIDTH];
+    if (!board_is_good(board, table, numbers)) return outcome(1);
+    unsigned refusal = formula_tests(formula, bytes, board->symbols);
+    if (refusal != 0) return outcome(refusal);
+    Rule rule = rule_of(formula, bytes);
+    if (rule.satisfying == 0) return outcome(8);
+    unsigned count = prime_rows(&rule, primes);
+    if (board->rows + count > rows_lent(numbers)) return outcome(9);
+    if (count != 0) memcpy(table + WIDTH * board->rows, primes, count * sizeof primes[0]);
+    board->rows += count;
+    return (Outcome){.added = count};
+}
+
+/* Puts a literal into the premises. */
+Outcome model_hold(Board *board, const int16_t *table, size_t numbers, int literal) {
+    unsigned refusal = literal_tests(board, table, numbers, literal);
+    if (refusal != 0) return outcome(refusal);
+    if (board->held[place_of(literal)]) return outcome(10);
+    board->held[place_of(literal)] = true;
+    return outcome(0);
+}
+
+/* Takes a literal out of the premises. */
+Outcome model_withdraw(Board *board, const int16_t *table, size_t numbers, int literal) {
+    unsigned refusal = literal_tests(board, table, numbers, literal);
+    if (refusal != 0) return outcome(refusal);
+    if (!board->held[place_of(literal)]) return outcome(11);
+    board->held[place_of(literal)] = false;
+    return outcome(0);
+}
+
+/* Writes labels, ranks and supports. */
+Outcome model_settle(const Board *board, const int16_t *table, size_t numbers, uint8_t *labels, size_t label_count,
+                     uint16_t *ranks, size_t rank_count, uint16_t *supports, size_t support_count) {
+    if (!board_is_good(board, table, numbers)) return outcome(1);
+    unsigned symbols = board->symbols;
+    if (label_count < symbols || rank_count < 2 * symbols || support_count < 2 * symbols) return outcome(13);
+    Findings found = propagate(board, table);
+    for (unsigned s = 1; s <= symbols; s++) labels[s - 1] = (uint8_t)label_of(&found, s);
+    for (unsigned p = 0; p < 2 * symbols; p++) {
+        ranks[p] = (uint16_t)found.rank[p];
+        supports[p] = (uint16_t)found.support[p];
+    }
+    return outcome(0);
+}
+
+/* How a literal stands. */
+Outcome model_ask(const Board *board, const int16_t *table, size_t numbers, int literal) {
+    unsigned refusal = literal_tests(board, table, numbers, literal);
+    if (refusal != 0) return outcome(refusal);
+    Findings found = propagate(board, table);
+    if (first_conflict(board, &found) != 0) return (Outcome){.standing = IN_CONFLICT};
+    if (derived(&found, place_of(literal))) return (Outcome){.standing = STANDS};
+    if (derived(&found, place_of(-literal))) return (Outcome){.standing = RULED_OUT};
+    return (Outcome){.standing = IS_OPEN};
+}
+
+/* Why a derived literal that is not held stands. */
+Outcome model_explain(const Board *board, const int16_t *table, size_t numbers, int literal) {
+    Outcome answer = {.rank = NONE, .row = NONE};
+    answer.refusal = literal_tests(board, table, numbers, literal);
+    if (answer.refusal != 0) return answer;
+    Findings found = propagate(board, table);
+    unsigned place = place_of(literal);
+    if (!derived(&found, place) || board->held[place]) {
+        answer.refusal = 12;
+        return answer;
+    }
+    answer.rank = found.rank[place];
+    answer.row = found.support[place];
+    const int16_t *row = table + WIDTH * answer.row;
+    while (answer.literals < WIDTH && row[answer.literals] != 0) answer.literals++;
+    return answer;
+}
+
+/* Writes the marks: 1 for each premise among the literals seen. */
+static void write_marks(const Board *board, const bool seen[PLACES], uint8_t *marks) {
+    for (unsigned p = 0; p < 2 * board->symbols; p++) marks[p] = seen[p] && board->held[p];
+}
+
+/* Marks the premises that a literal stands on. */
+Outcome model_ground(const Board *board, const int16_t *table, size_t numbers, int literal, uint8_t *marks, size_t mark_count) {
+    unsigned refusal = literal_tests(board, table, numbers, literal);
+    if (refusal != 0) return outcome(refusal);
+    if (mark_count < 2 * board->symbols) return outcome(13);
+    Findings found = propagate(board, table);
+    bool seen[PLACES] = {false};
+    if (!derived(&found, place_of(literal))) return outcome(12);
+    walk_back(board, table, &found, place_of(literal), seen);
+    write_marks(board, seen, marks);
+    return outcome(0);
+}
+
+/* Marks the premises behind the conflict of the lowest symbol. */
+Outcome model_blame(const Board *board, const int16_t *table, size_t numbers, uint8_t *marks, size_t mark_count) {
+    if (!board_is_good(board, table, numbers)) return outcome(1);
+    if (mark_count < 2 * board->symbols) return outcome(13);
+    Findings found = propagate(board, table);
+    unsigned symbol = first_conflict(board, &found);
+    bool seen[PLACES] = {false};
+    if (symbol == 0) return outcome(12);
+    walk_back(board, table, &found, place_of((int)symbol), seen);
+    walk_back(board, table, &found, place_of(-(int)symbol), seen);
+    write_marks(board, seen, marks);
+    return outcome(0);
+}

@@ -1,0 +1,89 @@
+/* Document 01 by brute force, for the independent second program.
+ *
+ * Written from docs/01-scope.md and include/tupahineka.h alone. No other code of the project was read for it: what this
+ * program and the library share is the document and nothing else. Slow and by definition, wherever a definition is there. */
+#ifndef MODEL_H
+#define MODEL_H
+
+#include <stdbool.h>
+#include <stddef.h>
+#include <stdint.h>
+
+enum {
+    MOST_SYMBOLS = 200,
+    PLACES = 400,        /* +s at 2(s-1), -s at the next */
+    WIDTH = 8,           /* numbers in a row */
+    MOST_ROWS = 2048,
+    NONE = 65535,        /* no rank, no support */
+    RULE_SYMBOLS = 8,    /* different symbols in a rule */
+    ASSIGNMENTS = 256,
+    MOST_CLAUSES = 6561, /* over eight symbols, the empty one included */
+    DEEPEST = 16         /* the depth an operand may stand at */
+};
+
+/* Answers to ask, by the numbers of the C interface. */
+enum { IS_OPEN, STANDS, RULED_OUT, IN_CONFLICT };
+
+typedef struct Board {
+    unsigned symbols, rows;
+    bool held[PLACES];
+} Board;
+
+/* What any call returns but its board; what a call does not return is 0. */
+typedef struct Outcome {
+    unsigned refusal, added, standing, literals, rank, row;
+} Outcome;
+
+/* How reading a formula ended: the refusal or 0, and the bytes used. */
+typedef struct Reading {
+    unsigned refusal;
+    size_t used;
+} Reading;
+
+/* What a rule says: its symbols in rising order, and whether each assignment (bit i for symbol[i]) satisfies it. */
+typedef struct Rule {
+    unsigned count, satisfying;
+    uint8_t symbol[RULE_SYMBOLS];
+    bool holds[ASSIGNMENTS];
+} Rule;
+
+/* What propagation finds, by place. */
+typedef struct Findings {
+    unsigned rank[PLACES], support[PLACES];
+} Findings;
+
+/* formula.c */
+Reading read_formula(const uint8_t *bytes, size_t length, unsigned symbols);
+unsigned different_symbols(const uint8_t *bytes, size_t used, uint8_t out[MOST_SYMBOLS]);
+Rule rule_of(const uint8_t *bytes, size_t used);
+
+/* implicates.c */
+unsigned prime_rows(const Rule *rule, int16_t rows[MOST_CLAUSES][WIDTH]);
+
+/* rounds.c */
+unsigned place_of(int literal);
+int literal_at(unsigned place);
+Findings propagate(const Board *board, const int16_t *table);
+bool derived(const Findings *found, unsigned place);
+unsigned label_of(const Findings *found, unsigned symbol);
+unsigned first_conflict(const Board *board, const Findings *found);
+void walk_back(const Board *board, const int16_t *table, const Findings *found, unsigned place, bool seen[PLACES]);
+
+/* model.c: the nine calls. */
+bool board_is_good(const Board *board, const int16_t *table, size_t numbers);
+size_t rows_lent(size_t numbers);
+Outcome model_open(Board *board, unsigned symbols);
+Outcome model_rule(Board *board, int16_t *table, size_t numbers, const uint8_t *formula, size_t bytes);
+Outcome model_hold(Board *board, const int16_t *table, size_t numbers, int literal);
+Outcome model_withdraw(Board *board, const int16_t *table, size_t numbers, int literal);
+Outcome model_settle(const Board *board, const int16_t *table, size_t numbers, uint8_t *labels, size_t label_count,
+                     uint16_t *ranks, size_t rank_count, uint16_t *supports, size_t support_count);
+Outcome model_ask(const Board *board, const int16_t *table, size_t numbers, int literal);
+Outcome model_explain(const Board *board, const int16_t *table, size_t numbers, int literal);
+Outcome model_ground(const Board *board, const int16_t *table, size_t numbers, int literal, uint8_t *marks, size_t mark_count);
+Outcome model_blame(const Board *board, const int16_t *table, size_t numbers, uint8_t *marks, size_t mark_count);
+
+/* byrule.c: demand 3's second way, without clauses. */
+void force_by_rules(const Rule *rules, size_t count, const bool held[PLACES], bool forced[PLACES]);
+
+#endif

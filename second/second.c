@@ -1,0 +1,102 @@
+/* The independent second program of Tupahineka: random sequences of calls, the library against document 01 by brute force.
+ *
+ * Written from docs/01-scope.md and include/tupahineka.h alone; no other code of the project was read for it.
+ *
+ *   second SEED COUNT               plays COUNT sequences and compares everything after every call
+ *   second show SEED NUMBER         prints sequence NUMBER in words, by the model alone
+ *   second journals DIR SEED COUNT  writes COUNT journals and what the journal program has to print for them */
+#include <signal.h>
+#include <stdio.h>
+#include <stdlib.h>
+#include <string.h>
+
+#include "cover.h"
+#include "document.h"
+#include "draw.h"
+#include "journal.h"
+
+enum { WHOLE_FROM = 2000 };
+
+static Play play;
+static Draft draft;
+static volatile unsigned long long now_seed, now_number;
+
+/* Says where the library ended the program, and ends it. */
+static void library_died(int number) {
+    printf("second: signal %d in sequence %llu; print it with: second show %llu %llu\n", number, now_number, now_seed, now_number);
+    fflush(stdout);
+    _Exit(3);
+}
+
+/* The noise in the clause table at the start of a sequence. */
+static uint64_t noise_for(uint64_t seed, uint64_t number) {
+    Random random = random_for(seed ^ 0x7461626C65, number);
+    return random_next(&random);
+}
+
+/* Prints a difference: where, the shortest sequence, both outcomes and the board. */
+static void report(uint64_t seed, uint64_t number) {
+    size_t before = draft.count, count = shrink(&play, draft.steps, draft.count, noise_for(seed, number));
+    const Step *last = &draft.steps[count - 1];
+    printf("second: a difference, seed %llu, sequence %llu\n", (unsigned long long)seed, (unsigned long long)number);
+    printf("  %zu steps, shrunk to the shortest that shows it, %zu:\n", before, count);
+    for (size_t i = 0; i < count; i++) print_step(&draft.steps[i], i + 1);
+    printf("  at step %zu, %s\n", count, play.difference);
+    print_outcome("library", last->kind, &play.library_last);
+    print_outcome("model", last->kind, &play.last);
+    print_board(&play, last->numbers);
+}
+
+/* Draws and plays one sequence; false at a difference. */
+static bool play_sequence(uint64_t seed, uint64_t number, bool with_library) {
+    size_t played = 0;
+    draft_start(&draft, seed, number);
+    play_start(&play, noise_for(seed, number), with_library);
+    while (draft_next(&draft, &play)) {
+        for (; played < draft.count; played++) {
+            if (!play_step(&play, &draft.steps[played])) {
+                draft.count = played + 1;
+                return false;
+            }
+            cover_step(&play, &draft.steps[played]);
+        }
+    }
+    return true;
+}
+
+/* Plays all sequences of a seed, then the boards that document 01 names. */
+static int play_all(uint64_t seed, uint64_t count) {
+    now_seed = seed;
+    for (uint64_t n = 0; n < count; n++) {
+        now_number = n;
+        if (play_sequence(seed, n, true)) continue;
+        report(seed, n);
+        return 1;
+    }
+    if (!document_agrees(&play)) return 1;
+    cover_print();
+    if (count >= WHOLE_FROM && !cover_is_whole()) return 2;
+    printf("second: %llu sequences, %lu calls, all agree\n", (unsigned long long)count, cover_calls());
+    return 0;
+}
+
+/* Prints one sequence without the library. */
+static int show(uint64_t seed, uint64_t number) {
+    play_sequence(seed, number, false);
+    for (size_t i = 0; i < draft.count; i++) print_step(&draft.steps[i], i + 1);
+    return 0;
+}
+
+/* Reads the options. */
+int main(int argc, char **argv) {
+    signal(SIGABRT, library_died);
+    signal(SIGSEGV, library_died);
+    signal(SIGILL, library_died);
+    signal(SIGFPE, library_died);
+    if (argc == 3) return play_all(strtoull(argv[1], NULL, 0), strtoull(argv[2], NULL, 0));
+    if (argc == 4 && strcmp(argv[1], "show") == 0) return show(strtoull(argv[2], NULL, 0), strtoull(argv[3], NULL, 0));
+    if (argc == 5 && strcmp(argv[1], "journals") == 0)
+        return write_journals(argv[2], strtoull(argv[3], NULL, 0), strtoull(argv[4], NULL, 0));
+    fprintf(stderr, "second SEED COUNT | second show SEED NUMBER | second journals DIR SEED COUNT\n");
+    return 2;
+}

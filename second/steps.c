@@ -1,0 +1,124 @@
+/* Playing one step on both sides and comparing them. */
+#include "steps.h"
+
+#include <string.h>
+
+#include "random.h"
+
+/* Sound rows from row 2,048 on, which no call may take for rows lent. */
+static void past_the_last_row(Tables *tables) {
+    for (unsigned place = WIDTH * MOST_ROWS; place < TABLE_LENDABLE; place++)
+        tables->table[GUARD + place] = place % WIDTH == 0;
+}
+
+/* Both sides alike: no board, and noise in every place of every table. */
+void play_start(Play *play, uint64_t seed, bool with_library) {
+    play->with_library = with_library;
+    play->board = (Board){0};
+    play->library_board = (tup_board){0};
+    play->book.count = play->book.rows = play->book.symbols = 0;
+    play->last = (Outcome){0};
+    play->demand_3 = false;
+    play->difference[0] = 0;
+    random_fill(seed, play->ours.table, sizeof play->ours.table);
+    if (seed % 2 == 0) past_the_last_row(&play->ours);
+    memcpy(play->theirs.table, play->ours.table, sizeof play->ours.table);
+}
+
+/* Fresh noise in the tables that calls write, and the formula with what stands after it, on both sides. */
+static void lend(Play *play, const Step *step) {
+    Tables *ours = &play->ours, *theirs = &play->theirs;
+    size_t from = offsetof(Tables, ranks), bytes = offsetof(Tables, formula) - from;
+    random_fill(step->noise, (char *)ours + from, bytes);
+    memcpy((char *)theirs + from, (char *)ours + from, bytes);
+    if (step->kind != RULE) return;
+    memcpy(ours->formula, step->formula, step->standing);
+    memcpy(theirs->formula, step->formula, step->standing);
+}
+
+/* The model's side of a call. */
+static Outcome model_call(const Step *step, Board *board, Tables *tables) {
+    int16_t *table = tables->table + GUARD;
+    uint8_t *marks = tables->marks + GUARD;
+    switch (step->kind) {
+    case OPEN: return model_open(board, (unsigned)step->value);
+    case RULE: return model_rule(board, table, step->numbers, tables->formula, step->bytes);
+    case HOLD: return model_hold(board, table, step->numbers, step->value);
+    case WITHDRAW: return model_withdraw(board, table, step->numbers, step->value);
+    case SETTLE:
+        return model_settle(board, table, step->numbers, tables->labels + GUARD, step->lent[0], tables->ranks + GUARD,
+                            step->lent[1], tables->supports + GUARD, step->lent[2]);
+    case ASK: return model_ask(board, table, step->numbers, step->value);
+    case EXPLAIN: return model_explain(board, table, step->numbers, step->value);
+    case GROUND: return model_ground(board, table, step->numbers, step->value, marks, step->lent[0]);
+    default: return model_blame(board, table, step->numbers, marks, step->lent[0]);
+    }
+}
+
+/* The caller appends a row of his own, on one side. */
+static void append_row(const Step *step, unsigned rows, Tables *tables) {
+    memcpy(tables->table + GUARD + WIDTH * rows, step->row, sizeof step->row);
+}
+
+/* What the caller does himself, on both sides. */
+static void caller_acts(Play *play, const Step *step) {
+    Board *board = &play->board;
+    tup_board *theirs = &play->library_board;
+    switch (step->kind) {
+    case SET_SYMBOLS: board->symbols = theirs->symbols = (uint16_t)step->value; break;
+    case SET_ROWS: board->rows = theirs->rows = (uint16_t)step->value; break;
+    case SET_HELD:
+        board->held[step->place] = step->value != 0;
+        theirs->held[step->place] = (uint8_t)step->value;
+        break;
+    case SET_NUMBER:
+        play->ours.table[GUARD + step->place] = play->theirs.table[GUARD + step->place] = (int16_t)step->value;
+        break;
+    default:
+        if (board->rows >= MOST_ROWS) break;
+        append_row(step, board->rows, &play->ours);
+        append_row(step, board->rows, &play->theirs);
+        board->rows = theirs->rows = (uint16_t)(board->rows + 1);
+    }
+}
+
+/* Keeps the book of rules: a good open starts it, an accepted rule goes in with its rows. */
+static void keep_book(Play *play, const Step *step, const Outcome *outcome) {
+    Book *book = &play->book;
+    if (outcome->refusal != 0) return;
+    if (step->kind == OPEN) {
+        book->symbols = play->board.symbols;
+        book->rows = 0;
+        book->count = 0;
+    } else if (step->kind == RULE && book->rows + outcome->added <= MOST_ROWS) {
+        const int16_t *rows = play->ours.table + GUARD + WIDTH * (play->board.rows - outcome->added);
+        book->rules[book->count++] = rule_of(step->formula, step->bytes);
+        memcpy(book->written + WIDTH * book->rows, rows, outcome->added * WIDTH * sizeof rows[0]);
+        book->rows += outcome->added;
+    }
+}
+
+/* True if the rows in use are those that the rules in the book wrote, and nobody else's. */
+bool book_covers(const Play *play) {
+    const Book *book = &play->book;
+    return book->symbols != 0 && play->board.symbols == book->symbols && play->board.rows == book->rows &&
+           memcmp(play->ours.table + GUARD, book->written, book->rows * WIDTH * sizeof book->written[0]) == 0;
+}
+
+/* Plays one step on both sides; false if they differ, with the difference in words. */
+bool play_step(Play *play, const Step *step) {
+    play->demand_3 = false;
+    if (step->kind >= CALLS) {
+        caller_acts(play, step);
+        return true;
+    }
+    lend(play, step);
+    play->last = model_call(step, &play->board, &play->ours);
+    if (play->with_library) {
+        play->library_last = library_call(step, &play->library_board, &play->theirs);
+        if (!same_everywhere(play, step, &play->last, &play->library_last)) return false;
+    }
+    keep_book(play, step, &play->last);
+    play->demand_3 = step->kind == SETTLE && play->last.refusal == 0 && book_covers(play);
+    return !play->demand_3 || same_by_rules(play);
+}

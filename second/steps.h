@@ -1,0 +1,94 @@
+/* One step of a sequence, with every number it needs in it, so that any step can be dropped and the rest played again. */
+#ifndef STEPS_H
+#define STEPS_H
+
+#include "model.h"
+#include "tupahineka.h"
+
+enum {
+    GUARD = 32,                                /* places before and after what can be lent */
+    TABLE_LENDABLE = MOST_ROWS * WIDTH + 43,   /* more than 2,048 rows, and not a whole number of them */
+    LABELS_LENDABLE = MOST_SYMBOLS + 9,
+    PLACES_LENDABLE = PLACES + 9,
+    FORMULA_LENDABLE = 4096,
+    MOST_STEPS = 2600
+};
+
+/* The nine calls, then what the caller may do between them. */
+typedef enum Kind {
+    OPEN, RULE, HOLD, WITHDRAW, SETTLE, ASK, EXPLAIN, GROUND, BLAME,
+    CALLS,
+    SET_SYMBOLS = CALLS, /* the caller writes S = value into the board */
+    SET_ROWS,            /* the caller writes rows in use = value */
+    SET_HELD,            /* the caller writes the byte value at place */
+    SET_NUMBER,          /* the caller writes the number value at a place of the clause table */
+    APPEND_ROW,          /* the caller writes a row of his own after the rows in use, and counts it in */
+    KINDS
+} Kind;
+
+typedef struct Step {
+    Kind kind;
+    int value;
+    unsigned place;
+    int16_t row[WIDTH];
+    size_t numbers;          /* numbers of the clause table lent */
+    size_t lent[3];          /* labels, ranks and supports; or marks */
+    const uint8_t *formula;
+    size_t bytes, standing;  /* bytes given, and bytes that stand there: those past the given ones must not be read */
+    uint64_t noise;          /* what stands in the tables to be written, before the call */
+    unsigned damage, faults; /* for the counts only: what was spoilt ahead of this call, and how many things */
+} Step;
+
+/* Everything that can be lent, with its guards. */
+typedef struct Tables {
+    int16_t table[GUARD + TABLE_LENDABLE + GUARD];
+    uint16_t ranks[GUARD + PLACES_LENDABLE + GUARD];
+    uint16_t supports[GUARD + PLACES_LENDABLE + GUARD];
+    uint8_t labels[GUARD + LABELS_LENDABLE + GUARD];
+    uint8_t marks[GUARD + PLACES_LENDABLE + GUARD];
+    uint8_t formula[FORMULA_LENDABLE];
+} Tables;
+
+/* The rules accepted since the last good open and the rows they wrote. */
+typedef struct Book {
+    unsigned symbols, rows;
+    size_t count;
+    Rule rules[MOST_STEPS];
+    int16_t written[MOST_ROWS * WIDTH];
+} Book;
+
+/* A sequence in play: the model's side, the library's side, and the book of rules. */
+typedef struct Play {
+    bool with_library;
+    Board board;
+    tup_board library_board;
+    Tables ours, theirs;
+    Book book;
+    Outcome last, library_last;
+    bool demand_3;           /* compared at the last step */
+    char difference[240];    /* empty, or the first difference in words */
+} Play;
+
+/* steps.c */
+void play_start(Play *play, uint64_t seed, bool with_library);
+bool play_step(Play *play, const Step *step);
+bool book_covers(const Play *play);
+
+/* library.c */
+Outcome library_call(const Step *step, tup_board *board, Tables *tables);
+
+/* compare.c */
+bool same_everywhere(Play *play, const Step *step, const Outcome *ours, const Outcome *theirs);
+bool same_by_rules(Play *play);
+
+/* words.c */
+const char *kind_word(Kind kind);
+void print_step(const Step *step, size_t ordinal);
+void print_outcome(const char *who, Kind kind, const Outcome *outcome);
+void print_board(const Play *play, size_t numbers);
+
+/* shrink.c */
+size_t replay(Play *play, const Step *steps, size_t count, uint64_t seed);
+size_t shrink(Play *play, Step *steps, size_t count, uint64_t seed);
+
+#endif

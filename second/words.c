@@ -1,0 +1,104 @@
+/* Steps, formulae, boards and outcomes in readable words. */
+#include <stdio.h>
+
+#include "steps.h"
+
+static const char *const words[KINDS] = {"open",   "rule",   "hold",  "withdraw",     "settle",         "ask",          "explain",
+                                         "ground", "blame",  "set S", "set rows used", "set a held byte", "set a number", "append a row"};
+
+/* The word for a kind of step. */
+const char *kind_word(Kind kind) {
+    return words[kind];
+}
+
+/* Prints the operand at *at in brackets, and ??? where it is no formula. */
+static void print_operand(const uint8_t *bytes, size_t length, size_t *at, unsigned depth) {
+    static const char *const joints[] = {" and ", " or ", " implies ", " same "};
+    if (*at >= length || depth > DEEPEST) {
+        printf("???");
+        *at = length;
+        return;
+    }
+    uint8_t kind = bytes[(*at)++];
+    if (kind == 0x10 && *at < length) {
+        printf("%u", bytes[(*at)++]);
+    } else if (kind == 0x11) {
+        printf("not ");
+        print_operand(bytes, length, at, depth + 1);
+    } else if (kind >= 0x12 && kind <= 0x15) {
+        printf("(");
+        print_operand(bytes, length, at, depth + 1);
+        printf("%s", joints[kind - 0x12]);
+        print_operand(bytes, length, at, depth + 1);
+        printf(")");
+    } else {
+        printf("???");
+        *at = length;
+    }
+}
+
+/* Prints a formula in words and in bytes. */
+static void print_formula(const Step *step) {
+    size_t at = 0;
+    print_operand(step->formula, step->bytes, &at, 1);
+    printf("; %zu bytes", step->bytes);
+    for (size_t i = 0; i < step->bytes && i < 200; i++) printf(" %02X", step->formula[i]);
+    if (step->standing > step->bytes) printf(" (bytes of the caller's go on after them)");
+}
+
+/* Prints the literals of a row. */
+static void print_row(const int16_t *row) {
+    unsigned last = WIDTH;
+    while (last > 0 && row[last - 1] == 0) last--;
+    for (unsigned i = 0; i < last; i++) printf(" %d", row[i]);
+    if (last == 0) printf(" (nothing but zeros)");
+}
+
+/* Prints what a call is lent. */
+static void print_lent(const Step *step) {
+    if (step->kind != OPEN) printf("; table of %zu numbers (%zu rows)", step->numbers, rows_lent(step->numbers));
+    if (step->kind == SETTLE) printf("; %zu labels, %zu ranks, %zu supports lent", step->lent[0], step->lent[1], step->lent[2]);
+    if (step->kind == GROUND || step->kind == BLAME) printf("; %zu marks lent", step->lent[0]);
+}
+
+/* Prints a step on a line of its own. */
+void print_step(const Step *step, size_t ordinal) {
+    printf("  %zu. ", ordinal);
+    switch (step->kind) {
+    case SET_SYMBOLS: printf("the caller sets S to %d", step->value); break;
+    case SET_ROWS: printf("the caller sets rows in use to %d", step->value); break;
+    case SET_HELD: printf("the caller sets the held byte of %d to %d", literal_at(step->place), step->value); break;
+    case SET_NUMBER: printf("the caller sets row %u, place %u of it, to %d", step->place / WIDTH, step->place % WIDTH, step->value); break;
+    case APPEND_ROW: printf("the caller appends the row"), print_row(step->row); break;
+    case RULE: printf("rule "), print_formula(step), print_lent(step); break;
+    case SETTLE: case BLAME: printf("%s", words[step->kind]), print_lent(step); break;
+    default: printf("%s %d", words[step->kind], step->value), print_lent(step);
+    }
+    printf("\n");
+}
+
+/* Prints what a call returned. */
+void print_outcome(const char *who, Kind kind, const Outcome *outcome) {
+    static const char *const standings[] = {"open", "stands", "ruled out", "conflict"};
+    printf("  %s: ", who);
+    if (outcome->refusal != 0) printf("refusal %u", outcome->refusal);
+    else if (kind == RULE) printf("%u rows added", outcome->added);
+    else if (kind == ASK) printf("%s", outcome->standing < 4 ? standings[outcome->standing] : "no standing");
+    else if (kind == EXPLAIN) printf("rank %u, row %u of %u literals", outcome->rank, outcome->row, outcome->literals);
+    else printf("done");
+    printf("\n");
+}
+
+/* Prints the model's board and rows in use. */
+void print_board(const Play *play, size_t numbers) {
+    const Board *board = &play->board;
+    printf("  board by the model: S %u, rows in use %u, held", board->symbols, board->rows);
+    for (unsigned p = 0; p < PLACES; p++)
+        if (board->held[p]) printf(" %d", literal_at(p));
+    printf("\n");
+    for (unsigned r = 0; r < board->rows && r < rows_lent(numbers) && r < 40; r++) {
+        printf("    row %u:", r);
+        print_row(play->ours.table + GUARD + WIDTH * r);
+        printf("\n");
+    }
+}

@@ -1,0 +1,39 @@
+#!/usr/bin/env bash
+# Proves and builds the C boundary, and runs what stands on it: the trend demo, the independent second program, and the journals that
+# the second program writes. SEED and COUNT choose the second program's sequences.
+set -euo pipefail
+cd "$(dirname "$0")/.."
+. tools/kit.sh
+if [ -z "$(c_compiler)" ]; then
+    say "no C compiler for x86-64 programs here: the demo and the second program are not run (the proofs need none)"
+    exit 0
+fi
+quietly rt staticlib panel
+room=$(mktemp -d)
+trap 'rm -rf "$room"' EXIT
+
+# the demo's text is stored; its picture is written and not compared
+build_c target/trend examples/trend.c
+run_c target/trend "$room/trend.svg" >"$room/trend.txt"
+diff "$room/trend.txt" examples/trend.expected
+grep -q 'TC-3 struck off 03:10' "$room/trend.svg"
+echo "demo: it printed what examples/trend.expected has, and drew the shift"
+
+build_c target/second second/*.c
+run_c target/second "${SEED:-1}" "${COUNT:-20000}"
+
+# the journals of the second program, by the proved journal
+quietly rt check journal
+mkdir "$room/journals"
+run_c target/second journals "$room/journals" "${SEED:-1}" 300
+ran=0
+for input in "$room"/journals/*.in; do
+    run_x86 target/bin/journal <"$input" >"$room/wrote"
+    if ! cmp -s "$room/wrote" "${input%.in}.out"; then
+        echo "journal: the second program's $(basename "$input") prints something else:"
+        diff "$room/wrote" "${input%.in}.out" | head -10
+        exit 1
+    fi
+    ran=$((ran + 1))
+done
+echo "journal: $ran journals of the second program, all as it expects"
