@@ -114,7 +114,7 @@ too-many S (good f used) {r} g e h = go (leb (length (symbolsOf S f)) 8) refl e
 
 -- ---- the truth table
 
-pub truth-is : (S : ℕ) (p : Parsed) → isGood p ≡ true
+truth-is : (S : ℕ) (p : Parsed) → isGood p ≡ true
     → truthOf (symbolsOf S (formulaOf p)) p ≡ map (ruleOf S (formulaOf p) .accepts) (assignments (length (symbolsOf S (formulaOf p))))
 unfolding truthOf
 truth-is S (good f used) g = refl
@@ -129,12 +129,13 @@ module _ (S : ℕ) (bytes names : List ℕ) (truth : List Bool) (g : isGood (who
   table-is : truth ≡ map (rule .accepts) (assignments (length (rule .symbols)))
   table-is = t ∙ ap₂ truthOf e (sym (whole-is S bytes g)) ∙ truth-is S (wholeOf S bytes) g
 
-  pub answer-is : (used lent : ℕ) → answerOf (ruleBy names truth) used lent ≡ answerOf (ruleOf S (formulaOf (wholeOf S bytes))) used lent
-  answer-is used lent = rw e (answer-by-table rule truth table-is used lent)
+  pub answer-is : (used : ℕ) {lent all : ℕ} {answer : Appended} → lent ≡ all → answer ≡ answerOf (ruleBy names truth) used lent
+      → answer ≡ answerOf (ruleOf S (formulaOf (wholeOf S bytes))) used all
+  answer-is used {all = all} l a = a ∙ rw (l, e) (answer-by-table rule truth table-is used all)
 
-  pub append-is : (used lent : ℕ) (table : List ℤ)
-      → tableOf (ruleBy names truth) used lent table ≡ tableOf (ruleOf S (formulaOf (wholeOf S bytes))) used lent table
-  append-is used lent table = rw e (append-by-table rule truth table-is used lent table)
+  pub append-is : (used : ℕ) (table : List ℤ) {lent all : ℕ} {after : List ℤ} → lent ≡ all → after ≡ tableOf (ruleBy names truth) used lent table
+      → after ≡ tableOf (ruleOf S (formulaOf (wholeOf S bytes))) used all table
+  append-is used table {all = all} l a = a ∙ rw (l, e) (append-by-table rule truth table-is used all table)
 
 -- ---- what appending comes to, and why
 

@@ -41,13 +41,14 @@ module _ (table : List ℤ) (b : Board) (marks : List ℕ) where
     unfolding groundMarks
     ground-refused why e = (sym e, rw e)
 
-    pub ground-done : (p : ℕ) → p ≡ placeOf l → groundOutcome table b l marks ≡ Done
-        → (Done ≡ groundOutcome table b l marks) × (map byteOf (reachedOn table b p p) ++ drop (2 * b .symbols) marks ≡ groundMarks table b l marks)
+    pub ground-done : (p : ℕ) {after : List ℕ} → p ≡ placeOf l → groundOutcome table b l marks ≡ Done
+        → after ≡ map byteOf (reachedOn table b p p) ++ drop (2 * b .symbols) marks
+        → (Done ≡ groundOutcome table b l marks) × (after ≡ groundMarks table b l marks)
     unfolding groundMarks ground reachedOn
-    ground-done p at e =
+    ground-done p at e is =
         let one : tabulate (2 * b .symbols) (λ h. reach p h || reach p h) ≡ tabulate (2 * b .symbols) (reach (placeOf l)) =
         tabulate-same false (2 * b .symbols) (2 * b .symbols) (λ h. reach p h || reach p h) (reach (placeOf l)) refl (λ h k. or-same (reach p h) ∙ ap (λ q. reach q h) at) in
-        (sym e, rw (e, one) (over-front (2 * b .symbols) (reach (placeOf l)) marks))
+        (sym e, is ∙ rw (e, one) (over-front (2 * b .symbols) (reach (placeOf l)) marks))
 
   -- ---- blame
 
@@ -56,9 +57,10 @@ module _ (table : List ℤ) (b : Board) (marks : List ℕ) where
   unfolding blameMarks
   blame-refused why e = (sym e, rw e)
 
-  pub blame-done : (s : ℕ) → 2 * b .symbols < none → s ≡ first (clashIn (ranksOf (2 * b .symbols) (rowsOn table b) (b .held))) (b .symbols) → blameOutcome table b marks ≡ Done
-      → (Done ≡ blameOutcome table b marks) × (map byteOf (reachedOn table b (2 * s) (2 * s + 1)) ++ drop (2 * b .symbols) marks ≡ blameMarks table b marks)
+  pub blame-done : (s : ℕ) {after : List ℕ} → 2 * b .symbols < none → s ≡ first (clashIn (ranksOf (2 * b .symbols) (rowsOn table b) (b .held))) (b .symbols) → blameOutcome table b marks ≡ Done
+      → after ≡ map byteOf (reachedOn table b (2 * s) (2 * s + 1)) ++ drop (2 * b .symbols) marks
+      → (Done ≡ blameOutcome table b marks) × (after ≡ blameMarks table b marks)
   unfolding blameMarks blame reachedOn
-  blame-done s small is e =
+  blame-done s small at e is =
       let pair : 2 * (suc s - 1) ≡ 2 * s = omega arith in
-      (sym e, rw (e, sym (blamed-is (b .symbols) rows (b .held) small), ← is, pair) (over-front (2 * b .symbols) (λ h. reach (2 * s) h || reach (2 * s + 1) h) marks))
+      (sym e, is ∙ rw (e, sym (blamed-is (b .symbols) rows (b .held) small), ← at, pair) (over-front (2 * b .symbols) (λ h. reach (2 * s) h || reach (2 * s + 1) h) marks))

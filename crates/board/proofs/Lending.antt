@@ -1,12 +1,13 @@
 -- The board's ranks at the front of an array: lent to be filled, and lent again to be read.
 use mathlib.Core.Path.{_≡_, sym, ap, _∙_}
+use mathlib.Core.Bool.{Bool}
 use mathlib.Core.List.{List, _++_}
 use Prim.Native.Nat.{ℕ, _*_, _≤_, _<_}
 use native.Mathlib.Omega.{arith}
 use lib.IntN.{ℤ}
 use lib.ListN.{length, take, getD, length-append}
 use lib.Seq.{length-take-le, take-at, getD-take}
-use Rattle.meaning.specs.Rounds.{rankOf, ranksOf}
+use Rattle.meaning.specs.Rounds.{rankOf, ranksOf, rankAbove}
 use Rattle.rounds.specs.Ranks.{Fit}
 use Rattle.board.specs.Ranking.{rowsOn, tooHigh, ranked}
 use Rattle.board.specs.declared.Board.{Board}
@@ -22,6 +23,14 @@ module _ (table : List ℤ) (b : Board) (big : List ℕ) (room : 2 * b .symbols 
 
   pub rows-fit : Good table b → Fit (length (take (2 * b .symbols) big)) (b .rows) table
   rows-fit g = (b .symbols, part-long, g .sound)
+
+  -- and so filled
+  pub filled-is : {filled : List ℕ} → filled ≡ ranksOf (length (take (2 * b .symbols) big)) (rowsOn table b) (b .held)
+      → filled ≡ ranksOf (2 * b .symbols) (rowsOn table b) (b .held)
+  filled-is e = e ∙ ap (λ n. ranksOf n (rowsOn table b) (b .held)) part-long
+
+  pub high-is : {high : Bool} → high ≡ rankAbove (length (take (2 * b .symbols) big)) (rowsOn table b) (b .held) → high ≡ tooHigh table b
+  high-is e = e ∙ ap (λ n. rankAbove n (rowsOn table b) (b .held)) part-long
 
 -- ---- lent to be read
 

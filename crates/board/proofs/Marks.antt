@@ -77,10 +77,14 @@ any-marked marks n p q h k is f = same-test _ (f p || f q) to back
         (one-true (f p) (f q) e)
 
 module _ (table : List ℤ) (b : Board) (room p q : ℕ) (fits : 2 * b .symbols ≤ room) (h : p < 2 * b .symbols) (k : q < 2 * b .symbols) where
-  pub reached-two : reachedFrom (2 * b .symbols) (rowsOn table b) (b .held) (take (2 * b .symbols) (marksAt room p q)) ≡ reachedOn table b p q
+  two-reach : reachedFrom (2 * b .symbols) (rowsOn table b) (b .held) (take (2 * b .symbols) (marksAt room p q)) ≡ reachedOn table b p q
   unfolding reachedFrom reachedOn
-  reached-two =
+  two-reach =
       tabulate-same false (2 * b .symbols) (2 * b .symbols) _ _ refl
       (λ x l. any-marked (take (2 * b .symbols) (marksAt room p q)) (2 * b .symbols) p q h k
       (λ y m. getD-take (2 * b .symbols) (marksAt room p q) y false m ∙ marks-are room p q y (omega arith) (omega arith))
       (λ y. reaches (2 * b .symbols) (rowsOn table b) (b .held) y x))
+
+  pub reached-two : {n : ℕ} {after : List Bool} → n ≡ 2 * b .symbols
+      → after ≡ reachedFrom n (rowsOn table b) (b .held) (take (2 * b .symbols) (marksAt room p q)) → after ≡ reachedOn table b p q
+  reached-two e is = is ∙ rw e two-reach

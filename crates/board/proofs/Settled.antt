@@ -44,13 +44,13 @@ module _ (table : List ℤ) (b : Board) (labels ranks supports : List ℕ) where
     long : length own ≡ 2 * b .symbols
     long = ap length is ∙ length-ranksOf (2 * b .symbols) rows (b .held)
 
-    pub settle-done : settleOutcome table b labels ranks supports ≡ Done
-        → Settled Done (labelsFrom (b .symbols) own ++ drop (b .symbols) labels) (own ++ drop (length own) ranks) (supportsFrom rows own ++ drop (length own) supports)
+    pub settle-done : {l r s : List ℕ} → settleOutcome table b labels ranks supports ≡ Done → l ≡ labelsFrom (b .symbols) own ++ drop (b .symbols) labels
+        → r ≡ own ++ drop (length own) ranks → s ≡ supportsFrom (rowsOn table b) own ++ drop (length own) supports → Settled Done l r s
     unfolding settledLabels settledRanks settledSupports
-    settle-done e = (
+    settle-done e el er es = (
       sym e,
       (
-        rw (e, is, labelsFrom-is (b .symbols) rows (b .held) small, length-labels),
-        (rw (e, is), rw (e, long, is, supportsFrom-is (2 * b .symbols) rows (b .held) small, length-supports)),
+        el ∙ rw (e, is, labelsFrom-is (b .symbols) rows (b .held) small, length-labels),
+        (er ∙ rw (e, is), es ∙ rw (e, long, is, supportsFrom-is (2 * b .symbols) rows (b .held) small, length-supports)),
       ),
     )

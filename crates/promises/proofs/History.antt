@@ -30,7 +30,7 @@ pub record Keeps (w : World) (fs : List Formula) : Type 0 where
   pub fine : all (accepted (w .board .symbols)) fs ≡ true
 
 -- a call is done or refused
-done-or-refused : (o : Outcome) → (o ≡ Done) ⊎ ((why : Refusal) × (o ≡ Refused why))
+pub done-or-refused : (o : Outcome) → (o ≡ Done) ⊎ ((why : Refusal) × (o ≡ Refused why))
 done-or-refused Done = inl refl
 done-or-refused (Refused why) = inr (why, refl)
 

@@ -10,7 +10,7 @@ use Rattle.meaning.proofs.Tables.{tabulate-same}
 use Rattle.literals.specs.Row.{width, numbersAt, decode, rowsIn}
 
 module _ (front rest : List ℤ) where
-  numbers-front : (r : ℕ) → width * r + width ≤ length front → numbersAt (front ++ rest) r ≡ numbersAt front r
+  pub numbers-front : (r : ℕ) → width * r + width ≤ length front → numbersAt (front ++ rest) r ≡ numbersAt front r
   unfolding numbersAt
   numbers-front r h =
       ap (take width) (drop-append-le (width * r) front rest (omega arith))

@@ -7,5 +7,6 @@ pub mod Stored
 pub mod Told
 pub mod Explained
 mod History
+pub mod Good
 pub mod Ways
 mod Boards

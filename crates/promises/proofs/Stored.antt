@@ -55,17 +55,17 @@ rows-written (row ∷ rows) rest few =
 
 -- rows appended to a table stand after those that it had
 module _ (table rest : List ℤ) (used : ℕ) (rows : List (List ℕ)) (room : width * (used + length rows) ≤ length table) where
-  abbrev kept : List ℤ
+  abbrev pub kept : List ℤ
   kept = take (width * used) table
 
-  abbrev after-them : List ℤ
+  abbrev pub after-them : List ℤ
   after-them = drop (width * used + length (encodeAll rows)) table ++ rest
 
-  whole : appended table used rows ++ rest ≡ kept ++ (encodeAll rows ++ after-them)
+  pub whole : appended table used rows ++ rest ≡ kept ++ (encodeAll rows ++ after-them)
   unfolding appended
   whole = simp append-assoc
 
-  kept-long : length kept ≡ width * used
+  pub kept-long : length kept ≡ width * used
   kept-long = length-take-le (width * used) table (omega arith)
 
   before : rowsIn used (kept ++ (encodeAll rows ++ after-them)) ≡ rowsIn used table

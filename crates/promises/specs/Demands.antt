@@ -1,11 +1,13 @@
 -- The three demands, each as a type. `proofs/` has a proof of each, under the same name in small letters.
 use mathlib.Core.Path.{_≡_}
 use mathlib.Core.Logic.{_↔_, _⊎_}
-use mathlib.Core.Bool.{Bool, true, false, cond}
+use mathlib.Core.Bool.{Bool, true, false, cond, _&&_}
 use mathlib.Core.List.{List, [], _∷_, _++_, map}
 use Prim.Native.Nat.{ℕ, _-_, _*_, _≤_, _<_}
+use lib.Dec.{leb}
 use lib.IntN.{ℤ}
 use lib.ListN.{take, drop, getD}
+use Rattle.meaning.specs.Tests.{all}
 use Rattle.meaning.specs.Literals.{place, conflict}
 use Rattle.meaning.specs.Formulae.{Formula, ruleOf}
 use Rattle.meaning.specs.Clauses.{rowsOf}
@@ -16,7 +18,7 @@ use Rattle.meaning.specs.Promises.{Derived, Forced, TwoWays}
 use Rattle.literals.specs.Literal.{placeOf}
 use Rattle.literals.specs.Row.{decode, rowsIn}
 use Rattle.literals.specs.declared.refusal.Refusal.{Refusal}
-use Rattle.board.specs.Faults.{Fault}
+use Rattle.board.specs.Faults.{Fault, goodBoard}
 use Rattle.board.specs.Changes.{emptyBoard, withFlag}
 use Rattle.board.specs.Settling.{settledLabels, settledRanks, settledSupports}
 use Rattle.board.specs.Asking.{asked, standing, reasoned, explained}
@@ -168,3 +170,13 @@ SettleAgrees =
     outcome w (settles lent labels ranks supports) ≡ Done
     → LabelsAgree (w .board .symbols) (settledLabels (front w lent) (w .board) labels ranks supports)
     (secondWay (w .board .symbols) (acceptedSince w₀ S calls) (w .board .held))
+
+-- ---- demand 1: a board that the calls made is a good one
+
+-- Refusal 1 is for "S is outside 1 to 200, rows in use exceed rows lent, a row in use isn't sound, or a held premise is of a symbol
+-- beyond S". After a good open and any calls but an open none of these is so of the whole table: a caller who lends it whole to the
+-- next call never meets refusal 1.
+abbrev pub StaysGood : Type 0
+StaysGood =
+    (w₀ : World) (S : ℕ) (calls : List Call) → leb 1 S && leb S 200 ≡ true → all notOpen calls ≡ true
+    → let w = since w₀ S calls in goodBoard (w .table) (w .board) ≡ true

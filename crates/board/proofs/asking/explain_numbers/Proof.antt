@@ -1,19 +1,17 @@
 -- `asking::explain_numbers` meets its contract: its tests are the faults of `explainFaults`, in their order.
 use borrow.Author.Needs.{needs}
-use mathlib.Core.Path.{_≡_, sym, ap, ap₂, _∙_}
+use mathlib.Core.Path.{_≡_, sym, ap₂, _∙_}
 use mathlib.Core.Logic.{inl, inr}
 use Prim.Native.Nat.{ℕ, _*_, _<_}
 use native.Mathlib.Omega.{arith}
 use lib.ListN.{drop, getD}
 use Rattle.meaning.specs.Tests.{none}
 use Rattle.meaning.specs.Rounds.{rankOf}
-use Rattle.rounds.specs.Ranks.{supportFrom}
-use Rattle.rounds.proofs.Final.{supportFrom-is}
 use Rattle.board.specs.Ranking.{rowsOn, tooHigh}
 use Rattle.board.specs.Asking.{explainFaults, reasoned}
 use Rattle.board.specs.declared.Outcome.the-variants.{Done}
 use Rattle.board.proofs.Placing.{PlacedAt, placed-at, placed-refused}
-use Rattle.board.proofs.Ranked.{hidden, shown}
+use Rattle.board.proofs.Ranked.{hidden, shown, support-told}
 use Rattle.board.proofs.Lending.{Front, ranks-front, ranks-high}
 use Rattle.board.proofs.asking.explain_numbers.Statement.{statement}
 use Rattle.board.proofs.asking.explain_numbers.Tie as tie
@@ -133,7 +131,7 @@ returns-5 c =
     let shows = shown (2 * b .symbols) rows (b .held) (small w) q (p .low) (λ e. z .before .if2 .left (rank r ∙ e)) (λ e. z .if3 .left (rank r ∙ e)) in
     rw (p .is-good, p .in-range, high r ∙ e .if1 .left, ← p .place, shows)
     (ap₂ (λ (rank row : ℕ). record { outcome = Done; rank = rank; row = row }) (rank r)
-    (c .support .ensures ∙ ap (λ ranks. supportFrom rows ranks q) (front r .is) ∙ supportFrom-is (2 * b .symbols) rows (b .held) (small w) q (p .low)))
+    (support-told (2 * b .symbols) rows (b .held) (small w) q (p .low) (front r .is) (c .support .ensures)))
 
 pub explain-numbers-spec : {M : Type 1} → statement M
 explain-numbers-spec =

@@ -135,9 +135,9 @@ returns-5 c =
     let r = e .before in
     let g = r .before .before .before in
     let s = g .before .before .before in
-    let all = blame-done (s .args .table .now) (s .args .board) (s .args .marks .now) (f .first-clash .result) (small g) (clash f)
-    (rw (is-good g, le-leb _ _ (r .before .if2 .left), high r ∙ e .if3 .left, clashes z .1)) in
-    (all .0, m .mark-from .ensures ∙ all .1)
+    blame-done (s .args .table .now) (s .args .board) (s .args .marks .now) (f .first-clash .result) (small g) (clash f)
+    (rw (is-good g, le-leb _ _ (r .before .if2 .left), high r ∙ e .if3 .left, clashes z .1))
+    (m .mark-from .ensures)
 
 pub blame-spec : {M : Type 1} → statement M
 blame-spec =

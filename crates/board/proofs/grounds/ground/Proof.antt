@@ -118,9 +118,9 @@ returns-5 c =
     let p = at w in
     let s = w .before .before .before .before in
     let shows = is-derived _ _ _ (small w) (w .p .given .0 .0) (λ e. z .if3 .left (rank r ∙ e)) in
-    let all = ground-done (s .args .table .now) (s .args .board) (s .args .marks .now) (s .args .l) (w .p .given .0 .0) (p .place)
-    (rw (p .is-good, p .in-range, le-leb _ _ (r .before .if1 .left), high r ∙ e .if2 .left, ← p .place, shows)) in
-    (all .0, m .mark-from .ensures ∙ all .1)
+    ground-done (s .args .table .now) (s .args .board) (s .args .marks .now) (s .args .l) (w .p .given .0 .0) (p .place)
+    (rw (p .is-good, p .in-range, le-leb _ _ (r .before .if1 .left), high r ∙ e .if2 .left, ← p .place, shows))
+    (m .mark-from .ensures)
 
 pub ground-spec : {M : Type 1} → statement M
 ground-spec =

@@ -8,7 +8,6 @@ use native.Mathlib.Omega.{arith}
 use lib.ListN.{length, take, drop, length-append}
 use lib.Seq.{length-take-le, take-at}
 use Rattle.meaning.specs.Rounds.{ranksOf}
-use Rattle.rounds.specs.Ranks.{reachedFrom}
 use Rattle.rounds.proofs.RankTables.{length-ranksOf}
 use Rattle.board.specs.Ranking.{rowsOn}
 use Rattle.board.specs.Grounds.{byteOf}
@@ -92,11 +91,10 @@ returns c =
     let r = w .before .before .before .before in
     let s = r .before .before .before .before .before .before .before in
     let b = s .args .board in
-    let rows = rowsOn (s .args .table .now) b in
-    let told = r .reach .ensures ∙ ap (λ n. reachedFrom n rows (b .held) (take (2 * b .symbols) (marks s))) (long s) in
-    let two = reached-two (s .args .table .now) b 400 (s .args .p) (s .args .q) (omega (arith, good s .sound .symbols)) (s .pre .1 .0) (s .pre .1 .1) in
+    let two =
+    reached-two (s .args .table .now) b 400 (s .args .p) (s .args .q) (omega (arith, good s .sound .symbols)) (s .pre .1 .0) (s .pre .1 .1) (long s) (r .reach .ensures) in
     w .write-marks .ensures
-    ∙ ap₂ (λ (l : List Bool) (n : ℕ). map byteOf l ++ drop n (s .args .marks .now)) (front r ∙ told ∙ two) (ap length (front r) ∙ back r)
+    ∙ ap₂ (λ (l : List Bool) (n : ℕ). map byteOf l ++ drop n (s .args .marks .now)) (front r ∙ two) (ap length (front r) ∙ back r)
 
 pub mark-from-spec : {M : Type 1} → statement M
 mark-from-spec =

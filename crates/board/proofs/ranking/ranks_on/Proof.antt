@@ -1,16 +1,15 @@
 -- `ranking::ranks_on` meets its contract: the ranks come back at the front of the array.
 use borrow.Author.Needs.{needs}
-use mathlib.Core.Path.{_≡_, sym, ap, ap₂, _∙_}
+use mathlib.Core.Path.{_≡_, sym, ap₂}
 use mathlib.Core.Bool.{Bool}
 use mathlib.Core.List.{List, _++_}
 use Prim.Native.Nat.{ℕ, _*_, _≤_}
 use native.Mathlib.Omega.{arith}
 use lib.ListN.{length, take, drop, replicate, length-replicate}
 use Rattle.meaning.specs.Tests.{none}
-use Rattle.meaning.specs.Rounds.{ranksOf, rankAbove}
-use Rattle.board.specs.Ranking.{rowsOn, ranked}
+use Rattle.board.specs.Ranking.{ranked}
 use Rattle.board.proofs.Goodness.{Good, good-is}
-use Rattle.board.proofs.Lending.{part-long, rows-fit}
+use Rattle.board.proofs.Lending.{part-long, rows-fit, filled-is, high-is}
 use Rattle.board.proofs.ranking.ranks_on.Statement.{statement}
 use Rattle.board.proofs.ranking.ranks_on.Tie as tie
 
@@ -46,11 +45,11 @@ unfolding ranked
 returns c =
     let s = c .before .before .before .before .before .before in
     let b = s .args .board in
-    let rows = rowsOn (s .args .table .now) b in
+    let table = s .args .table .now in
     let told = c .before .propagate .ensures in
     ap₂ (λ (high : Bool) (ranks : List ℕ). record { high = high; list = ranks ++ drop (2 * b .symbols) (replicate 400 none) })
-    (told .1 ∙ ap (λ n. rankAbove n rows (b .held)) (part s))
-    (told .0 ∙ ap (λ n. ranksOf n rows (b .held)) (part s))
+    (high-is table b (replicate 400 none) (room s) (told .1))
+    (filled-is table b (replicate 400 none) (room s) (told .0))
 
 pub ranks-on-spec : {M : Type 1} → statement M
 ranks-on-spec =

@@ -81,8 +81,8 @@ returns c =
     let truth = take (f .before .before .two-to .result) (f .fill-truth .last .1 .1 .1 .0 ++ drop (f .before .before .two-to .result) (replicate 256 false)) in
     let filled = front f ∙ f .fill-truth .ensures in
     let lent = l .rows-lent .ensures in (
-      a .append-rule .ensures .0 ∙ rw lent (answer-is S bytes names truth (s .pre .0 .2) (s .pre .1 .1) filled (s .args .rows) (rowsLent (s .args .table .now))),
-      a .append-rule .ensures .1 ∙ rw lent (append-is S bytes names truth (s .pre .0 .2) (s .pre .1 .1) filled (s .args .rows) (rowsLent (s .args .table .now)) (s .args .table .now)),
+      answer-is S bytes names truth (s .pre .0 .2) (s .pre .1 .1) filled (s .args .rows) lent (a .append-rule .ensures .0),
+      append-is S bytes names truth (s .pre .0 .2) (s .pre .1 .1) filled (s .args .rows) (s .args .table .now) lent (a .append-rule .ensures .1),
     )
 
 pub append-spec : {M : Type 1} → statement M

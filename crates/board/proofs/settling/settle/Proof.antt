@@ -97,9 +97,9 @@ returns-6 c =
     let s = g .before .before .before .before .before in
     let own = take (2 * s .args .board .symbols) (r .ranks-on .result .list) in
     let told = w .write-tables .ensures in
-    let all = settle-done (s .args .table .now) (s .args .board) (s .args .labels .now) (s .args .ranks .now) (s .args .supports .now) own (front r .is) (omega (arith, good g .sound .symbols))
-    (rw (is-good g, le-leb _ _ (e .before .before .if2 .left), le-leb _ _ (e .before .if3 .left), le-leb _ _ (e .if4 .left), high r ∙ z .if5 .left)) in
-    (all .0, (told .0 ∙ all .1 .0, (told .1 .0 ∙ all .1 .1 .0, told .1 .1 ∙ all .1 .1 .1)))
+    settle-done (s .args .table .now) (s .args .board) (s .args .labels .now) (s .args .ranks .now) (s .args .supports .now) own (front r .is) (omega (arith, good g .sound .symbols))
+    (rw (is-good g, le-leb _ _ (e .before .before .if2 .left), le-leb _ _ (e .before .if3 .left), le-leb _ _ (e .if4 .left), high r ∙ z .if5 .left))
+    (told .0) (told .1 .0) (told .1 .1)
 
 pub settle-spec : {M : Type 1} → statement M
 settle-spec =

@@ -1,0 +1,92 @@
+// Each cause of refusal 1, at each call that can give it.
+
+ghost use Prim.Native.Nat.{_≤_};
+use crate::boards;
+use crate::boards::blank;
+use crate::calls;
+use crate::printing;
+use board::Board;
+
+fn changing(b: Board, table: &[i16], l: i16) {
+    calls::hold(b, table, l);
+    calls::withdraw(b, table, l);
+}
+
+// The calls that read the board, with so many places lent where one writes.
+fn reading(b: Board, table: &[i16], l: i16, places: usize)
+    requires { ⌜ places ≤ 410 ⌝ }
+{
+    calls::settle(b, table, places, places, places);
+    calls::ask(b, table, l);
+    calls::explain(b, table, l);
+    calls::ground(b, table, l, places);
+    calls::blame(b, table, places);
+}
+
+// Every call but open, with the second row of the table shown.
+fn every(b: Board, table: [i16; 40], lent: usize, bytes: &[u8], l: i16, places: usize)
+    requires { ⌜ (lent ≤ 40) × (places ≤ 410) ⌝ }
+{
+    printing::on(b, lent);
+    printing::numbers(&table[8..16]);
+    calls::rule(b, table, lent, bytes);
+    let part = &table[..lent];
+    changing(b, part, l);
+    reading(b, part, l, places);
+    printing::end();
+}
+
+// Every call for the rule 1 and the literal 2.
+fn good_call(b: Board, table: [i16; 40], lent: usize)
+    requires { ⌜ lent ≤ 40 ⌝ }
+{
+    every(b, table, lent, b"\x10\x01", 2, 405);
+}
+
+// Every call for a formula of no byte, the literal 0 and tables of no place.
+fn bad_call(b: Board) {
+    every(b, boards::rows(), 40, b"", 0, 0);
+}
+
+// A board of 4 symbols whose second row begins with these numbers.
+fn row(a: i16, b: i16, c: i16) {
+    let table = boards::table(&[-1, 2, 0, 0, 0, 0, 0, 0, a, b, c, 0, 0, 0, 0, 0]);
+    good_call(boards::none(), table, 40);
+}
+
+// A good board, whose one row in use has no sound row after it. Then S of 0 and 201, more rows in use than are lent, and the most
+// that can be said. A bad call is refused for the board's sake first.
+fn counts() {
+    let alone = boards::table(&[-1, 2, 0, 0, 0, 0, 0, 0]);
+    good_call(boards::with(blank(4, 1), 0), alone, 40);
+    bad_call(boards::both());
+    bad_call(blank(0, 2));
+    good_call(blank(0, 2), boards::rows(), 40);
+    good_call(blank(201, 2), boards::rows(), 40);
+    good_call(boards::none(), boards::rows(), 15);
+    good_call(blank(4, 18446744073709551615), boards::rows(), 40);
+}
+
+// No literal, a zero in front and inside, falling symbols, a symbol twice, a symbol beyond S, and -32768 inside and in front.
+fn rows() {
+    row(0, 0, 0);
+    row(0, 1, 2);
+    row(1, 0, 2);
+    row(2, -1, 0);
+    row(1, -1, 0);
+    row(-1, 5, 0);
+    row(1, -32768, 0);
+    row(-32768, 0, 0);
+}
+
+// Premises of symbols 5 and 200 of 4.
+fn held() {
+    good_call(boards::with(boards::both(), 8), boards::rows(), 40);
+    good_call(boards::with(boards::both(), 399), boards::rows(), 40);
+}
+
+pub fn run() {
+    counts();
+    rows();
+    held();
+}

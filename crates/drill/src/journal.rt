@@ -1,0 +1,40 @@
+// The board of document 01's journal, made by the calls.
+
+use crate::boards::GUARD;
+use crate::calls;
+use crate::printing;
+use board::Board;
+
+// What its fifth board gives for literal 4, and its tenth, where 1 was withdrawn and -3 is held.
+fn answers(fifth: Board, table: &[i16]) {
+    calls::settle(fifth, table, 4, 8, 8);
+    calls::ask(fifth, table, 4);
+    calls::explain(fifth, table, 4);
+    calls::ground(fifth, table, 4, 8);
+    let eighth = calls::withdraw(fifth, table, 1);
+    calls::ask(eighth, table, 4);
+    let tenth = calls::hold(eighth, table, -3);
+    calls::ask(tenth, table, 4);
+    calls::blame(tenth, table, 8);
+}
+
+pub fn run() {
+    let mut table = [GUARD; 40];
+    let opened = board::changes::open(4);
+    let first = opened.board;
+    printing::on(first, 40);
+    let empty = table;
+    let second = calls::rule_in(first, &empty, &mut table, 40, b"\x14\x10\x01\x10\x02");
+    let one = table;
+    let third = calls::rule_in(
+        second,
+        &one,
+        &mut table,
+        40,
+        b"\x14\x12\x10\x02\x10\x03\x10\x04",
+    );
+    let fourth = calls::hold(third, &table, 1);
+    let fifth = calls::hold(fourth, &table, 3);
+    answers(fifth, &table);
+    printing::end();
+}

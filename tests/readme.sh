@@ -1,0 +1,29 @@
+#!/usr/bin/env bash
+# Holds the README to the repository: its example is the stored case, its commands and links are there.
+set -euo pipefail
+cd "$(dirname "$0")/.."
+
+# the worked example: hex, words and printed line, two or more spaces apart
+example=$(awk -F '  +' '/^    0[1-6] / {print $2 "\t" $4}' README.md)
+diff <(cut -f 1 <<<"$example" | tr -s ' \n' '\n') <(sed 's/#.*//' examples/cases/printed/input.hex | tr -s ' \n' '\n' | sed '/^$/d')
+diff <(cut -f 2 <<<"$example") examples/cases/printed/expected
+
+for target in $(grep -o 'make [a-z]*' README.md | sort -u | cut -d ' ' -f 2); do
+    grep -q "^$target:" Makefile || {
+        echo "README.md: 'make $target' is no target of the Makefile"
+        exit 1
+    }
+done
+for file in $(grep -o '](\([^)]*\))' README.md | sed 's/](\(.*\))/\1/'); do
+    [ -e "$file" ] || {
+        echo "README.md: there is no $file"
+        exit 1
+    }
+done
+for crate in crates/*/; do
+    grep -q "\`$(basename "$crate")\`" README.md || {
+        echo "README.md: the house has no row for $(basename "$crate")"
+        exit 1
+    }
+done
+echo "readme: its example, commands, links and crates are there"
