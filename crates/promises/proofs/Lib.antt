@@ -10,3 +10,4 @@ mod History
 pub mod Good
 pub mod Ways
 mod Boards
+mod Carried

@@ -1,0 +1,56 @@
+-- From the code to the world: where a call answers what its contract says, the board it hands back and the table it leaves are those
+-- of `after`. The calls that hand back no board change nothing.
+use mathlib.Core.Path.{_≡_, refl, ap, ap₂}
+use mathlib.Core.List.{List, _++_}
+use Prim.Native.Nat.{ℕ}
+use lib.IntN.{ℤ}
+use lib.ListN.{drop}
+use Rattle.board.specs.Changes.{opened, held, withdrawn}
+use Rattle.board.specs.Rules.{ruled, ruledTable}
+use Rattle.board.specs.declared.Change.{Change}
+use Rattle.board.specs.declared.rules.Addition.{Addition}
+use Rattle.promises.specs.Calls.{opens, adds, holds, withdraws, asks, explains, settles, grounds, blames, World, front, after}
+
+module _ (w : World) where
+  -- the world with the board of an answer
+  with-board : Change → World
+  with-board c = record { board = c .board; table = w .table }
+
+  open-carried : (S : ℕ) (r : Change) → r ≡ opened S → with-board r ≡ after w (opens S)
+  unfolding after with-board
+  open-carried S r e = ap with-board e
+
+  module _ (lent : ℕ) where
+    rule-carried : (bytes : List ℕ) (r : Addition) (t : List ℤ) → r ≡ ruled (front w lent) (w .board) bytes → t ≡ ruledTable (front w lent) (w .board) bytes
+        → _≡_ {A = World} (record { board = r .board; table = t ++ drop lent (w .table) }) (after w (adds lent bytes))
+    unfolding after
+    rule-carried bytes r t e f =
+        ap₂ (λ (a : Addition) (x : List ℤ). let v : World = record { board = a .board; table = x ++ drop lent (w .table) } in v) e f
+
+    hold-carried : (l : ℤ) (r : Change) → r ≡ held (front w lent) (w .board) l → with-board r ≡ after w (holds lent l)
+    unfolding after with-board
+    hold-carried l r e = ap with-board e
+
+    withdraw-carried : (l : ℤ) (r : Change) → r ≡ withdrawn (front w lent) (w .board) l → with-board r ≡ after w (withdraws lent l)
+    unfolding after with-board
+    withdraw-carried l r e = ap with-board e
+
+    ask-changes-nothing : (l : ℤ) → after w (asks lent l) ≡ w
+    unfolding after
+    ask-changes-nothing l = refl
+
+    explain-changes-nothing : (l : ℤ) → after w (explains lent l) ≡ w
+    unfolding after
+    explain-changes-nothing l = refl
+
+    settle-changes-nothing : (labels ranks supports : List ℕ) → after w (settles lent labels ranks supports) ≡ w
+    unfolding after
+    settle-changes-nothing labels ranks supports = refl
+
+    ground-changes-nothing : (l : ℤ) (marks : List ℕ) → after w (grounds lent l marks) ≡ w
+    unfolding after
+    ground-changes-nothing l marks = refl
+
+    blame-changes-nothing : (marks : List ℕ) → after w (blames lent marks) ≡ w
+    unfolding after
+    blame-changes-nothing marks = refl
