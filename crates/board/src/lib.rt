@@ -4,7 +4,7 @@
 pub mod asking;
 pub mod changes;
 pub mod grounds;
-pub mod ranking;
+mod ranking;
 pub mod rules;
 pub mod settling;
 pub mod testing;
