@@ -2,16 +2,18 @@
 use mathlib.Core.Path.{_≡_, refl, sym, ap, ap₂, subst, _∙_}
 use mathlib.Core.Bool.{Bool, true, false, cond}
 use mathlib.Core.List.{List, _++_, map}
-use Prim.Native.Nat.{ℕ, zero, suc, _+_, _-_, _≤_, zero-le}
+use Prim.Native.Nat.{ℕ, _+_, _-_, _*_, _%_, _≤_, _^_}
+use native.Mathlib.Nat.{one-mul, mod-eq-of-lt}
 use native.Mathlib.Omega.{arith}
 use borrow.Author.Tests.{le-leb, leb-true}
 use lib.Dec.{leb, eqb}
 use lib.IntN.{ℤ}
 use lib.ListN.{length, take, replicate, length-append}
+use lib.Pow.{pow-mono}
 use lib.Seq.{take-at}
 use Rattle.meaning.specs.Tests.{all, from}
 use Rattle.meaning.specs.Formulae.{Formula, occurs, symbolsOf, Rule, ruleOf}
-use Rattle.meaning.specs.Clauses.{twos, assignments, rowsOf, satisfiable}
+use Rattle.meaning.specs.Clauses.{assignments, rowsOf, satisfiable}
 use Rattle.meaning.proofs.Tests.{clash, all-of, keep-in, from-in}
 use Rattle.literals.specs.declared.refusal.Refusal.{Refusal}
 use Rattle.literals.specs.declared.refusal.Refusal.the-variants.{BytesLeftOver}
@@ -28,13 +30,13 @@ use Rattle.board.specs.Rules.{whyOf, formulaOf, ruleFaults, rowsOfBytes,
 use Rattle.board.specs.declared.Board.{Board}
 use Rattle.board.specs.declared.Outcome.the-variants.{Done, Refused}
 
--- ---- 2 to the n
+-- ---- how many assignments there are to n symbols, as a shift tells
 
-pub twos-mono : (m n : ℕ) → m ≤ n → twos m ≤ twos n
-twos-mono zero zero h = omega arith
-twos-mono zero (suc n) h = let r = twos-mono zero n zero-le in omega arith
-twos-mono (suc m) zero h = absurd (omega arith)
-twos-mono (suc m) (suc n) h = let r = twos-mono m n (omega arith) in omega arith
+pub few-assignments : (n : ℕ) → n ≤ 8 → 2 ^ n ≤ 256
+few-assignments n h = pow-mono h
+
+pub shifted : (n : ℕ) → n ≤ 8 → 1 * 2 ^ n % 2 ^ 64 ≡ 2 ^ n
+shifted n h = mod-eq-of-lt (rw one-mul (omega (arith, few-assignments n h))) ∙ one-mul (2 ^ n)
 
 -- ---- reading tells whether the bytes are a formula, and if not, why
 

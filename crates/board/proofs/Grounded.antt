@@ -12,11 +12,12 @@ use Rattle.meaning.specs.Ground.{reaches, ground, blame}
 use Rattle.meaning.proofs.Tables.{length-tabulate, tabulate-same}
 use Rattle.literals.specs.Literal.{placeOf}
 use Rattle.literals.specs.declared.refusal.Refusal.{Refusal}
+use Rattle.rounds.specs.Ranks.{clashIn}
+use Rattle.rounds.proofs.Clashes.{blamed-is}
 use Rattle.board.specs.Ranking.{rowsOn}
-use Rattle.board.specs.Grounds.{byteOf, reachedOn, clashIn, groundOutcome, groundMarks, blameOutcome, blameMarks}
+use Rattle.board.specs.Grounds.{byteOf, reachedOn, groundOutcome, groundMarks, blameOutcome, blameMarks}
 use Rattle.board.specs.declared.Board.{Board}
 use Rattle.board.specs.declared.Outcome.the-variants.{Done, Refused}
-use Rattle.board.proofs.Clashes.{blamed-is}
 
 or-same : (a : Bool) → (a || a) ≡ a
 or-same true = refl

@@ -8,7 +8,6 @@ pub mod Lending
 pub mod Explaining
 pub mod Settled
 pub mod Adding
-pub mod Clashes
 pub mod Marks
 pub mod Grounded
 mod Unique

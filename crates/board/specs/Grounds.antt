@@ -1,11 +1,11 @@
 -- Ground and blame: they write "2S bytes in the places that ranks use, 1 for each premise reached .., else 0".
-use Prim.Native.Nat.{ℕ, _+_, _*_}
-use mathlib.Core.Bool.{Bool, cond, not, _&&_, _||_}
+use Prim.Native.Nat.{ℕ, _*_}
+use mathlib.Core.Bool.{Bool, cond, not, _||_}
 use mathlib.Core.List.{List, [], _∷_, map}
-use lib.Dec.{leb, ltb}
+use lib.Dec.{leb}
 use lib.IntN.{ℤ}
-use lib.ListN.{length, getD}
-use Rattle.meaning.specs.Tests.{tabulate, none}
+use lib.ListN.{length}
+use Rattle.meaning.specs.Tests.{tabulate}
 use Rattle.meaning.specs.Literals.{has, conflict}
 use Rattle.meaning.specs.Ground.{reaches, ground, blame}
 use Rattle.literals.specs.Literal.{inRange, placeOf}
@@ -26,10 +26,6 @@ unfoldable pub reachedOn : List ℤ → Board → (p q : ℕ) → List Bool
 reachedOn table b p q =
     tabulate (2 * b .symbols)
     (λ h. reaches (2 * b .symbols) (rowsOn table b) (b .held) p h || reaches (2 * b .symbols) (rowsOn table b) (b .held) q h)
-
--- both literals of a symbol, counted from 0, have a rank
-unfoldable pub clashIn : List ℕ → ℕ → Bool
-clashIn ranks s = ltb (getD ranks (2 * s) 0) none && ltb (getD ranks (2 * s + 1) 0) none
 
 -- 12: "ground: not derived"; `lent` is how many places are lent
 unfoldable pub groundFaults : List ℤ → Board → ℤ → (lent : ℕ) → List Fault

@@ -15,6 +15,7 @@ use crate::testing::place_on;
 use literals::WIDTH;
 use literals::refusal::Refusal;
 use rounds::NONE;
+use rounds::supports::support_row;
 
 // How a literal stands.
 pub enum Standing {
@@ -34,10 +35,10 @@ pub struct Reason {
 
 // How the literal at p stands by the ranks.
 fn standing_by(ranks: &[u16], p: usize) -> Standing
-    requires { ⌜ (p < length (now ranks)) × (opp p < length (now ranks)) ⌝ }
+    requires { ⌜ (p < length (now ranks)) × (opp p < length (now ranks)) × (length (now ranks) < none) ⌝ }
     ensures { λ r. ⌜ r ≡ standing (below none (now (ranks .entry))) p ⌝ }
 {
-    if rounds::labels::in_conflict(ranks) {
+    if rounds::labels::first_clash(ranks) != NONE as usize {
         return Standing::Conflict;
     }
     if ranks[p] < NONE {
@@ -101,7 +102,7 @@ pub fn explain_numbers(board: Board, table: &[i16], l: i16) -> Reason
             Reason {
                 outcome: Outcome::Done,
                 rank,
-                row: rounds::supports::support(table, board.rows, p, &ranks[..places]),
+                row: support_row(table, board.rows, p, &ranks[..places], rank),
             }
         }
     }

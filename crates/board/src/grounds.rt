@@ -5,11 +5,10 @@ ghost use Prim.Native.Nat.{_*_, _≤_, _<_};
 ghost use mathlib.Core.Bool.{true};
 ghost use mathlib.Core.List.{_++_, map};
 ghost use lib.ListN.{length, drop};
-ghost use Rattle.meaning.specs.Tests.{none, first};
 ghost use Rattle.meaning.specs.Rounds.{ranksOf};
 ghost use Rattle.board.specs.Faults.{goodBoard};
 ghost use Rattle.board.specs.Ranking.{rowsOn};
-ghost use Rattle.board.specs.Grounds.{byteOf, reachedOn, clashIn, groundOutcome, groundMarks, blameOutcome, blameMarks};
+ghost use Rattle.board.specs.Grounds.{byteOf, reachedOn, groundOutcome, groundMarks, blameOutcome, blameMarks};
 use crate::Board;
 use crate::Outcome;
 use crate::ranking::ranks_on;
@@ -73,23 +72,6 @@ pub fn ground(board: Board, table: &[i16], l: i16, marks: &mut [u8]) -> Outcome
     }
 }
 
-// The lowest symbol, counted from 0, whose two literals both have a rank, of so many symbols; NONE where there is none.
-fn first_clash(ranks: &[u16], symbols: usize) -> usize
-    requires { ⌜ (2 * symbols ≤ length (now ranks)) × (symbols < none) ⌝ }
-    ensures { λ r. ⌜ r ≡ first (clashIn (now (ranks .entry))) symbols ⌝ }
-{
-    let mut s = 0;
-    while s < symbols {
-        if ranks[2 * s] < NONE {
-            if ranks[2 * s + 1] < NONE {
-                return s;
-            }
-        }
-        s += 1;
-    }
-    NONE as usize
-}
-
 // Marks the premises that the lowest symbol with label 3 stands on, by either of its literals.
 pub fn blame(board: Board, table: &[i16], marks: &mut [u8]) -> Outcome
     ensures { λ r. ⌜ r ≡ blameOutcome (now (table .entry)) board (now (marks .entry)) ⌝ }
@@ -107,7 +89,7 @@ pub fn blame(board: Board, table: &[i16], marks: &mut [u8]) -> Outcome
         return Outcome::Refused(Refusal::RankTooHigh);
     }
     let ranks = ranked.list;
-    let s = first_clash(&ranks[..places], board.symbols);
+    let s = rounds::labels::first_clash(&ranks[..places]);
     if s == NONE as usize {
         return Outcome::Refused(Refusal::NothingToShow);
     }

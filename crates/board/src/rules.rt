@@ -5,7 +5,6 @@ ghost use mathlib.Core.Bool.{true};
 ghost use Prim.Native.Nat.{_≤_};
 ghost use lib.ListN.{length};
 ghost use Rattle.meaning.specs.Formulae.{symbolsOf, ruleOf};
-ghost use Rattle.meaning.specs.Clauses.{twos};
 ghost use Rattle.literals.specs.Row.{rowsLent};
 ghost use Rattle.formula.specs.Parse.{wholeOf};
 ghost use Rattle.formula.specs.Answers.{isGood};
@@ -36,20 +35,6 @@ fn refused(board: Board, why: Refusal) -> Addition
     }
 }
 
-// How many assignments there are to n symbols.
-fn two_to(n: usize) -> usize
-    requires { ⌜ n ≤ 8 ⌝ }
-    ensures { λ r. ⌜ r ≡ twos n ⌝ }
-{
-    let mut count = 1;
-    let mut k = 0;
-    while k < n {
-        count = count * 2;
-        k += 1;
-    }
-    count
-}
-
 // Appends the rows of a formula that was read, whose symbols are listed.
 fn append(table: &mut [i16], rows: usize, bytes: &[u8], symbols: usize, names: &[u8]) -> Appended
     requires { ⌜ (symbols ≤ 200) × (rows ≤ rowsLent (now table)) × (isGood (wholeOf symbols (now bytes)) ≡ true) ⌝ }
@@ -58,7 +43,7 @@ fn append(table: &mut [i16], rows: usize, bytes: &[u8], symbols: usize, names: &
     ensures { λ r. ⌜ now (table .exit) ≡ tableOf (ruleOf symbols (formulaOf (wholeOf symbols (now (bytes .entry))))) rows (rowsLent (now (table .entry))) (now (table .entry)) ⌝ }
 {
     let mut truth = [false; 256];
-    let values = two_to(names.len());
+    let values = 1 << names.len();
     formula::truth::fill_truth(bytes, symbols, names, &mut truth[..values]);
     let lent = literals::rows_lent(table);
     implicates::append_rule(table, rows, lent, names, &truth[..values])

@@ -65,13 +65,7 @@ pub fn settle(
     }
     let symbols = board.symbols;
     let places = 2 * symbols;
-    if labels.len() < symbols {
-        return Outcome::Refused(Refusal::TableTooShort);
-    }
-    if ranks.len() < places {
-        return Outcome::Refused(Refusal::TableTooShort);
-    }
-    if supports.len() < places {
+    if labels.len() < symbols || ranks.len() < places || supports.len() < places {
         return Outcome::Refused(Refusal::TableTooShort);
     }
     let ranked = ranks_on(board, table);

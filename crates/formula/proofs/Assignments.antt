@@ -1,5 +1,4 @@
 -- The assignments to n symbols in order are those that the numbers below 2^n stand for; so the truth table is filled by numbers.
--- Assumes nothing.
 use mathlib.Core.Path.{_≡_, refl, ap, ap₂, sym, _∙_}
 use mathlib.Core.Bool.{Bool, true, false}
 use mathlib.Core.List.{List, [], _∷_, _++_, map}
@@ -8,51 +7,37 @@ use native.Mathlib.Nat.{zero-add, suc-add, one-mul, mul-assoc, pow-succ', div-eq
 use native.Mathlib.Omega.{arith}
 use lib.ListN.{length}
 use lib.Dec.{eqb}
+use lib.Pow.{pow-pos}
 use Rattle.meaning.specs.Tests.{tabulate}
-use Rattle.meaning.specs.Formulae.{Formula, symbolsOf, look, ruleOf}
-use Rattle.meaning.specs.Clauses.{twos, assignments}
+use Rattle.meaning.specs.Formulae.{look}
+use Rattle.meaning.specs.Clauses.{assignments}
 use Rattle.meaning.proofs.Tables.{tabulate-same, map-tabulate}
-use Rattle.formula.specs.Parse.{Parsed, good}
+use Rattle.formula.specs.Parse.{Parsed}
 use Rattle.formula.specs.Answers.{bitAt, bits, holdsOf, truthOf}
-
--- ---- powers of two
-
-pow-twos : (n : ℕ) → 2 ^ n ≡ twos n
-pow-twos zero = refl
-pow-twos (suc n) = pow-succ' 2 n ∙ ap (λ (k : ℕ). 2 * k) (pow-twos n)
-
-twos-some : (n : ℕ) → 0 < twos n
-twos-some zero = omega arith
-twos-some (suc n) = omega (arith, twos-some n)
 
 -- ---- the bits of a number
 
-bit-is : (number n : ℕ) → bitAt number n ≡ eqb (number / twos n % 2) 1
+bit-low : (n k : ℕ) → k < 2 ^ n → bitAt k n ≡ false
 unfolding bitAt
-bit-is number n = ap (λ (k : ℕ). eqb (number / k % 2) 1) (pow-twos n)
+bit-low n k h = ap (λ (q : ℕ). eqb (q % 2) 1) (div-eq-of-lt h)
 
-bit-low : (n k : ℕ) → k < twos n → bitAt k n ≡ false
-bit-low n k h = bit-is k n ∙ ap (λ (q : ℕ). eqb (q % 2) 1) (div-eq-of-lt h)
-
-bit-high : (n k : ℕ) → k < twos n → bitAt (twos n + k) n ≡ true
+bit-high : (n k : ℕ) → k < 2 ^ n → bitAt (2 ^ n + k) n ≡ true
+unfolding bitAt
 bit-high n k h =
-    bit-is (twos n + k) n
-    ∙ ap (λ (q : ℕ). eqb (q % 2) 1) (add-div-left k (twos-some n) ∙ ap (λ (q : ℕ). q + 1) (div-eq-of-lt h))
+    ap (λ (q : ℕ). eqb (q % 2) 1) (add-div-left k (pow-pos n) ∙ ap (λ (q : ℕ). q + 1) (div-eq-of-lt h))
 
-bit-shift : (n c k : ℕ) → bitAt (c * 2 * twos n + k) n ≡ bitAt k n
+bit-shift : (n c k : ℕ) → bitAt (c * 2 * 2 ^ n + k) n ≡ bitAt k n
+unfolding bitAt
 bit-shift n c k =
-    let even : (c * 2 + k / twos n) % 2 ≡ k / twos n % 2 = omega arith in
-    bit-is (c * 2 * twos n + k) n
-    ∙ ap (λ (q : ℕ). eqb (q % 2) 1) (mul-add-div-right (twos-some n) (c * 2) k)
-    ∙ ap (λ (r : ℕ). eqb r 1) even
-    ∙ sym (bit-is k n)
+    let even : (c * 2 + k / 2 ^ n) % 2 ≡ k / 2 ^ n % 2 = omega arith in
+    ap (λ (q : ℕ). eqb (q % 2) 1) (mul-add-div-right (pow-pos n) (c * 2) k) ∙ ap (λ (r : ℕ). eqb r 1) even
 
 -- the n lowest bits do not change by a multiple of 2^n
-bits-shift : (n c k : ℕ) → bits n (c * twos n + k) ≡ bits n k
+bits-shift : (n c k : ℕ) → bits n (c * 2 ^ n + k) ≡ bits n k
 unfolding bits
 bits-shift zero c k = refl
 bits-shift (suc n) c k =
-    rw (sym (mul-assoc c 2 (twos n))) (ap₂ (λ (b : Bool) (l : List Bool). b ∷ l) (bit-shift n c k) (bits-shift n (c * 2) k))
+    rw (pow-succ' 2 n, sym (mul-assoc c 2 (2 ^ n))) (ap₂ (λ (b : Bool) (l : List Bool). b ∷ l) (bit-shift n c k) (bits-shift n (c * 2) k))
 
 -- ---- the list of all assignments
 
@@ -66,12 +51,12 @@ tabulate-append {A} d (suc m) n f g h p q =
     (tabulate-append d m n (λ i. f (suc i)) g (λ i. h (suc i)) (λ i b. p (suc i) (omega arith)) (λ j b. q j b ∙ ap h (suc-add m j))))
 
 -- number k of the assignments to n symbols is the one that k stands for
-pub assignments-bits : (n : ℕ) → assignments n ≡ tabulate (twos n) (bits n)
+pub assignments-bits : (n : ℕ) → assignments n ≡ tabulate (2 ^ n) (bits n)
 unfolding bits
 assignments-bits zero = refl
 assignments-bits (suc n) =
-    let t = twos n in
-    let double : t + t ≡ 2 * t = omega arith in
+    let t = 2 ^ n in
+    let double : t + t ≡ 2 ^ suc n = omega (arith, pow-succ' 2 n) in
     let half : (b : Bool) → map (λ a. b ∷ a) (assignments n) ≡ tabulate t (λ k. b ∷ bits n k) =
     λ b. ap (map (λ a. b ∷ a)) (assignments-bits n) ∙ map-tabulate (λ a. b ∷ a) t (bits n) in
     ap₂ (λ (x y : List (List Bool)). x ++ y) (half false) (half true)
@@ -86,14 +71,8 @@ assignments-bits (suc n) =
 abbrev pub valueAt : List ℕ → Parsed → ℕ → Bool
 valueAt names p k = holdsOf (look names (bits (length names) k)) p
 
-pub truth-by-number : (names : List ℕ) (p : Parsed) → truthOf names p ≡ tabulate (twos (length names)) (valueAt names p)
+pub truth-by-number : (names : List ℕ) (p : Parsed) → truthOf names p ≡ tabulate (2 ^ (length names)) (valueAt names p)
 unfolding truthOf
 truth-by-number names p =
     ap (map (λ (a : List Bool). holdsOf (look names a) p)) (assignments-bits (length names))
-    ∙ map-tabulate (λ (a : List Bool). holdsOf (look names a) p) (twos (length names)) (bits (length names))
-
--- over the rule's own symbols it says which assignments satisfy the rule
-pub truth-of-rule : (S : ℕ) (f : Formula) (used : ℕ) (names : List ℕ) → names ≡ symbolsOf S f
-    → truthOf names (good f used) ≡ map (ruleOf S f .accepts) (assignments (length names))
-unfolding truthOf
-truth-of-rule S f used names e = rw e
+    ∙ map-tabulate (λ (a : List Bool). holdsOf (look names a) p) (2 ^ (length names)) (bits (length names))

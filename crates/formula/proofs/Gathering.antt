@@ -1,19 +1,17 @@
--- Gathering the numbers that pass a test, rising, into eight places. Assumes nothing.
+-- Gathering the numbers that pass a test, rising, into eight places.
 use mathlib.Core.Path.{_≡_, refl, ap, ap₂, sym, _∙_}
-use mathlib.Core.Bool.{Bool, true, false, cond}
+use mathlib.Core.Bool.{Bool, true, false}
 use mathlib.Core.List.{List, [], _∷_, _++_, append-nil}
 use Prim.Native.Nat.{ℕ, zero, suc, _+_, _-_, _<_, _≤_}
 use native.Mathlib.Omega.{arith}
 use native.Mathlib.Nat.{add-zero, add-suc, suc-add, zero-add}
 use native.Mathlib.Numerals.{add-one}
-use lib.Dec.{leb}
-use lib.ListN.{length, set, take, replicate, getD, length-append}
-use lib.Seq.{set-append-seam, append-snoc, take-append-seam}
+use lib.ListN.{length, set, replicate, getD, length-append}
+use lib.Seq.{set-append-seam, append-snoc}
 use borrow.Author.Tests.{le-leb, lt-leb}
 use Rattle.meaning.specs.Tests.{keep, from}
 use Rattle.meaning.proofs.Tests.{keep-append}
 use Rattle.formula.specs.Answers.{padded, named}
-use Rattle.formula.specs.declared.naming.Names.{Names}
 
 -- ---- eight places
 
@@ -24,23 +22,6 @@ named-few l h = rw (le-leb (length l) 8 h)
 named-many : (l : List ℕ) → 8 < length l → named l ≡ record { fits = false; list = replicate 8 0; count = 0 }
 unfolding named
 named-many l h = rw (lt-leb (length l) 8 h)
-
--- names fit exactly if there are no more than eight,
-pub named-fits : (l : List ℕ) → named l .fits ≡ leb (length l) 8
-unfolding named
-named-fits l = go (leb (length l) 8)
-  where
-    go : (b : Bool) → cond {A = Names} b (record { fits = true; list = padded l; count = length l }) (record { fits = false; list = replicate 8 0; count = 0 }) .fits ≡ b
-    go true = refl
-    go false = refl
-
--- and then they stand at the front of the list
-pub named-count : (l : List ℕ) → length l ≤ 8 → named l .count ≡ length l
-named-count l h = ap (λ (n : Names). n .count) (named-few l h)
-
-pub named-list : (l : List ℕ) → length l ≤ 8 → take (named l .count) (named l .list) ≡ l
-unfolding padded
-named-list l h = ap (λ (n : Names). take (n .count) (n .list)) (named-few l h) ∙ take-append-seam l (replicate (8 - length l) 0)
 
 padded-more : (l : List ℕ) (n : ℕ) → length l < 8 → set (padded l) (length l) n ≡ padded (l ++ (n ∷ []))
 unfolding padded

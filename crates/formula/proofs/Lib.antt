@@ -1,7 +1,7 @@
 -- Facts that several proofs of the crate cite, and laws of its definitions.
 pub mod Parts
 pub mod Parsing
-pub mod Reaching
+pub mod Extents
 pub mod Walk
 pub mod Widening
 pub mod Values

@@ -1,4 +1,4 @@
--- The marks that a formula leaves on an empty table tell which symbols stand in it. Assumes nothing.
+-- The marks that a formula leaves on an empty table tell which symbols stand in it.
 use mathlib.Core.Path.{_≡_, refl, ap, sym, _∙_}
 use mathlib.Core.Bool.{Bool, true, false, _||_, or-true, or-false, or-assoc}
 use mathlib.Core.List.{List}

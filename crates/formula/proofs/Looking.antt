@@ -1,4 +1,4 @@
--- What an assignment gives a symbol, from the names that are left to look at. Assumes nothing.
+-- What an assignment gives a symbol, from the names that are left to look at.
 use mathlib.Core.Path.{_≡_, ap, _∙_}
 use mathlib.Core.Bool.{Bool, false}
 use mathlib.Core.List.{List}

@@ -1,4 +1,4 @@
--- The marks of a formula that was read, from its operands' marks. Assumes nothing.
+-- The marks of a formula that was read, from its operands' marks.
 use mathlib.Core.Path.{_≡_, refl, ap, ap₂, sym, _∙_}
 use mathlib.Core.Bool.{Bool, true, false, cond, _&&_}
 use mathlib.Core.List.{List, [], _∷_}

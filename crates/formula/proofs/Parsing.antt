@@ -1,4 +1,4 @@
--- Laws of parsing, from the tests that a reader makes and its operands' answers. Assumes nothing.
+-- Laws of parsing, from the tests that a reader makes and its operands' answers.
 use mathlib.Core.Path.{_≡_, refl, ap, sym, _∙_}
 use mathlib.Core.List.{List, [], _∷_}
 use Prim.Native.Nat.{ℕ, zero, suc, _+_, _-_, _<_, _≤_}

@@ -1,4 +1,4 @@
--- The value of a formula that was read, from its operands' values. Assumes nothing.
+-- The value of a formula that was read, from its operands' values.
 use mathlib.Core.Path.{_≡_, refl, ap, ap₂, sym, _∙_}
 use mathlib.Core.Bool.{Bool, true, false, not, cond, _&&_}
 use mathlib.Core.List.{List, [], _∷_}

@@ -1,4 +1,4 @@
--- Formulae and faults as the definitions read them: each computes. Assumes nothing.
+-- Formulae and faults as the definitions read them: each computes.
 use mathlib.Core.Path.{_≡_, refl}
 use mathlib.Core.Bool.{true, false}
 use mathlib.Core.List.{[], _∷_, _++_}

@@ -1,5 +1,5 @@
 -- A walk over a formula that was read: it has a level, a kind byte and good operands, and its bytes are its operands'.
--- `parse 255` takes every number that a byte can hold for a symbol's; a formula that was read for fewer S is the same there (`wider` of `Widening`). Assumes nothing.
+-- `parse 255` takes every number that a byte can hold for a symbol's; a formula that was read for fewer S is the same there (`wider` of `Widening`).
 use mathlib.Core.Path.{_≡_, refl, ap, sym, _∙_}
 use mathlib.Core.Bool.{true, false, false≢true}
 use mathlib.Core.List.{List, [], _∷_}
@@ -15,7 +15,7 @@ use Rattle.formula.specs.declared.reading.Kind.{Kind}
 use Rattle.formula.specs.declared.reading.Kind.the-variants.{Symbol, Not, Two}
 use Rattle.formula.proofs.Parts.{onward, onward-drop, onward-length}
 use Rattle.formula.proofs.Parsing as parsing
-use Rattle.formula.proofs.Reaching.{parse-used}
+use Rattle.formula.proofs.Extents.{parse-used}
 
 pub never : {A : Type 0} → false ≡ true → A
 never e = absurd (false≢true e)

@@ -1,5 +1,5 @@
 -- A formula that was read for the symbols 1 to S: they alone stand in it, its bytes are some of those that were read, and it is the
--- same formula where more symbols are allowed. Assumes nothing.
+-- same formula where more symbols are allowed.
 use mathlib.Core.Path.{_≡_, refl, ap, ap₂, sym, subst, _∙_}
 use mathlib.Core.Bool.{Bool, true, false, cond, _&&_}
 use mathlib.Core.List.{List, [], _∷_}
@@ -20,7 +20,7 @@ use Rattle.formula.specs.declared.reading.Join.{Join}
 use Rattle.formula.specs.declared.reading.Join.the-variants.{And, Or, Implies, Same}
 use Rattle.formula.specs.declared.reading.Kind.{Kind}
 use Rattle.formula.specs.declared.reading.Kind.the-variants.{Symbol, Not, Two, Unknown}
-use Rattle.formula.proofs.Reaching.{parse-used}
+use Rattle.formula.proofs.Extents.{parse-used}
 use Rattle.formula.proofs.Walk.{never, good-after, good-first}
 
 -- ---- for more symbols

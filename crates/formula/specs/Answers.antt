@@ -24,9 +24,9 @@ past skipped (Used count) = Used (skipped + count)
 past skipped (Refused why at) = Refused why (skipped + at)
 
 -- how many bytes an answer looks back on
-abbrev pub reach : Answer → ℕ
-reach (Used count) = count
-reach (Refused why at) = at
+abbrev pub extent : Answer → ℕ
+extent (Used count) = count
+extent (Refused why at) = at
 
 abbrev pub isGood : Parsed → Bool
 isGood (good f used) = true

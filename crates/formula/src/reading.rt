@@ -4,7 +4,7 @@ ghost use mathlib.Core.Path.{_≡_};
 ghost use Prim.Native.Nat.{_+_, _≤_};
 ghost use Rattle.formula.specs.Kinds.{kindOf};
 ghost use Rattle.formula.specs.Parse.{parse, symbolAt, wholeOf};
-ghost use Rattle.formula.specs.Answers.{readOf, past, reach};
+ghost use Rattle.formula.specs.Answers.{readOf, past, extent};
 use literals::refusal::Refusal;
 
 // An operand may stand so deep and no deeper.
@@ -49,7 +49,7 @@ pub fn kind_of(byte: u8) -> Kind
 
 // The answer of a part, where the part starts `skipped` bytes into the whole.
 fn past_by(skipped: usize, answer: Answer) -> Answer
-    requires { ⌜ skipped + reach answer ≤ 0x7fff_ffff_ffff_ffff ⌝ }
+    requires { ⌜ skipped + extent answer ≤ 0x7fff_ffff_ffff_ffff ⌝ }
     ensures { λ r. ⌜ r ≡ past skipped answer ⌝ }
 {
     match answer {

@@ -3,10 +3,9 @@
 
 ghost use mathlib.Core.Path.{_≡_};
 ghost use mathlib.Core.Bool.{true};
-ghost use Prim.Native.Nat.{_≤_, _<_};
+ghost use Prim.Native.Nat.{_^_, _≤_, _<_};
 ghost use lib.ListN.{length};
 ghost use Rattle.meaning.specs.Formulae.{look};
-ghost use Rattle.meaning.specs.Clauses.{twos};
 ghost use Rattle.formula.specs.Kinds.{joinedValue};
 ghost use Rattle.formula.specs.Parse.{parse, levels};
 ghost use Rattle.formula.specs.Answers.{isGood, bitAt, bits, valuedOf, truthOf};
@@ -97,7 +96,7 @@ fn evaluate(bytes: &[u8], depth: usize, names: &[u8], assignment: usize) -> Valu
 pub fn fill_truth(bytes: &[u8], symbols: usize, names: &[u8], table: &mut [bool])
     requires { ⌜ symbols ≤ 200 ⌝ }
     requires { ⌜ isGood (parse symbols levels (now bytes)) ≡ true ⌝ }
-    requires { ⌜ (length (now names) ≤ 8) × (length (now table) ≡ twos (length (now names))) ⌝ }
+    requires { ⌜ (length (now names) ≤ 8) × (length (now table) ≡ 2 ^ length (now names)) ⌝ }
     ensures { λ _. ⌜ now (table .exit) ≡ truthOf (now (names .entry)) (parse symbols levels (now (bytes .entry))) ⌝ }
 {
     let mut assignment = 0;

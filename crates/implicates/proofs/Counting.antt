@@ -2,7 +2,7 @@
 use mathlib.Core.Path.{_≡_, refl, sym, ap, _∙_}
 use mathlib.Core.Bool.{Bool, true, false, cond, _&&_}
 use mathlib.Core.List.{List, [], _∷_, _++_}
-use Prim.Native.Nat.{ℕ, zero, suc, _+_, _≤_, _<_}
+use Prim.Native.Nat.{ℕ, zero, suc, _+_, _≤_, _<_, _^_}
 use native.Mathlib.Omega.{arith}
 use native.Mathlib.Numerals.{add-one}
 use lib.Dec.{eqb, ltb}
@@ -13,7 +13,7 @@ use Rattle.meaning.specs.Tests.{keep}
 use Rattle.meaning.specs.Clauses.{Digit, size, clauses, ofSize, belowSize, inOrder}
 use Rattle.meaning.proofs.Tests.{keep-append, keep-same}
 use Rattle.meaning.proofs.Clauses.{clauses-length, size-le}
-use Rattle.implicates.specs.Numbers.{threes, clauseAt}
+use Rattle.implicates.specs.Numbers.{clauseAt}
 use Rattle.implicates.proofs.Numbers.{length-clauses, clause-at}
 
 abbrev pub tally : Bool → ℕ
@@ -66,7 +66,7 @@ order-count p n =
     (λ v m. ap (λ (b : Bool). b && p v) (lt-ltb (size v) (suc n) (omega (arith, size-le v, clauses-length n v m)))))
 
 -- one turn of a loop that counts
-pub count-turn : (p : List Digit → Bool) (n c : ℕ) → c < threes n → length (keep p (take (c + 1) (clauses n))) ≡ length (keep p (take c (clauses n))) + tally (p (clauseAt n c))
+pub count-turn : (p : List Digit → Bool) (n c : ℕ) → c < 3 ^ n → length (keep p (take (c + 1) (clauses n))) ≡ length (keep p (take c (clauses n))) + tally (p (clauseAt n c))
 count-turn p n c h =
     ap (λ (j : ℕ). length (keep p (take j (clauses n)))) (add-one c)
     ∙ ap (λ (vs : List (List Digit)). length (keep p vs)) (take-suc (clauses n) c [] (rw length-clauses h) ∙ ap (λ (v : List Digit). take c (clauses n) ++ (v ∷ [])) (clause-at n c h))
@@ -74,5 +74,5 @@ count-turn p n c h =
     ∙ length-append (keep p (take c (clauses n))) (keep p (clauseAt n c ∷ []))
     ∙ ap (λ (x : ℕ). length (keep p (take c (clauses n))) + x) (keep-tally p (clauseAt n c) [] ∙ omega arith)
 
-pub count-all : (p : List Digit → Bool) (n : ℕ) → length (keep p (take (threes n) (clauses n))) ≡ length (inOrder p n)
-count-all p n = ap (λ (vs : List (List Digit)). length (keep p vs)) (take-all (threes n) (clauses n) (omega (arith, length-clauses n))) ∙ sym (order-count p n)
+pub count-all : (p : List Digit → Bool) (n : ℕ) → length (keep p (take (3 ^ n) (clauses n))) ≡ length (inOrder p n)
+count-all p n = ap (λ (vs : List (List Digit)). length (keep p vs)) (take-all (3 ^ n) (clauses n) (omega (arith, length-clauses n))) ∙ sym (order-count p n)

@@ -2,7 +2,7 @@
 use mathlib.Core.Path.{_≡_, refl, sym, ap, ap₂, _∙_}
 use mathlib.Core.Bool.{true, false, not}
 use mathlib.Core.List.{List, [], _∷_, _++_, map}
-use Prim.Native.Nat.{ℕ, zero, suc, _+_, _-_, _/_, _%_, _<_, _≤_}
+use Prim.Native.Nat.{ℕ, zero, suc, _+_, _-_, _%_, _<_, _≤_, _^_}
 use native.Mathlib.Omega.{arith}
 use native.Mathlib.Numerals.{add-one}
 use borrow.Author.Tests.{leb-true}
@@ -17,9 +17,9 @@ use Rattle.meaning.proofs.Tests.{both-true}
 use Rattle.meaning.proofs.Clauses.{size-le, length-rowOf}
 use Rattle.literals.specs.Literal.{literalAt}
 use Rattle.literals.specs.Row.{width, encode}
-use Rattle.implicates.specs.Numbers.{threes, weigh, number, clauseAt}
+use Rattle.implicates.specs.Numbers.{weigh, clauseAt}
 use Rattle.implicates.proofs.Numbers.{length-clauseAt}
-use Rattle.implicates.proofs.Digits.{digitOf, take-turn, drop-turn, digit-turn, rest-turn, drop-first, size-more, size-same}
+use Rattle.implicates.proofs.Digits.{Turn, digitOf, digit, take-turn, drop-turn, drop-first, size-more, size-same}
 
 -- ---- stores into copies of one value
 
@@ -62,7 +62,8 @@ literals-none [] = refl
 literals-none (s ∷ ss) = refl
 
 -- the front by the digit of a symbol
-front-literal : (s : ℕ) (ss : List ℕ) (d : Digit) (v : List Digit) → weigh d 1 < 2 → literals (s ∷ ss) (d ∷ v) ≡ literalAt (place s (not (eqb (weigh d 1) 1))) ∷ literals ss v
+front-literal : (s : ℕ) (ss : List ℕ) (d : Digit) (v : List Digit) → weigh d 1 < 2
+    → literals (s ∷ ss) (d ∷ v) ≡ literalAt (place s (not (eqb (weigh d 1) 1))) ∷ literals ss v
 front-literal s ss (denies false) v h = refl
 front-literal s ss (denies true) v h = refl
 front-literal s ss out v h = absurd (omega arith)
@@ -77,84 +78,66 @@ front-out s ss out v h = refl
 abbrev pub putFrom : List ℕ → List Digit → ℕ → List ℤ
 putFrom ss v k = replicate (size (take k v)) (pos 0) ++ (literals (drop k ss) (drop k v) ++ replicate (width - size v) (pos 0))
 
--- a row keeps its width
-pub length-putFrom : (ss : List ℕ) (v : List Digit) (k : ℕ) → length v ≤ length ss → length v ≤ width → length (putFrom ss v k) ≡ width
-length-putFrom ss v k h e =
-    simp (length-append, length-replicate, length-literals (drop k ss) (drop k v) (simp length-drop (omega arith)))
-    (omega (arith, size-le v, ap size (take-append-drop k v), size-append (take k v) (drop k v)))
+module _ (ss : List ℕ) (n c : ℕ) (enough : n ≡ length ss) (le : n ≤ width) where
+  -- a row keeps its width
+  pub length-putFrom : (k : ℕ) → length (putFrom ss (clauseAt n c) k) ≡ width
+  length-putFrom k =
+      let v = clauseAt n c in
+      let long = length-clauseAt n c in
+      simp (length-append, length-replicate, length-literals (drop k ss) (drop k v) (simp length-drop (omega arith)))
+      (omega (arith, size-le v, ap size (take-append-drop k v), size-append (take k v) (drop k v)))
 
-module _ (ss : List ℕ) (v : List Digit) (k : ℕ) (some : 0 < k) (low : k ≤ length v) (enough : length v ≤ length ss) where
-  counted : size (take k v) ≡ size (take (k - 1) v) + size (digitOf v k ∷ [])
-  counted = ap size (take-turn v k some low) ∙ size-append (take (k - 1) v) (digitOf v k ∷ [])
+  -- before the first turn and after the last
+  pub put-first : c < 3 ^ n → replicate width (pos 0) ≡ putFrom ss (clauseAt n c) n
+  put-first h =
+      let v = clauseAt n c in
+      let whole : take n v ≡ v = take-all n v (omega (arith, length-clauseAt n c)) in
+      let none : literals (drop n ss) (drop n v) ≡ [] = ap (literals (drop n ss)) (drop-first n c h) ∙ literals-none (drop n ss) in
+      let all : width ≡ size v + (width - size v) = omega (arith, size-le v, length-clauseAt n c) in
+      ap (λ (m : ℕ). replicate m (pos 0)) all
+      ∙ sym (replicate-append-replicate (size v) (width - size v) (pos 0))
+      ∙ sym (ap₂ (λ (t : List Digit) (r : List ℤ). replicate (size t) (pos 0) ++ (r ++ replicate (width - size v) (pos 0))) whole none)
 
-  split-symbols : drop (k - 1) ss ≡ getD ss (k - 1) 0 ∷ drop k ss
-  split-symbols =
-      let up : suc (k - 1) ≡ k = omega arith in
-      drop-cons ss (k - 1) 0 (omega arith) ∙ ap (λ (j : ℕ). getD ss (k - 1) 0 ∷ drop j ss) up
+  pub put-done : putFrom ss (clauseAt n c) 0 ≡ encode (rowOf ss (clauseAt n c))
+  unfolding encode
+  put-done =
+      let v = clauseAt n c in
+      let long = length-clauseAt n c in
+      let e : width ≡ length (literals ss v) + (width - size v) = omega (arith, length-literals ss v (omega arith), size-le v) in
+      sym
+      (ap (λ (j : ℕ). take j (literals ss v ++ replicate width (pos 0))) e
+      ∙ take-append-add (literals ss v) (replicate width (pos 0)) (width - size v)
+      ∙ ap (λ (z : List ℤ). literals ss v ++ z) (take-replicate (width - size v) width (pos 0) (omega arith)))
 
-  split-row : literals (drop (k - 1) ss) (drop (k - 1) v) ≡ literals (getD ss (k - 1) 0 ∷ drop k ss) (digitOf v k ∷ drop k v)
-  split-row = ap₂ literals split-symbols (drop-turn v k some low)
+-- a turn of the loop that puts in the k-th symbol's literal
+module _ {n c rest k : ℕ} (t : Turn n c rest k) where
+  counted : size (take k (clauseAt n c)) ≡ size (take (k - 1) (clauseAt n c)) + size (digitOf (clauseAt n c) k ∷ [])
+  counted = ap size (take-turn t) ∙ size-append (take (k - 1) (clauseAt n c)) (digitOf (clauseAt n c) k ∷ [])
 
-  count-literal : weigh (digitOf v k) 1 < 2 → size (take k v) ≡ suc (size (take (k - 1) v))
-  count-literal h = omega (arith, counted, size-more (digitOf v k) [] h)
+  pub count-literal : rest % 3 < 2 → size (take k (clauseAt n c)) ≡ suc (size (take (k - 1) (clauseAt n c)))
+  count-literal h = omega (arith, counted, size-more (digitOf (clauseAt n c) k) [] (omega (arith, digit t)))
 
-  count-out : 2 ≤ weigh (digitOf v k) 1 → size (take k v) ≡ size (take (k - 1) v)
-  count-out h = omega (arith, counted, size-same (digitOf v k) [] h)
+  pub count-out : 2 ≤ rest % 3 → size (take k (clauseAt n c)) ≡ size (take (k - 1) (clauseAt n c))
+  count-out h = omega (arith, counted, size-same (digitOf (clauseAt n c) k) [] (omega (arith, digit t)))
 
-  put-literal : weigh (digitOf v k) 1 < 2
-      → set (putFrom ss v k) (size (take (k - 1) v)) (literalAt (place (getD ss (k - 1) 0) (not (eqb (weigh (digitOf v k) 1) 1)))) ≡ putFrom ss v (k - 1)
-  put-literal h =
-      rw (count-literal h, split-row, front-literal (getD ss (k - 1) 0) (drop k ss) (digitOf v k) (drop k v) h)
-      (set-last (pos 0) _ (size (take (k - 1) v)) _)
+  module _ (ss : List ℕ) (enough : n ≡ length ss) where
+    split-row : literals (drop (k - 1) ss) (drop (k - 1) (clauseAt n c))
+        ≡ literals (getD ss (k - 1) 0 ∷ drop k ss) (digitOf (clauseAt n c) k ∷ drop k (clauseAt n c))
+    split-row =
+        let up : suc (k - 1) ≡ k = omega arith in
+        ap₂ literals (drop-cons ss (k - 1) 0 (omega arith) ∙ ap (λ (j : ℕ). getD ss (k - 1) 0 ∷ drop j ss) up) (drop-turn t)
 
-  put-out : 2 ≤ weigh (digitOf v k) 1 → putFrom ss v k ≡ putFrom ss v (k - 1)
-  put-out h = rw (count-out h, split-row, front-out (getD ss (k - 1) 0) (drop k ss) (digitOf v k) (drop k v) h)
+    pub put-literal : {row : List ℤ} {at : ℕ} {z : ℤ} → row ≡ putFrom ss (clauseAt n c) k → at ≡ size (take k (clauseAt n c)) → rest % 3 < 2
+        → z ≡ literalAt (place (getD ss (k - 1) 0) (not (eqb (rest % 3) 1))) → set row (at - 1) z ≡ putFrom ss (clauseAt n c) (k - 1)
+    put-literal {at = at} er ea h ez =
+        let e : at - 1 ≡ size (take (k - 1) (clauseAt n c)) = omega (arith, count-literal h) in
+        let front = front-literal (getD ss (k - 1) 0) (drop k ss) (digitOf (clauseAt n c) k) (drop k (clauseAt n c)) (omega (arith, digit t)) in
+        rw (er, e, ez, count-literal h, split-row, front, digit t) (set-last (pos 0) _ (size (take (k - 1) (clauseAt n c))) _)
 
--- before the first turn and after the last
-pub put-first : (ss : List ℕ) (n c : ℕ) → n ≤ width → c < threes n → replicate width (pos 0) ≡ putFrom ss (clauseAt n c) n
-put-first ss n c le h =
-    let v = clauseAt n c in
-    let whole : take n v ≡ v = take-all n v (omega (arith, length-clauseAt n c)) in
-    let none : literals (drop n ss) (drop n v) ≡ [] = ap (literals (drop n ss)) (drop-first n c h) ∙ literals-none (drop n ss) in
-    let all : width ≡ size v + (width - size v) = omega (arith, size-le v, length-clauseAt n c) in
-    ap (λ (m : ℕ). replicate m (pos 0)) all
-    ∙ sym (replicate-append-replicate (size v) (width - size v) (pos 0))
-    ∙ sym (ap₂ (λ (t : List Digit) (r : List ℤ). replicate (size t) (pos 0) ++ (r ++ replicate (width - size v) (pos 0))) whole none)
-
-pub put-done : (ss : List ℕ) (v : List Digit) → length v ≤ width → length v ≤ length ss → putFrom ss v 0 ≡ encode (rowOf ss v)
-unfolding encode
-put-done ss v le h =
-    let e : width ≡ length (literals ss v) + (width - size v) = omega (arith, length-literals ss v h, size-le v) in
-    sym
-    (ap (λ (j : ℕ). take j (literals ss v ++ replicate width (pos 0))) e
-    ∙ take-append-add (literals ss v) (replicate width (pos 0)) (width - size v)
-    ∙ ap (λ (z : List ℤ). literals ss v ++ z) (take-replicate (width - size v) width (pos 0) (omega arith)))
-
--- a turn of the loop that puts in the k-th symbol's literal, with what the loop keeps
-module _ (ss : List ℕ) (n c rest at k : ℕ) (row : List ℤ) (enough : n ≡ length ss) (some : 0 < k) (le : k ≤ n)
-    (er : rest ≡ number (take k (clauseAt n c))) (ea : at ≡ size (take k (clauseAt n c))) (ew : row ≡ putFrom ss (clauseAt n c) k) where
-  long : length (clauseAt n c) ≡ n
-  long = length-clauseAt n c
-
-  digit : rest % 3 ≡ weigh (digitOf (clauseAt n c) k) 1
-  digit = ap (λ (x : ℕ). x % 3) er ∙ digit-turn (clauseAt n c) k some (omega (arith, long))
-
-  pub next-rest : rest / 3 ≡ number (take (k - 1) (clauseAt n c))
-  next-rest = ap (λ (x : ℕ). x / 3) er ∙ rest-turn (clauseAt n c) k some (omega (arith, long))
-
-  pub at-literal : rest % 3 < 2 → at ≡ suc (size (take (k - 1) (clauseAt n c)))
-  at-literal h = ea ∙ count-literal ss (clauseAt n c) k some (omega (arith, long)) (omega (arith, long)) (omega (arith, digit))
-
-  pub at-out : 2 ≤ rest % 3 → at ≡ size (take (k - 1) (clauseAt n c))
-  at-out h = ea ∙ count-out ss (clauseAt n c) k some (omega (arith, long)) (omega (arith, long)) (omega (arith, digit))
-
-  pub next-literal : rest % 3 < 2 → set row (at - 1) (literalAt (place (getD ss (k - 1) 0) (not (eqb (rest % 3) 1)))) ≡ putFrom ss (clauseAt n c) (k - 1)
-  next-literal h =
-      let e : at - 1 ≡ size (take (k - 1) (clauseAt n c)) = omega (arith, at-literal h) in
-      rw (ew, e, digit) (put-literal ss (clauseAt n c) k some (omega (arith, long)) (omega (arith, long)) (omega (arith, digit)))
-
-  pub next-out : 2 ≤ rest % 3 → row ≡ putFrom ss (clauseAt n c) (k - 1)
-  next-out h = ew ∙ put-out ss (clauseAt n c) k some (omega (arith, long)) (omega (arith, long)) (omega (arith, digit))
+    pub put-out : 2 ≤ rest % 3 → putFrom ss (clauseAt n c) k ≡ putFrom ss (clauseAt n c) (k - 1)
+    put-out h =
+        let front = front-out (getD ss (k - 1) 0) (drop k ss) (digitOf (clauseAt n c) k) (drop k (clauseAt n c)) (omega (arith, digit t)) in
+        rw (count-out h, split-row, front)
 
 -- a symbol's number is at least 1
 pub symbol-pos : (ss : List ℕ) (i : ℕ) → all (leb 1) ss ≡ true → i < length ss → 0 < getD ss i 0

@@ -1,81 +1,67 @@
 -- Laws of the rule that a truth table tells: the table of primes has its prime implicates, and what it appends is told by its rows.
-use mathlib.Core.Path.{_≡_, refl, sym, ap, _∙_}
+use mathlib.Core.Path.{_≡_, refl, sym, ap, ap₂, _∙_}
 use mathlib.Core.Bool.{Bool, true, false, cond}
 use mathlib.Core.List.{List, [], _∷_, _++_, map, map-append, map-map}
-use Prim.Native.Nat.{ℕ, zero, suc, _+_, _-_, _≤_, _<_}
+use Prim.Native.Nat.{ℕ, zero, suc, _+_, _-_, _≤_, _<_, _^_}
 use native.Mathlib.Nat.{zero-add}
 use native.Mathlib.Omega.{arith}
 use borrow.Author.Tests.{le-leb, lt-leb, leb-true}
 use lib.Dec.{leb}
 use lib.IntN.{ℤ}
-use lib.ListN.{length, getD, take, drop, length-append, length-map, length-replicate, replicate, List·getD-append}
-use lib.Seq.{getD-append-add, take-at}
+use lib.ListN.{length, getD, take, length-append, length-map, length-replicate, replicate, List·getD-append}
+use lib.Seq.{getD-append-add, getD-take, take-at}
 use Rattle.meaning.specs.Tests.{any}
 use Rattle.meaning.specs.Formulae.{Rule}
-use Rattle.meaning.specs.Clauses.{twos, assignments, Digit, out, hit, prime, inOrder, primesInOrder, rowOf, rowsOf, satisfiable}
+use Rattle.meaning.specs.Clauses.{assignments, Digit, out, hit, prime, inOrder, primesInOrder, rowOf, rowsOf, satisfiable}
 use Rattle.meaning.proofs.Clauses.{given, hit-same, hit-empty}
 use Rattle.meaning.proofs.Order.{inOrder-same, primes-same}
-use Rattle.implicates.specs.Numbers.{threes}
 use Rattle.implicates.specs.Hits.{index, satOf, hitTable, marked, primeIn, primeTable}
 use Rattle.implicates.specs.Appending.{ruleBy, appended, answerOf, tableOf}
 use Rattle.implicates.specs.declared.Appended.the-variants.{Rows, Unsatisfiable, Full}
-use Rattle.implicates.proofs.Numbers.{threes-pos, number-empty, table-marks, length-table}
-use Rattle.implicates.proofs.Table.{index-below, length-hitTable}
+use Rattle.implicates.proofs.Numbers.{clauses-some, number-empty, table-marks}
+use Rattle.implicates.proofs.Table.{index-below}
 use Rattle.implicates.proofs.Lone.{primeIn-prime}
 
 -- ---- the tables of hits and primes
 
-module _ (n : ℕ) (truth hits : List Bool) (eh : hits ≡ hitTable n truth) where
-  hits-mark : (v : List Digit) → length v ≡ n → marked hits v ≡ hit (satOf truth) v
+module _ (n : ℕ) (truth : List Bool) where
+  hits-mark : (v : List Digit) → length v ≡ n → marked (hitTable n truth) v ≡ hit (satOf truth) v
   unfolding hitTable
-  hits-mark v l = ap (λ (h : List Bool). marked h v) eh ∙ table-marks (hit (satOf truth)) n v l
-
-  -- the marked clauses are the prime implicates
-  primes-listed : (primes : List Bool) → primes ≡ primeTable n hits → inOrder (marked primes) n ≡ primesInOrder (satOf truth) n
-  unfolding primeTable
-  primes-listed primes ep =
-      inOrder-same (marked primes) (prime (satOf truth)) n
-      (λ v l. ap (λ (h : List Bool). marked h v) ep ∙ table-marks (primeIn hits) n v l ∙ primeIn-prime (satOf truth) n hits hits-mark v l)
+  hits-mark v l = table-marks (hit (satOf truth)) n v l
 
   -- the last clause is the empty one, which is hit where some assignment satisfies the rule
-  last-hit : getD hits (threes n - 1) false ≡ any (satOf truth) (assignments n)
+  last-hit : getD (hitTable n truth) (3 ^ n - 1) false ≡ any (satOf truth) (assignments n)
   last-hit =
-      ap (λ (i : ℕ). getD hits i false) (sym (number-empty n))
+      ap (λ (i : ℕ). getD (hitTable n truth) i false) (sym (number-empty n))
       ∙ hits-mark (replicate n out) (length-replicate n out)
       ∙ hit-empty (satOf truth) n
 
--- ---- the same, where the tables are the first r places of longer lists
+  -- the marked clauses are the prime implicates
+  pub primes-listed : inOrder (marked (primeTable n (hitTable n truth))) n ≡ primesInOrder (satOf truth) n
+  unfolding primeTable
+  primes-listed =
+      inOrder-same (marked (primeTable n (hitTable n truth))) (prime (satOf truth)) n
+      (λ v l. table-marks (primeIn (hitTable n truth)) n v l ∙ primeIn-prime (satOf truth) n (hitTable n truth) hits-mark v l)
 
-module _ (n r : ℕ) (filled big : List Bool) (er : r ≡ threes n) (lf : length filled ≡ threes n) where
-  front : take r (filled ++ drop r big) ≡ filled
-  front = take-at filled (drop r big) r (lf ∙ sym er)
+-- ---- the same, where a table is the first r of a longer list
 
-  pub front-long : length (take r (filled ++ drop r big)) ≡ r
-  front-long = ap length front ∙ lf ∙ sym er
+pub record Front (r : ℕ) (table whole : List Bool) : Type 0 where
+  pub room : r ≤ length whole
+  pub long : length (take r whole) ≡ r
+  pub is : take r whole ≡ table
 
-  pub front-room : r ≤ length (filled ++ drop r big)
-  front-room = omega (arith, lf, er, length-append filled (drop r big))
+pub front-of : {r : ℕ} {table filled : List Bool} (rest : List Bool) → filled ≡ table → length table ≡ r → Front r table (filled ++ rest)
+front-of {r} {filled = filled} rest e l =
+    let lf = ap length e ∙ l in
+    let is = take-at filled rest r lf in
+    record { room = omega (arith, lf, length-append filled rest); long = ap length is ∙ lf; is = is ∙ e }
 
-  front-last : getD (filled ++ drop r big) (r - 1) false ≡ getD filled (threes n - 1) false
-  front-last =
-      List·getD-append filled (drop r big) false (r - 1) (omega (arith, lf, er, threes-pos n)) ∙ ap (λ (i : ℕ). getD filled (i - 1) false) er
-
-module _ (n r : ℕ) (truth hits big : List Bool) (er : r ≡ threes n) (eh : hits ≡ hitTable n truth) where
-  pub hits-long : length hits ≡ threes n
-  hits-long = ap length eh ∙ length-hitTable n truth
-
-  pub hits-last : getD (hits ++ drop r big) (r - 1) false ≡ any (satOf truth) (assignments n)
-  hits-last = front-last n r hits big er hits-long ∙ last-hit n truth hits eh
-
-  module _ (primes : List Bool) (ep : primes ≡ primeTable n (take r (hits ++ drop r big))) where
-    pub primes-long : length primes ≡ threes n
-    unfolding primeTable
-    primes-long = ap length ep ∙ length-table (primeIn (take r (hits ++ drop r big))) n
-
-    pub primes-front : inOrder (marked (take r (primes ++ drop r big))) n ≡ primesInOrder (satOf truth) n
-    primes-front =
-        ap (λ (p : List Bool). inOrder (marked p) n) (front n r primes big er primes-long)
-        ∙ primes-listed n truth (take r (hits ++ drop r big)) (front n r hits big er hits-long ∙ eh) primes ep
+pub hits-last : (n : ℕ) (truth whole : List Bool) {r : ℕ} → Front r (hitTable n truth) whole → r ≡ 3 ^ n
+    → getD whole (r - 1) false ≡ any (satOf truth) (assignments n)
+hits-last n truth whole {r} f e =
+    sym (getD-take r whole (r - 1) false (omega (arith, e, clauses-some n)))
+    ∙ ap₂ (λ (h : List Bool) (j : ℕ). getD h (j - 1) false) (f .is) e
+    ∙ last-hit n truth
 
 -- ---- what is told, and the table after it, on each way out
 
@@ -106,7 +92,7 @@ told-fit rule used lent n e = go (satisfiable rule) (leb (used + length (rowsOf 
 
 -- ---- the truth table of a rule tells the rule
 
-length-assignments : (n : ℕ) → length (assignments n) ≡ twos n
+length-assignments : (n : ℕ) → length (assignments n) ≡ 2 ^ n
 length-assignments zero = refl
 length-assignments (suc n) = simp (length-append, length-map, length-assignments n) (omega arith)
 
@@ -114,12 +100,12 @@ module _ (sat : List Bool → Bool) (a : List Bool) where
   part : Bool → List Bool
   part x = map (given sat x) (assignments (length a))
 
-  long : (x : Bool) → length (part x) ≡ twos (length a)
+  long : (x : Bool) → length (part x) ≡ 2 ^ length a
   unfolding part
   long x = length-map (assignments (length a)) (given sat x) ∙ length-assignments (length a)
 
   -- the half of the table where the first symbol has the value x
-  half : (x : Bool) → satOf (part x) a ≡ sat (x ∷ a) → getD (part false ++ part true) (cond x (twos (length a)) 0 + index a) false ≡ sat (x ∷ a)
+  half : (x : Bool) → satOf (part x) a ≡ sat (x ∷ a) → getD (part false ++ part true) (cond x (2 ^ length a) 0 + index a) false ≡ sat (x ∷ a)
   half false e = rw zero-add (List·getD-append (part false) (part true) false (index a) (omega (arith, long false, index-below a)) ∙ e)
   half true e = ap (λ (w : ℕ). getD (part false ++ part true) (w + index a) false) (sym (long false)) ∙ getD-append-add (part false) (part true) (index a) false ∙ e
 

@@ -1,16 +1,16 @@
 -- Which clauses are hit, as a table by number, and primality from it by leaving out one literal.
 use mathlib.Core.Bool.{Bool, false, not, cond, _&&_, _||_}
 use mathlib.Core.List.{List, [], _∷_, _++_, map}
-use Prim.Native.Nat.{ℕ, _+_, _*_}
+use Prim.Native.Nat.{ℕ, _+_, _*_, _^_}
 use lib.ListN.{length, getD, take, drop}
-use Rattle.meaning.specs.Clauses.{twos, Digit, clauses, hit}
+use Rattle.meaning.specs.Clauses.{Digit, clauses, hit}
 use Rattle.meaning.proofs.Primes.{lone}
 use Rattle.implicates.specs.Numbers.{number}
 
 -- an assignment's number: one bit a symbol, the first symbol's the highest
 abbrev pub index : List Bool → ℕ
 index [] = 0
-index (b ∷ a) = cond b (twos (length a)) 0 + index a
+index (b ∷ a) = cond b (2 ^ length a) 0 + index a
 
 -- the assignments that a truth table accepts
 abbrev pub satOf : List Bool → List Bool → Bool

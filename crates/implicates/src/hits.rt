@@ -2,17 +2,16 @@
 // smaller ones.
 
 ghost use mathlib.Core.Path.{_≡_};
-ghost use Prim.Native.Nat.{_*_, _<_, _≤_};
+ghost use Prim.Native.Nat.{_*_, _<_, _≤_, _^_};
 ghost use lib.ListN.{length};
-ghost use Rattle.meaning.specs.Clauses.{twos};
-ghost use Rattle.implicates.specs.Numbers.{threes, clauseAt};
+ghost use Rattle.implicates.specs.Numbers.{clauseAt};
 ghost use Rattle.implicates.specs.Hits.{hitTable, joined, marked, primeIn, primeTable};
 ghost use Rattle.meaning.proofs.Primes.{lone};
 
 // How many clauses there are over n symbols.
 pub fn clause_count(n: usize) -> usize
     requires { ⌜ n ≤ 8 ⌝ }
-    ensures { λ r. ⌜ r ≡ threes n ⌝ }
+    ensures { λ r. ⌜ r ≡ 3 ^ n ⌝ }
 {
     let mut count = 1;
     let mut k = 0;
@@ -38,7 +37,7 @@ fn join_thirds(hits: &mut [bool], third: usize)
 // Writes, for each clause over n symbols by number, whether it is hit: where the first symbol's literal is +, the rest is hit by
 // the half of the truth table where that symbol is false; where it is −, by the other half; where it is left out, by either.
 pub fn fill_hits(truth: &[bool], n: usize, hits: &mut [bool])
-    requires { ⌜ (length (now truth) ≡ twos n) × (length (now hits) ≡ threes n) ⌝ }
+    requires { ⌜ (length (now truth) ≡ 2 ^ n) × (length (now hits) ≡ 3 ^ n) ⌝ }
     ensures { λ _. ⌜ now (hits .exit) ≡ hitTable n (now (truth .entry)) ⌝ }
 {
     if n == 0 {
@@ -54,7 +53,7 @@ pub fn fill_hits(truth: &[bool], n: usize, hits: &mut [bool])
 
 // Whether each clause made by leaving out one literal of the clause numbered c is hit.
 fn one_less_hit(hits: &[bool], n: usize, c: usize) -> bool
-    requires { ⌜ (c < threes n) × (threes n ≤ length (now hits)) ⌝ }
+    requires { ⌜ (c < 3 ^ n) × (3 ^ n ≤ length (now hits)) ⌝ }
     ensures { λ r. ⌜ r ≡ lone (marked (now (hits .entry))) (clauseAt n c) ⌝ }
 {
     let mut rest = c;
@@ -76,7 +75,7 @@ fn one_less_hit(hits: &[bool], n: usize, c: usize) -> bool
 
 // Whether the clause numbered c is a prime implicate of the rule whose hits the table has.
 fn is_prime(hits: &[bool], n: usize, c: usize) -> bool
-    requires { ⌜ (c < threes n) × (threes n ≤ length (now hits)) ⌝ }
+    requires { ⌜ (c < 3 ^ n) × (3 ^ n ≤ length (now hits)) ⌝ }
     ensures { λ r. ⌜ r ≡ primeIn (now (hits .entry)) (clauseAt n c) ⌝ }
 {
     if hits[c] {
@@ -85,14 +84,15 @@ fn is_prime(hits: &[bool], n: usize, c: usize) -> bool
     one_less_hit(hits, n, c)
 }
 
-// Writes, for each clause over n symbols by number, whether it is prime.
-pub fn mark_primes(hits: &[bool], n: usize, primes: &mut [bool])
-    requires { ⌜ (length (now hits) ≡ threes n) × (length (now primes) ≡ threes n) ⌝ }
-    ensures { λ _. ⌜ now (primes .exit) ≡ primeTable n (now (hits .entry)) ⌝ }
+// Writes over each clause's hit, by number, whether the clause is prime. A clause without one of its literals has a larger number, so the
+// hits that are still needed lie ahead.
+pub fn mark_primes(hits: &mut [bool], n: usize)
+    requires { ⌜ length (now hits) ≡ 3 ^ n ⌝ }
+    ensures { λ _. ⌜ now (hits .exit) ≡ primeTable n (now (hits .entry)) ⌝ }
 {
     let mut c = 0;
-    while c < primes.len() {
-        primes[c] = is_prime(hits, n, c);
+    while c < hits.len() {
+        hits[c] = is_prime(hits, n, c);
         c += 1;
     }
 }

@@ -1,16 +1,15 @@
 // All prime implicates of a rule over at most eight symbols, from its truth table to rows.
 
-pub mod hits;
-pub mod rows;
+mod hits;
+mod rows;
 
 ghost use mathlib.Core.Path.{_≡_};
-ghost use Prim.Native.Nat.{_*_, _≤_};
+ghost use Prim.Native.Nat.{_*_, _≤_, _^_};
 ghost use mathlib.Core.Bool.{true};
 ghost use lib.Dec.{leb};
 ghost use lib.ListN.{length};
 ghost use Rattle.meaning.specs.Tests.{all};
 ghost use Rattle.literals.specs.Row.{width};
-ghost use Rattle.meaning.specs.Clauses.{twos};
 ghost use Rattle.implicates.specs.Appending.{ruleBy, answerOf, tableOf};
 
 // What appending a rule comes to: how many rows it appended, or why none.
@@ -29,24 +28,23 @@ pub fn append_rule(
     symbols: &[u8],
     truth: &[bool],
 ) -> Appended
-    requires { ⌜ (length (now symbols) ≤ 8) × (all (leb 1) (now symbols) ≡ true) × (length (now truth) ≡ twos (length (now symbols))) ⌝ }
+    requires { ⌜ (length (now symbols) ≤ 8) × (all (leb 1) (now symbols) ≡ true) × (length (now truth) ≡ 2 ^ length (now symbols)) ⌝ }
     requires { ⌜ (used ≤ lent) × (lent ≤ 2048) × (width * lent ≤ length (now table)) ⌝ }
     ensures { λ r. ⌜ r ≡ answerOf (ruleBy (now (symbols .entry)) (now (truth .entry))) used lent ⌝ }
     ensures { λ r. ⌜ now (table .exit) ≡ tableOf (ruleBy (now (symbols .entry)) (now (truth .entry))) used lent (now (table .entry)) ⌝ }
 {
     let n = symbols.len();
-    let mut hits = [false; 6561];
+    let mut clauses = [false; 6561];
     let count = hits::clause_count(n);
-    hits::fill_hits(truth, n, &mut hits[..count]);
-    if !hits[count - 1] {
+    hits::fill_hits(truth, n, &mut clauses[..count]);
+    if !clauses[count - 1] {
         return Appended::Unsatisfiable;
     }
-    let mut primes = [false; 6561];
-    hits::mark_primes(&hits[..count], n, &mut primes[..count]);
-    let rows = rows::row_count(&primes[..count], n);
+    hits::mark_primes(&mut clauses[..count], n);
+    let rows = rows::row_count(&clauses[..count], n);
     if lent - used < rows {
         return Appended::Full;
     }
-    rows::append_primes(table, used, symbols, &primes[..count], n);
+    rows::append_primes(table, used, symbols, &clauses[..count], n);
     Appended::Rows(rows)
 }

@@ -2,7 +2,7 @@
 
 ghost use mathlib.Core.Path.{_≡_};
 ghost use mathlib.Core.List.{[], _∷_, map};
-ghost use Prim.Native.Nat.{_+_, _*_, _<_, _≤_};
+ghost use Prim.Native.Nat.{_+_, _*_, _<_, _≤_, _^_};
 ghost use lib.ListN.{length, replicate};
 ghost use lib.IntN.{pos};
 ghost use mathlib.Core.Bool.{not, true};
@@ -12,14 +12,14 @@ ghost use Rattle.meaning.specs.Literals.{place};
 ghost use Rattle.meaning.specs.Clauses.{size, chosen, ofSize, inOrder, rowOf};
 ghost use Rattle.literals.specs.Literal.{literalAt};
 ghost use Rattle.literals.specs.Row.{width, encode};
-ghost use Rattle.implicates.specs.Numbers.{threes, clauseAt};
+ghost use Rattle.implicates.specs.Numbers.{clauseAt};
 ghost use Rattle.implicates.specs.Hits.{marked};
 ghost use Rattle.implicates.specs.Appending.{appended};
 use literals::WIDTH;
 
 // The number of literals of the clause numbered c.
 fn literal_count(n: usize, c: usize) -> usize
-    requires { ⌜ c < threes n ⌝ }
+    requires { ⌜ c < 3 ^ n ⌝ }
     ensures { λ r. ⌜ r ≡ size (clauseAt n c) ⌝ }
 {
     let mut rest = c;
@@ -57,7 +57,7 @@ fn clear(row: &mut [i16])
 
 // Writes the `count` literals of the clause numbered c to the front of a row of zeros, the last one first.
 fn put_literals(row: &mut [i16], symbols: &[u8], n: usize, c: usize, count: usize)
-    requires { ⌜ (now row ≡ replicate width (pos 0)) × (n ≤ 8) × (n ≡ length (now symbols)) × (all (leb 1) (now symbols) ≡ true) × (c < threes n) × (count ≡ size (clauseAt n c)) ⌝ }
+    requires { ⌜ (now row ≡ replicate width (pos 0)) × (n ≤ 8) × (n ≡ length (now symbols)) × (all (leb 1) (now symbols) ≡ true) × (c < 3 ^ n) × (count ≡ size (clauseAt n c)) ⌝ }
     ensures { λ _. ⌜ now (row .exit) ≡ encode (rowOf (now (symbols .entry)) (clauseAt n c)) ⌝ }
 {
     let mut rest = c;
@@ -76,7 +76,7 @@ fn put_literals(row: &mut [i16], symbols: &[u8], n: usize, c: usize, count: usiz
 
 // Writes the clause numbered c, of `count` literals, as a row: the literals, and then zeros.
 fn write_row(row: &mut [i16], symbols: &[u8], n: usize, c: usize, count: usize)
-    requires { ⌜ (length (now row) ≡ width) × (n ≤ 8) × (n ≡ length (now symbols)) × (all (leb 1) (now symbols) ≡ true) × (c < threes n) × (count ≡ size (clauseAt n c)) ⌝ }
+    requires { ⌜ (length (now row) ≡ width) × (n ≤ 8) × (n ≡ length (now symbols)) × (all (leb 1) (now symbols) ≡ true) × (c < 3 ^ n) × (count ≡ size (clauseAt n c)) ⌝ }
     ensures { λ _. ⌜ now (row .exit) ≡ encode (rowOf (now (symbols .entry)) (clauseAt n c)) ⌝ }
 {
     clear(row);
@@ -85,7 +85,7 @@ fn write_row(row: &mut [i16], symbols: &[u8], n: usize, c: usize, count: usize)
 
 // How many clauses the table marks: so many rows are appended.
 pub fn row_count(primes: &[bool], n: usize) -> usize
-    requires { ⌜ length (now primes) ≡ threes n ⌝ }
+    requires { ⌜ length (now primes) ≡ 3 ^ n ⌝ }
     ensures { λ r. ⌜ r ≡ length (inOrder (marked (now (primes .entry))) n) ⌝ }
 {
     let mut count = 0;
@@ -109,7 +109,7 @@ fn append_one(
     k: usize,
     c: usize,
 ) -> usize
-    requires { ⌜ (n ≤ 8) × (n ≡ length (now symbols)) × (all (leb 1) (now symbols) ≡ true) × (c < threes n) × (threes n ≤ length (now primes)) ⌝ }
+    requires { ⌜ (n ≤ 8) × (n ≡ length (now symbols)) × (all (leb 1) (now symbols) ≡ true) × (c < 3 ^ n) × (3 ^ n ≤ length (now primes)) ⌝ }
     requires room { ⌜ width * (row + length (chosen (marked (now primes)) k (clauseAt n c ∷ []))) ≤ length (now table) ⌝ }
     ensures { λ _. ⌜ now (table .exit) ≡ appended (now (table .entry)) row (map (rowOf (now (symbols .entry))) (chosen (marked (now (primes .entry))) k (clauseAt n c ∷ []))) ⌝ }
     ensures { λ r. ⌜ r ≡ row + length (chosen (marked (now (primes .entry))) k (clauseAt n c ∷ [])) ⌝ }
@@ -134,7 +134,7 @@ fn append_size(
     n: usize,
     k: usize,
 ) -> usize
-    requires { ⌜ (n ≤ 8) × (n ≡ length (now symbols)) × (all (leb 1) (now symbols) ≡ true) × (length (now primes) ≡ threes n) ⌝ }
+    requires { ⌜ (n ≤ 8) × (n ≡ length (now symbols)) × (all (leb 1) (now symbols) ≡ true) × (length (now primes) ≡ 3 ^ n) ⌝ }
     requires room { ⌜ width * (row + length (ofSize (marked (now primes)) n k)) ≤ length (now table) ⌝ }
     ensures { λ _. ⌜ now (table .exit) ≡ appended (now (table .entry)) row (map (rowOf (now (symbols .entry))) (ofSize (marked (now (primes .entry))) n k)) ⌝ }
     ensures { λ r. ⌜ r ≡ row + length (ofSize (marked (now (primes .entry))) n k) ⌝ }
@@ -157,7 +157,7 @@ pub fn append_primes(
     primes: &[bool],
     n: usize,
 ) -> usize
-    requires { ⌜ (n ≤ 8) × (n ≡ length (now symbols)) × (all (leb 1) (now symbols) ≡ true) × (length (now primes) ≡ threes n) ⌝ }
+    requires { ⌜ (n ≤ 8) × (n ≡ length (now symbols)) × (all (leb 1) (now symbols) ≡ true) × (length (now primes) ≡ 3 ^ n) ⌝ }
     requires room { ⌜ width * (row + length (inOrder (marked (now primes)) n)) ≤ length (now table) ⌝ }
     ensures { λ _. ⌜ now (table .exit) ≡ appended (now (table .entry)) row (map (rowOf (now (symbols .entry))) (inOrder (marked (now (primes .entry))) n)) ⌝ }
     ensures { λ r. ⌜ r ≡ row + length (inOrder (marked (now (primes .entry))) n) ⌝ }

@@ -1,4 +1,4 @@
--- One command of a run: its line goes into the buffer, and the text that is told stays the same. Assumes nothing.
+-- One command of a run: its line goes into the buffer, and the text that is told stays the same.
 use Prim.Native.Nat.{ℕ, _+_, _-_, _≤_, _<_}
 use mathlib.Core.Path.{_≡_, refl, sym, ap, subst, _∙_}
 use mathlib.Core.Bool.{Bool, true, false}

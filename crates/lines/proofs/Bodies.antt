@@ -1,4 +1,4 @@
--- A command's own body, cut short or whole. Assumes nothing.
+-- A command's own body, cut short or whole.
 use Prim.Native.Nat.{ℕ, _+_, _-_, _≤_, _<_}
 use mathlib.Core.Bool.{Bool, true, false}
 use mathlib.Core.Path.{_≡_, refl}

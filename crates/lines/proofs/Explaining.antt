@@ -1,4 +1,4 @@
--- The row that explain shows has at most eight literals. Assumes nothing.
+-- The row that explain shows has at most eight literals.
 use Prim.Native.Nat.{ℕ, _+_, _*_, _-_, _≤_}
 use mathlib.Core.List.{List}
 use native.Mathlib.Omega.{arith}

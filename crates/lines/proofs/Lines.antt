@@ -1,4 +1,4 @@
--- A line is its pieces one after the other: the ordinal, the command's word, its text and the line's end. Assumes nothing.
+-- A line is its pieces one after the other: the ordinal, the command's word, its text and the line's end.
 use Prim.Native.Nat.{ℕ}
 use mathlib.Core.Path.{_≡_}
 use mathlib.Core.List.{List}

@@ -1,4 +1,4 @@
--- Decimal numbers, digit by digit, and pieces of a line one after the other. Assumes nothing.
+-- Decimal numbers, digit by digit, and pieces of a line one after the other.
 use mathlib.Core.Path.{_≡_, refl, sym, ap, subst, _∙_}
 use mathlib.Core.Bool.{Bool, true, false}
 use mathlib.Core.List.{List, [], _∷_, _++_, append-assoc, append-nil}

@@ -1,4 +1,4 @@
--- The case that document 01 prints, from its hex to its eleven lines, by computing the definition. Assumes nothing.
+-- The case that document 01 prints, from its hex to its eleven lines, by computing the definition.
 use mathlib.Core.Path.{_≡_, refl}
 use mathlib.Core.Bool.{false}
 use mathlib.Core.List.{List, [], _∷_, _++_}

@@ -1,4 +1,4 @@
--- What the bytes of a command say: the length of its formula, and the literal in two bytes. Assumes nothing.
+-- What the bytes of a command say: the length of its formula, and the literal in two bytes.
 use Prim.Native.Nat.{ℕ, _+_, _*_, _-_, _^_, _≤_, _<_}
 use mathlib.Core.Path.{_≡_, ap, _∙_}
 use mathlib.Core.List.{List}
@@ -15,7 +15,7 @@ use Rattle.literals.specs.declared.refusal.Refusal.{Refusal}
 use Rattle.formula.specs.Parse.{Parsed, good, bad, levels, parse}
 use Rattle.formula.specs.Answers.{readOf, usedOf}
 use Rattle.formula.specs.declared.reading.Answer.the-variants.{Used, Refused}
-use Rattle.formula.proofs.Reaching.{parse-used}
+use Rattle.formula.proofs.Extents.{parse-used}
 use Rattle.lines.specs.Commands.{formulaLength, lengthOf, literalIn}
 
 -- ---- the formula

@@ -1,4 +1,4 @@
--- The lines of a run, one command at a time. Assumes nothing.
+-- The lines of a run, one command at a time.
 use Prim.Native.Nat.{ℕ, zero, suc, _≤_}
 use mathlib.Core.Path.{_≡_, refl, ap}
 use mathlib.Core.Bool.{cond}

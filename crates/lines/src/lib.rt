@@ -1,4 +1,4 @@
 // One journal command and its line, as bytes.
 
 pub mod commands;
-pub mod text;
+mod text;

@@ -1,4 +1,4 @@
--- What a sound row decodes to: the places of its literals, one for each, all below 2S. Assumes nothing.
+-- What a sound row decodes to: the places of its literals, one for each, all below 2S.
 use mathlib.Core.Path.{_≡_, refl, sym, ap, _∙_}
 use mathlib.Core.Logic.{_⊎_, inl, inr}
 use mathlib.Core.Bool.{true, _&&_, false≢true}
@@ -88,13 +88,6 @@ unfolding rowSound
 sound-decoded S [] e = absurd (false≢true e)
 sound-decoded S (l ∷ ls) e =
     let r = sound-cons S l ls e in after-literal S l ls (r .0) (r .1) (rising-decoded S (natAbs l) ls (r .2))
-
--- and there is at least one
-pub sound-some : (S : ℕ) (row : List ℤ) → rowSound S row ≡ true → 1 ≤ length (decode row)
-unfolding rowSound
-sound-some S [] e = absurd (false≢true e)
-sound-some S (l ∷ ls) e =
-    let one = sound-cons S l ls e .0 in omega (arith, ap length (decode-literal l ls (omega arith)))
 
 -- an element of a list stands at an index of it
 at-index : {p : ℕ} (row : List ℕ) → In p row → (i : ℕ) × (i < length row) × (getD row i 0 ≡ p)

@@ -1,4 +1,4 @@
--- Laws of a row as it is written: it decodes to the places that it was made of, and it is sound. Assumes nothing.
+-- Laws of a row as it is written: it decodes to the places that it was made of, and it is sound.
 use mathlib.Core.Path.{_≡_, refl, ap₂, _∙_}
 use mathlib.Core.Bool.{true, _&&_}
 use mathlib.Core.List.{List, [], _∷_, _++_, map, List·Memᴰ as In, List·Memᴰ·head as here, List·Memᴰ·tail as there}

@@ -1,4 +1,4 @@
--- The definitions at some numbers: each computes. Assumes nothing.
+-- The definitions at some numbers: each computes.
 use mathlib.Core.Path.{_≡_, refl}
 use mathlib.Core.Bool.{true, false}
 use mathlib.Core.List.{List, [], _∷_}

@@ -1,41 +1,51 @@
--- Laws of places: of a literal by its sign and its symbol's number, and of the literal at a place. Assumes nothing.
-use mathlib.Core.Path.{_≡_, sym, subst}
+-- Laws of places: of a literal by its sign and its symbol's number, and of the literal at a place.
+use mathlib.Core.Path.{_≡_, sym, ap, subst, _∙_}
 use mathlib.Core.Logic.{⊎-elim}
 use mathlib.Core.Bool.{true, false}
 use Prim.Native.Nat.{ℕ, suc, zero, _+_, _-_, _*_, _/_, _%_, _<_, _≤_}
 use native.Mathlib.Omega.{arith}
-use borrow.Author.Tests.{ltb-false, eq-eqb, ne-eqb}
+use borrow.Author.Tests.{ltb-false, le-ltb, eq-eqb, ne-eqb}
 use lib.Dec.{T}
-use lib.IntN.{ℤ, pos, negsuc, natAbs}
+use lib.IntN.{ℤ, pos, negsuc, natAbs, _-ℤ_, _*ℤ_, negℤ-negℤ}
 use lib.Signed.{ltZ}
-use mir.Syntax.{w16}
+use mir.Syntax.{w16, w64}
 use mir.Val.{SFits}
 use mir.Facts.{toZ-ofZ}
 use Rattle.meaning.proofs.Literals.{even-or-odd}
 use Rattle.literals.specs.Literal.{placeOf, literalAt}
-use Rattle.literals.proofs.Signed.{back}
+use Rattle.literals.proofs.Signed.{back, read, wide-is}
 
--- ---- the place of a literal, by the test `l > 0`
+-- ---- the place of a literal, by the test `l > 0`: from 2l in 64 bits
 
-positive : (l : ℤ) → ltZ (pos 0) l ≡ true → 2 * (natAbs l - 1) ≡ placeOf l
-unfolding placeOf
-positive (pos zero) e = absurd (subst T (sym e) tt)
-positive (pos (suc k)) e = omega arith
-positive (negsuc k) e = absurd (subst T (sym e) tt)
+pub double-fits : {l : ℤ} → SFits w16 l → SFits w64 (pos 2 *ℤ read (back l))
+double-fits {l} f = rw (wide-is f) (go l f)
+  where
+    go : (z : ℤ) → SFits w16 z → SFits w64 (pos 2 *ℤ z)
+    go (pos n) f = record { sfits = omega arith }
+    go (negsuc k) f = let e : 2 * suc k ≡ suc (2 * k + 1) = omega arith in rw e (record { sfits = omega arith })
 
-negative : (l : ℤ) → 1 ≤ natAbs l → ltZ (pos 0) l ≡ false → 2 * (natAbs l - 1) + 1 ≡ placeOf l
-unfolding placeOf
-negative (pos zero) h e = omega arith
-negative (pos (suc k)) h e = omega (arith, ltb-false 0 (suc k) e)
-negative (negsuc k) h e = omega arith
+double : {l : ℤ} → SFits w16 l → read (pos 2 *ℤ read (back l)) ≡ pos 2 *ℤ l
+double f = toZ-ofZ (double-fits f) ∙ ap (λ (z : ℤ). pos 2 *ℤ z) (wide-is f)
 
 -- it held
-pub place-positive : {l : ℤ} → SFits w16 l → ltZ (pos 0) (back l) ≡ true → 2 * (natAbs l - 1) ≡ placeOf l
-place-positive {l} f e = positive l (rw (toZ-ofZ f) at e)
+pub place-positive : {l : ℤ} → SFits w16 l → ltZ (pos 0) (back l) ≡ true → read (pos 2 *ℤ read (back l)) -ℤ pos 2 ≡ pos (placeOf l)
+unfolding placeOf
+place-positive {l} f e = rw (double f) (go l (rw (toZ-ofZ f) at e))
+  where
+    go : (z : ℤ) → ltZ (pos 0) z ≡ true → pos 2 *ℤ z -ℤ pos 2 ≡ pos (placeOf z)
+    go (pos zero) e = absurd (subst T (sym e) tt)
+    go (pos (suc k)) e = rw (le-ltb (2 * suc k) 2 (omega arith)) (ap pos (omega arith))
+    go (negsuc k) e = absurd (subst T (sym e) tt)
 
 -- it failed
-pub place-negative : {l : ℤ} → SFits w16 l → 1 ≤ natAbs l → ltZ (pos 0) (back l) ≡ false → 2 * (natAbs l - 1) + 1 ≡ placeOf l
-place-negative {l} f h e = negative l h (rw (toZ-ofZ f) at e)
+pub place-negative : {l : ℤ} → SFits w16 l → 1 ≤ natAbs l → ltZ (pos 0) (back l) ≡ false → negsuc 0 -ℤ read (pos 2 *ℤ read (back l)) ≡ pos (placeOf l)
+unfolding placeOf
+place-negative {l} f h e = rw (double f) (go l h (rw (toZ-ofZ f) at e))
+  where
+    go : (z : ℤ) → 1 ≤ natAbs z → ltZ (pos 0) z ≡ false → negsuc 0 -ℤ pos 2 *ℤ z ≡ pos (placeOf z)
+    go (pos zero) h e = absurd (omega arith)
+    go (pos (suc k)) h e = absurd (omega (arith, ltb-false 0 (suc k) e))
+    go (negsuc k) h e = rw (negℤ-negℤ (pos (2 * suc k)), le-ltb (2 * suc k) 1 (omega arith)) (ap pos (omega arith))
 
 -- the place of a literal of one of the symbols 1 to S
 pub place-bound : (S : ℕ) (l : ℤ) → 1 ≤ natAbs l → natAbs l ≤ S → placeOf l < 2 * S

@@ -1,15 +1,18 @@
--- Parts of a table, and the definitions of `specs/Row.antt` taken one number, or one row, at a time. Assumes nothing.
-use mathlib.Core.Path.{_≡_, ap, _∙_}
-use mathlib.Core.Bool.{Bool, true, false}
+-- Parts of a table, and the definitions of `specs/Row.antt` taken one number, or one row, at a time.
+use mathlib.Core.Path.{_≡_, refl, sym, ap, _∙_}
+use mathlib.Core.Logic.{⊎-elim}
+use mathlib.Core.Bool.{Bool, true, false, cond, _&&_}
 use mathlib.Core.List.{List, [], _∷_}
 use Prim.Native.Nat.{ℕ, suc, _+_, _-_, _<_, _≤_}
 use native.Mathlib.Numerals.{add-one}
 use native.Mathlib.Omega.{arith}
 use borrow.Author.Tests.{eq-eqb, ne-eqb, le-ltb, lt-ltb, le-leb, lt-leb}
+use lib.Dec.{eqb}
 use lib.IntN.{ℤ, pos, natAbs}
 use lib.ListN.{length, take, drop, getD}
 use lib.Seq.{drop-cons}
 use Rattle.meaning.specs.Tests.{all, from}
+use Rattle.meaning.proofs.Tables.{le-or-lt}
 use Rattle.literals.specs.Literal.{inRange}
 use Rattle.literals.specs.Row.{width, zeros, rising, rowSound}
 
@@ -26,27 +29,22 @@ part-none l k e h =
     let none : e - k ≡ 0 = omega arith in
     rw none
 
--- ---- `zeros`, at the first number of a part
-
-module _ (t : List ℤ) (k e : ℕ) (h : k < e) (f : e ≤ length t) where
-  pub zeros-no : (natAbs (getD t k (pos 0)) ≡ 0 → ⊥) → zeros (take (e - k) (drop k t)) ≡ false
-  unfolding zeros
-  zeros-no n = rw (part-cons t k e h f, ne-eqb _ _ n)
-
-  pub zeros-yes : natAbs (getD t k (pos 0)) ≡ 0 → zeros (take (e - k) (drop k t)) ≡ zeros (take (e - (k + 1)) (drop (k + 1) t))
-  unfolding zeros
-  zeros-yes n = rw (part-cons t k e h f, eq-eqb _ _ n)
-
-pub zeros-none : (t : List ℤ) (k e : ℕ) → e ≤ k → zeros (take (e - k) (drop k t)) ≡ true
-unfolding zeros
-zeros-none t k e h = rw (part-none t k e h)
-
 -- ---- `rising`, at the first number of a part, whose symbol's number is s
 
+-- zeros are all that rises above the largest symbol
+zeros-rising : (S : ℕ) (ls : List ℤ) → zeros ls ≡ rising S S ls
+unfolding zeros rising
+zeros-rising S [] = refl
+zeros-rising S (l ∷ ls) = same (eqb (natAbs l) 0) (zeros ls) _ (⊎-elim (λ h. rw (le-ltb S (natAbs l) h)) (λ h. rw (lt-ltb S (natAbs l) h, lt-leb (natAbs l) S h)) (le-or-lt (natAbs l) S))
+  where
+    same : (b x y : Bool) → y ≡ false → (b && x) ≡ cond b x y
+    same true x y e = refl
+    same false x y e = sym e
+
 module _ (S last : ℕ) (t : List ℤ) (k e : ℕ) (h : k < e) (f : e ≤ length t) (s : ℕ) (is : s ≡ natAbs (getD t k (pos 0))) where
-  pub rising-zero : s ≡ 0 → rising S last (take (e - k) (drop k t)) ≡ zeros (take (e - k) (drop k t))
-  unfolding rising zeros
-  rising-zero z = rw (part-cons t k e h f, ← is, eq-eqb s 0 z)
+  pub rising-zero : s ≡ 0 → rising S last (take (e - k) (drop k t)) ≡ rising S S (take (e - (k + 1)) (drop (k + 1) t))
+  unfolding rising
+  rising-zero z = rw (part-cons t k e h f, ← is, eq-eqb s 0 z) (zeros-rising S _)
 
   pub rising-low : (s ≡ 0 → ⊥) → s ≤ last → rising S last (take (e - k) (drop k t)) ≡ false
   unfolding rising

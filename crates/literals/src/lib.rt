@@ -3,12 +3,12 @@
 pub mod refusal;
 
 ghost use mathlib.Core.Path.{_≡_};
-ghost use Prim.Native.Nat.{_+_, _-_, _*_, _≤_};
+ghost use Prim.Native.Nat.{_+_, _*_, _≤_};
 ghost use lib.IntN.{natAbs};
 ghost use lib.ListN.{length, take, drop};
 ghost use Rattle.meaning.specs.Literals.{opp};
 ghost use Rattle.literals.specs.Literal.{inRange, placeOf};
-ghost use Rattle.literals.specs.Row.{width, rowsLent, zeros, rowSound, rowsSound, decode};
+ghost use Rattle.literals.specs.Row.{width, rowsLent, rowSound, rowsSound, decode};
 
 // How many numbers a row has.
 pub const WIDTH: usize = 8;
@@ -38,21 +38,26 @@ pub fn in_range(l: i16, symbols: usize) -> bool
     1 <= s && s <= symbols
 }
 
-// The place of a literal that was tested: +s stands at 2(s - 1), -s right after it. The callers of `rounds` and `board` test the
-// literal itself or the row that it stands in.
+// The place of a literal that was tested: +s stands at 2(s - 1), -s right after it. Every literal of every round passes here, so it
+// is worked out in 64 bits, where the sign costs no branch. `rounds` and `board` test the literal itself or the row that it
+// stands in.
 pub fn place(l: i16) -> usize
     requires { ⌜ (1 ≤ natAbs l) × (natAbs l ≤ 200) ⌝ }
     ensures { λ r. ⌜ r ≡ placeOf l ⌝ }
 {
-    let pair = 2 * (symbol(l) - 1);
-    if l > 0 { pair } else { pair + 1 }
+    let n = 2 * (l as isize);
+    if l > 0 {
+        (n - 2) as usize
+    } else {
+        (-1 - n) as usize
+    }
 }
 
-// The place of the opposite literal. The largest usize is odd, so that `p + 1` cannot wrap.
+// The place of the opposite literal: the last bit turned.
 pub fn opposite(p: usize) -> usize
     ensures { λ r. ⌜ r ≡ opp p ⌝ }
 {
-    if p % 2 == 0 { p + 1 } else { p - 1 }
+    p ^ 1
 }
 
 // The rows that a table lends.
@@ -63,23 +68,8 @@ pub fn rows_lent(table: &[i16]) -> usize
     if n < MOST_ROWS { n } else { MOST_ROWS }
 }
 
-// Whether the numbers of `table` from place `from` up to `end` are all 0.
-fn all_zero(table: &[i16], from: usize, end: usize) -> bool
-    requires { do ⌜ (from ≤ end) × (end ≤ (← ⟦table.len()⟧)) ⌝ }
-    ensures { λ r. ⌜ r ≡ zeros (take (end - from) (drop from (now (table .entry)))) ⌝ }
-{
-    let mut k = from;
-    while k < end {
-        if table[k] != 0 {
-            return false;
-        }
-        k += 1;
-    }
-    true
-}
-
 // Whether the eight numbers from place `at` on are a sound row: one to eight literals of the symbols 1 to `symbols` with rising
-// symbol numbers, and zeros after them.
+// symbol numbers, and zeros after them. After a zero `last` is the largest symbol, so that no literal may follow.
 fn row_sound(table: &[i16], at: usize, symbols: usize) -> bool
     requires { do ⌜ at + width ≤ (← ⟦table.len()⟧) ⌝ }
     ensures { λ r. ⌜ r ≡ rowSound symbols (take width (drop at (now (table .entry)))) ⌝ }
@@ -94,12 +84,13 @@ fn row_sound(table: &[i16], at: usize, symbols: usize) -> bool
     while k < end {
         let s = symbol(table[k]);
         if s == 0 {
-            return all_zero(table, k, end);
+            last = symbols;
+        } else {
+            if s <= last || symbols < s {
+                return false;
+            }
+            last = s;
         }
-        if s <= last || symbols < s {
-            return false;
-        }
-        last = s;
         k += 1;
     }
     true

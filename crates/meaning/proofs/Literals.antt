@@ -1,5 +1,5 @@
 -- Laws of places and opposites, and of sets of literals.
-use mathlib.Core.Path.{_≡_, refl, _∙_}
+use mathlib.Core.Path.{_≡_, refl}
 use mathlib.Core.Logic.{_⊎_, inl, inr, ⊎-elim}
 use mathlib.Core.Bool.{Bool, true, false, not, _&&_, false≢true}
 use mathlib.Core.List.{List, [], _∷_}
@@ -24,14 +24,6 @@ opp-odd p h = rw (ne-eqb _ _ h)
 
 pub even-or-odd : (p : ℕ) → (p % 2 ≡ 0) ⊎ (p % 2 ≡ 0 → ⊥)
 even-or-odd p = ⊎-elim (λ e. inl (eqb-true (p % 2) 0 e)) (λ e. inr (eqb-false (p % 2) 0 e)) (true-or-false (eqb (p % 2) 0))
-
--- the opposite of the opposite is the literal itself
-pub opp-opp : (p : ℕ) → opp (opp p) ≡ p
-opp-opp p =
-    ⊎-elim
-    (λ h. rw (opp-even p h) (opp-odd (p + 1) (omega arith) ∙ omega arith))
-    (λ h. rw (opp-odd p h) (opp-even (p - 1) (omega arith) ∙ omega arith))
-    (even-or-odd p)
 
 -- the opposite of one of an even number of places is another of them
 pub opp-in : (p places : ℕ) → places % 2 ≡ 0 → p < places → opp p < places

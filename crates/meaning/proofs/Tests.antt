@@ -70,9 +70,6 @@ module _ {A : Type 0} where
   any-at f (here {x = y} {xs = ys} e) p = or-left (f y) (any f ys) (rw e at p)
   any-at f (there {x = y} {xs = ys} m) p = or-right (f y) (any f ys) (any-at f m p)
 
-  pub any-none : (f : A → Bool) {x : A} {xs : List A} → any f xs ≡ false → In x xs → f x ≡ false
-  any-none f {x} {xs} e m = false-of (f x) (λ p. clash (any-at f m p) e)
-
   pub all-at : (f : A → Bool) {x : A} {xs : List A} → all f xs ≡ true → In x xs → f x ≡ true
   all-at f h (here {x = y} {xs = ys} e) = rw e (both-true (f y) (all f ys) h .0)
   all-at f h (there {x = y} {xs = ys} m) = all-at f (both-true (f y) (all f ys) h .1) m

@@ -3,7 +3,7 @@ use mathlib.Core.Path.{_≡_}
 use mathlib.Core.Bool.{Bool, true, false, not, _&&_, Bool·beq}
 use mathlib.Core.Logic.{_⊎_}
 use mathlib.Core.List.{List, [], _∷_, _++_, map, List·Memᴰ}
-use Prim.Native.Nat.{ℕ, zero, suc, _*_, _<_}
+use Prim.Native.Nat.{ℕ, zero, suc, _<_}
 use lib.ListN.{length}
 use lib.Dec.{eqb}
 use Rattle.meaning.specs.Tests.{any, all, keep}
@@ -14,11 +14,6 @@ use Rattle.meaning.specs.Formulae.{Rule}
 abbrev pub assignments : ℕ → List (List Bool)
 assignments zero = [] ∷ []
 assignments (suc n) = map (λ a. false ∷ a) (assignments n) ++ map (λ a. true ∷ a) (assignments n)
-
--- 2 to the n: how many there are
-abbrev pub twos : ℕ → ℕ
-twos zero = 1
-twos (suc n) = 2 * twos n
 
 -- "A clause over these symbols has each symbol at most once": for each symbol in turn, the literal that denies a value of the
 -- symbol (is false where the symbol has that value), or none.

@@ -15,6 +15,7 @@ use Rattle.meaning.proofs.Tables.{getD-tabulate, tabulate-ext, tabulate-same, m
 use Rattle.meaning.proofs.Rounds.{reached-length}
 use Rattle.meaning.proofs.Ranks.{rankOf-is, derived-rank}
 use Rattle.rounds.specs.Ranks.{below, supportFrom, supportsFrom, labelsFrom}
+use Rattle.rounds.proofs.Givers.{supportFrom-row}
 use Rattle.rounds.proofs.RankTables.{getD-ranksOf, length-ranksOf, below-ranksOf}
 
 module _ (places : ℕ) (rows : List (List ℕ)) (held : List Bool) (small : places < none) where
@@ -29,6 +30,13 @@ module _ (places : ℕ) (rows : List (List ℕ)) (held : List Bool) (small : pla
       same (suc k) (inl l) =
           unfold supportAt in ap (λ known. cond (eqb (suc k) none) none (firstGiver known rows p)) (below-ranksOf places rows held small k (omega arith))
       same (suc k) (inr e) = unfold supportAt in rw (eq-eqb (suc k) none e)
+
+  -- of a literal with a rank above 0: the lowest row that gives it in the round of its rank
+  pub support-row-is : (p : ℕ) → p < places → (rankOf places rows held p ≡ 0 → ⊥) → (rankOf places rows held p ≡ none → ⊥)
+      → firstGiver (below (rankOf places rows held p) (ranksOf places rows held)) rows p ≡ supportOf places rows held p
+  support-row-is p h some ranked =
+      let e = getD-ranksOf places rows held p h in
+      rw (← e) (supportFrom-row rows (ranksOf places rows held) p (λ z. some (sym e ∙ z)) (λ n. ranked (sym e ∙ n)) ∙ supportFrom-is p h)
 
   pub supportsFrom-is : supportsFrom rows (ranksOf places rows held) ≡ supportsOf places rows held
   unfolding supportsFrom supportsOf

@@ -11,6 +11,7 @@ use lib.ListN.{length, getD}
 use lib.Seq.{ext-getD}
 use borrow.Author.Tests.{lt-ltb, le-ltb}
 use Rattle.meaning.specs.Tests.{tabulate, none}
+use Rattle.meaning.specs.Literals.{has}
 use Rattle.meaning.specs.Rounds.{gives, byRows, after, rankBy, rankOf, ranksOf}
 use Rattle.meaning.proofs.Tests.{any-append}
 use Rattle.meaning.proofs.Tables.{length-tabulate, getD-tabulate, tabulate-ext, tabulate-same, map-tabulate}
@@ -18,6 +19,13 @@ use Rattle.meaning.proofs.Rounds.{reached-length, adds-early}
 use Rattle.meaning.proofs.Ranks.{after-start, rankBy-is, rankBy-below, rankBy-next, rankBy-final, rank-below}
 use Rattle.rounds.specs.Ranks.{below, mark, ranksAfter, startRanks, ranksBy, Told}
 use Rattle.rounds.proofs.Marking.{Marked, marked-none, marked-yes, marked-no, marked-below}
+
+-- a place is among those below a bound exactly if its rank is
+pub below-rank : (n : ℕ) (ranks : List ℕ) (p : ℕ) → p < length ranks → has (below n ranks) p ≡ ltb (getD ranks p 0) n
+unfolding below
+below-rank n [] p h = absurd (omega arith)
+below-rank n (r ∷ ranks) zero h = refl
+below-rank n (r ∷ ranks) (suc p) h = below-rank n ranks p (omega arith)
 
 -- ---- a round, row by row
 

@@ -63,6 +63,10 @@ supportsFrom rows ranks = tabulate (length ranks) (supportFrom rows ranks)
 unfoldable pub labelsFrom : ℕ → List ℕ → List ℕ
 labelsFrom symbols ranks = tabulate symbols (λ s. labelOf (ltb (getD ranks (2 * s) none) none) (ltb (getD ranks (2 * s + 1) none) none))
 
+-- both literals of a symbol, counted from 0, have a rank
+unfoldable pub clashIn : List ℕ → ℕ → Bool
+clashIn ranks s = ltb (getD ranks (2 * s) 0) none && ltb (getD ranks (2 * s + 1) 0) none
+
 -- the premises that some marked literal reaches
 unfoldable pub reachedFrom : ℕ → List (List ℕ) → List Bool → List Bool → List Bool
 reachedFrom places rows held marks = tabulate places (λ h. any (λ q. has marks q && reaches places rows held q h) (from 0 places))

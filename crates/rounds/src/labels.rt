@@ -1,13 +1,12 @@
-// The labels of the symbols, and the test for conflict.
+// The labels of the symbols, and the lowest one in conflict.
 
 ghost use mathlib.Core.Path.{_≡_};
-ghost use Prim.Native.Nat.{_*_};
+ghost use Prim.Native.Nat.{_*_, _/_, _<_};
 ghost use lib.Dec.{ltb};
 ghost use lib.ListN.{length};
-ghost use Rattle.meaning.specs.Tests.{none};
-ghost use Rattle.meaning.specs.Literals.{conflict};
+ghost use Rattle.meaning.specs.Tests.{none, first};
 ghost use Rattle.meaning.specs.Rounds.{labelOf};
-ghost use Rattle.rounds.specs.Ranks.{below, labelsFrom};
+ghost use Rattle.rounds.specs.Ranks.{labelsFrom, clashIn};
 use crate::NONE;
 
 // The label of a symbol from the ranks of its two literals.
@@ -35,17 +34,18 @@ pub fn write_labels(ranks: &[u16], labels: &mut [u8])
     }
 }
 
-// Whether some literal and its opposite both have a rank.
-pub fn in_conflict(ranks: &[u16]) -> bool
-    ensures { λ r. ⌜ r ≡ conflict (below none (now (ranks .entry))) ⌝ }
+// The lowest symbol, counted from 0, whose two literals both have a rank; NONE where there is none.
+pub fn first_clash(ranks: &[u16]) -> usize
+    requires { ⌜ length (now ranks) < none ⌝ }
+    ensures { λ r. ⌜ r ≡ first (clashIn (now (ranks .entry))) (length (now (ranks .entry)) / 2) ⌝ }
 {
     let symbols = ranks.len() / 2;
     let mut s = 0;
     while s < symbols {
         if ranks[2 * s] < NONE && ranks[2 * s + 1] < NONE {
-            return true;
+            return s;
         }
         s += 1;
     }
-    false
+    NONE as usize
 }

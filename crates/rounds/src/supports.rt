@@ -11,7 +11,7 @@ use literals::WIDTH;
 
 // The lowest-numbered row that gives the literal at p in round k, else NONE. A row is left at the first literal that disqualifies
 // it.
-fn support_row(table: &[i16], rows: usize, p: usize, ranks: &[u16], k: u16) -> u16
+pub fn support_row(table: &[i16], rows: usize, p: usize, ranks: &[u16], k: u16) -> u16
     requires { ⌜ Fit (length (now ranks)) rows (now table) ⌝ }
     ensures { λ r. ⌜ r ≡ firstGiver (below k (now (ranks .entry))) (rowsIn rows (now (table .entry))) p ⌝ }
 {

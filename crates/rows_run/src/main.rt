@@ -4,11 +4,10 @@ use libc::STDOUT_FILENO;
 use literals::WIDTH;
 ghost use mathlib.Core.Path.{_≡_};
 ghost use mathlib.Core.Bool.{true};
-ghost use Prim.Native.Nat.{_+_, _*_, _≤_};
+ghost use Prim.Native.Nat.{_+_, _*_, _≤_, _^_};
 ghost use lib.Dec.{leb};
 ghost use lib.ListN.{length};
 ghost use Rattle.meaning.specs.Tests.{all};
-ghost use Rattle.meaning.specs.Clauses.{twos};
 ghost use Rattle.literals.specs.Row.{width};
 
 fn print_count(n: usize) {
@@ -56,7 +55,7 @@ fn print_rows(table: &[i16], used: usize, n: usize)
 
 // Appends a rule after `used` rows of a table of `lent` rows, and prints what it appended, or why it appended nothing.
 fn show(symbols: &[u8], truth: &[bool], used: usize, lent: usize)
-    requires { ⌜ (length (now symbols) ≤ 8) × (all (leb 1) (now symbols) ≡ true) × (length (now truth) ≡ twos (length (now symbols))) ⌝ }
+    requires { ⌜ (length (now symbols) ≤ 8) × (all (leb 1) (now symbols) ≡ true) × (length (now truth) ≡ 2 ^ length (now symbols)) ⌝ }
     requires { ⌜ (used ≤ lent) × (lent ≤ 128) ⌝ }
 {
     let mut table = [0; 1024];
@@ -91,7 +90,7 @@ fn spelt(text: &[u8]) -> [bool; 256]
 
 // The same for a truth table that a text of 0 and 1 spells.
 fn show_text(symbols: &[u8], text: &[u8], used: usize, lent: usize)
-    requires { ⌜ (length (now symbols) ≤ 8) × (all (leb 1) (now symbols) ≡ true) × (length (now text) ≡ twos (length (now symbols))) ⌝ }
+    requires { ⌜ (length (now symbols) ≤ 8) × (all (leb 1) (now symbols) ≡ true) × (length (now text) ≡ 2 ^ length (now symbols)) ⌝ }
     requires { ⌜ (length (now text) ≤ 256) × (used ≤ lent) × (lent ≤ 128) ⌝ }
 {
     let truth = spelt(text);

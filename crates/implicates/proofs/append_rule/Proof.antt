@@ -1,238 +1,184 @@
--- `append_rule` meets its contract: the table of hits is filled and tells whether the rule is satisfiable, the table of primes has the
--- rule's prime implicates, and those that fit are appended.
+-- `append_rule` meets its contract: the table of hits is filled and tells whether the rule is satisfiable, the table of primes that is
+-- written over it has the rule's prime implicates, and those that fit are appended.
 use mathlib.Core.Path.{_≡_, refl, sym, ap, _∙_}
-use mathlib.Core.Bool.{Bool, false}
-use mathlib.Core.List.{List, map}
-use Prim.Native.Nat.{ℕ, _≤_}
+use mathlib.Core.Bool.{Bool, true, false}
+use mathlib.Core.List.{List, _++_, map}
+use Prim.Native.Nat.{ℕ, _-_, _≤_}
 use native.Mathlib.Omega.{arith}
 use borrow.Author.Needs.{needs}
 use borrow.Author.Tests.{not-true, not-false}
-use lib.ListN.{length, take, replicate, length-replicate, length-map}
+use lib.ListN.{length, getD, take, drop, replicate, length-replicate, length-map}
 use lib.Seq.{length-take-le}
-use Rattle.meaning.specs.Clauses.{Digit, primesInOrder, rowOf}
-use Rattle.implicates.specs.Numbers.{threes}
-use Rattle.implicates.specs.Hits.{satOf}
+use Rattle.meaning.specs.Formulae.{Rule}
+use Rattle.meaning.specs.Clauses.{inOrder, rowOf, rowsOf, satisfiable}
+use Rattle.implicates.specs.Hits.{hitTable, marked, primeTable}
 use Rattle.implicates.specs.Appending.{ruleBy, appended}
 use Rattle.implicates.specs.declared.Appended.the-variants.{Rows}
-use Rattle.implicates.proofs.Numbers.{threes-pos}
-use Rattle.implicates.proofs.Digits.{threes-mono}
-use Rattle.implicates.proofs.Rules.{front-long, front-room, hits-long, hits-last, primes-long, primes-front, told-unsatisfiable, told-full, told-rows}
+use Rattle.implicates.proofs.Numbers.{clauses-some, clauses-more}
+use Rattle.implicates.proofs.Table.{length-hitTable, length-primeTable}
+use Rattle.implicates.proofs.Rules.{Front, front-of, hits-last, primes-listed, told-unsatisfiable, told-full, told-rows}
 use Rattle.implicates.proofs.append_rule.Statement.{statement}
 use Rattle.implicates.proofs.append_rule.Tie as tie
 
--- the local tables, before they are filled
-abbrev big : List Bool
-big = replicate 6561 false
+-- ---- the rule, and how many clauses there are over its symbols
+
+abbrev rule : tie.Start → Rule
+rule s = ruleBy (s .args .symbols .now) (s .args .truth .now)
+
+abbrev start : tie.After-clause-count → tie.Start
+start k = k .before .before .before
+
+abbrev count : tie.After-clause-count → ℕ
+count k = k .clause-count .result
+
+abbrev n : tie.After-clause-count → ℕ
+n k = length (start k .args .symbols .now)
+
+abbrev hits : tie.After-clause-count → List Bool
+hits k = hitTable (n k) (start k .args .truth .now)
+
+-- ---- the local table: blank, with the hits, and with the primes over them
 
 -- there is room for the clauses over eight symbols
-module _ (n r : ℕ) (le : n ≤ 8) (er : r ≡ threes n) where
-  at-most : r ≤ 6561
-  at-most = omega (arith, threes-mono n 8 le)
+room : (k : tie.After-clause-count) → count k ≤ 6561
+room k = omega (arith, k .clause-count .ensures, clauses-more (n k) 8 (start k .pre .0 .0))
 
-  whole-long : length (take r big) ≡ r
-  whole-long = length-take-le r big (rw length-replicate at-most)
+abbrev blank : List Bool
+blank = replicate 6561 false
 
--- as many rows as prime implicates
-counted-rows : (ss : List ℕ) (sat : List Bool → Bool) (k : ℕ) (vs : List (List Digit)) → k ≡ length vs → vs ≡ primesInOrder sat (length ss)
-    → k ≡ length (map (rowOf ss) (primesInOrder sat (length ss)))
-counted-rows ss sat k vs e o = e ∙ ap length o ∙ sym (length-map (primesInOrder sat (length ss)) (rowOf ss))
+blank-long : (k : tie.After-clause-count) → length (take (count k) blank) ≡ count k
+blank-long k = length-take-le (count k) blank (rw length-replicate (room k))
+
+abbrev counting : tie.After-fill-hits → tie.After-clause-count
+counting f = f .before .before
+
+abbrev filled : tie.After-fill-hits → List Bool
+filled f = f .fill-hits .last .1 .1 .0 ++ drop (count (counting f)) blank
+
+hits-in : (f : tie.After-fill-hits) → Front (count (counting f)) (hits (counting f)) (filled f)
+hits-in f =
+    let k = counting f in
+    front-of _ (f .fill-hits .ensures) (length-hitTable (n k) (start k .args .truth .now) ∙ sym (k .clause-count .ensures))
+
+abbrev filling : tie.After-mark-primes → tie.After-fill-hits
+filling m = m .before .before .before .before
+
+abbrev over : tie.After-mark-primes → List Bool
+over m = m .mark-primes .last .0 ++ drop (count (counting (filling m))) (filled (filling m))
+
+primes-in : (m : tie.After-mark-primes) → let k = counting (filling m) in Front (count k) (primeTable (n k) (hits k)) (over m)
+primes-in m =
+    let k = counting (filling m) in
+    let e = m .mark-primes .ensures ∙ ap (primeTable (n k)) (hits-in (filling m) .is) in
+    front-of _ e (length-primeTable (n k) (hits k) ∙ sym (k .clause-count .ensures))
+
+-- ---- what it tells of the rule
+
+last-tells : (c : tie.After-clauses2) → let k = counting (c .before) in getD (filled (c .before)) (count k - 1) false ≡ satisfiable (rule (start k))
+last-tells c =
+    let k = counting (c .before) in
+    hits-last (n k) (start k .args .truth .now) (filled (c .before)) (hits-in (c .before)) (k .clause-count .ensures)
+
+satisfied : (e : tie.Else1) → satisfiable (rule (start (counting (e .before .before)))) ≡ true
+satisfied e = sym (last-tells (e .before)) ∙ not-false _ (e .if1 .left)
+
+rows-are : (m : tie.After-mark-primes) → let k = counting (filling m) in
+    map (rowOf (start k .args .symbols .now)) (inOrder (marked (take (count k) (over m))) (n k)) ≡ rowsOf (rule (start k))
+rows-are m =
+    let k = counting (filling m) in
+    ap (map (rowOf (start k .args .symbols .now)))
+    (ap (λ (p : List Bool). inOrder (marked p) (n k)) (primes-in m .is) ∙ primes-listed (n k) (start k .args .truth .now))
+
+-- the point before the rows are counted
+abbrev marking : tie.After-row-count → tie.After-mark-primes
+marking r = r .before .before .before
+
+counted : (r : tie.After-row-count) → r .row-count .result ≡ length (rowsOf (rule (start (counting (filling (marking r))))))
+counted r =
+    let k = counting (filling (marking r)) in
+    r .row-count .ensures
+    ∙ sym (length-map (inOrder (marked (take (count k) (over (marking r)))) (n k)) (rowOf (start k .args .symbols .now)))
+    ∙ ap length (rows-are (marking r))
+
+-- ---- the needs
 
 clause-count-requires : tie.Need-clause-count-requires
 clause-count-requires c κs = search needs
 
-array-borrow-prefix-hits : tie.Need-array-borrow-prefix-hits
-array-borrow-prefix-hits c =
-    let s = c .before .before .before in
-    let n = length (s .args .symbols .now) in
-    let r = c .clause-count .result in
-    let er = c .clause-count .ensures in
-    at-most n r (s .pre .0 .0) er
+array-borrow-prefix-clauses : tie.Need-array-borrow-prefix-clauses
+array-borrow-prefix-clauses c = room c
 
 slice-aggregate-fill-hits : tie.Need-slice-aggregate-fill-hits
-slice-aggregate-fill-hits c =
-    let s = c .before .before .before .before in
-    let n = length (s .args .symbols .now) in
-    let r = c .before .clause-count .result in
-    let er = c .before .clause-count .ensures in
-    sym (whole-long n r (s .pre .0 .0) er)
+slice-aggregate-fill-hits c = sym (blank-long (c .before))
 
 fill-hits-requires : tie.Need-fill-hits-requires
-fill-hits-requires c κs =
-    let s = c .before .before .before .before in
-    let n = length (s .args .symbols .now) in
-    let r = c .before .clause-count .result in
-    let er = c .before .clause-count .ensures in
-    (s .pre .0 .2, whole-long n r (s .pre .0 .0) er ∙ er)
+fill-hits-requires c κs = (start (c .before) .pre .0 .2, blank-long (c .before) ∙ c .before .clause-count .ensures)
 
 sub-if1 : tie.Need-sub-if1
-sub-if1 c =
-    let s = c .before .before .before .before .before .before in
-    let n = length (s .args .symbols .now) in
-    let r = c .before .before .before .clause-count .result in
-    let er = c .before .before .before .clause-count .ensures in
-    let f = c .before .fill-hits in
-    omega (arith, er, threes-pos n)
+sub-if1 c = let k = c .before .before .before in omega (arith, k .clause-count .ensures, clauses-some (n k))
 
 array-read-if1 : tie.Need-array-read-if1
-array-read-if1 c =
-    let s = c .before .before .before .before .before .before in
-    let n = length (s .args .symbols .now) in
-    let r = c .before .before .before .clause-count .result in
-    let er = c .before .before .before .clause-count .ensures in
-    let f = c .before .fill-hits in
-    omega (arith, at-most n r (s .pre .0 .0) er)
+array-read-if1 c = let k = c .before .before .before in omega (arith, room k, k .clause-count .ensures, clauses-some (n k))
 
 returns : tie.Need-returns
 returns c =
-    let s = c .before .before .before .before .before .before .before in
-    let n = length (s .args .symbols .now) in
-    let r = c .before .before .before .before .clause-count .result in
-    let er = c .before .before .before .before .clause-count .ensures in
-    let f = c .before .before .fill-hits in
-    told-unsatisfiable (ruleBy (s .args .symbols .now) (s .args .truth .now)) (s .args .used) (s .args .lent) (s .args .table .now)
-    (sym (hits-last n r (s .args .truth .now) (f .last .1 .1 .0) big er (f .ensures)) ∙ not-true _ (c .if1 .taken))
+    let s = start (counting (c .before .before)) in
+    told-unsatisfiable (rule s) (s .args .used) (s .args .lent) (s .args .table .now) (sym (last-tells (c .before)) ∙ not-true _ (c .if1 .taken))
 
-array-share-prefix-hits : tie.Need-array-share-prefix-hits
-array-share-prefix-hits c =
-    let s = c .before .before .before .before .before .before .before in
-    let n = length (s .args .symbols .now) in
-    let r = c .before .before .before .before .clause-count .result in
-    let er = c .before .before .before .before .clause-count .ensures in
-    let f = c .before .before .fill-hits in
-    front-room n r (f .last .1 .1 .0) big er (hits-long n r (s .args .truth .now) (f .last .1 .1 .0) big er (f .ensures))
+array-borrow-prefix-clauses-2 : tie.Need-array-borrow-prefix-clauses-2
+array-borrow-prefix-clauses-2 c = hits-in (c .before .before) .room
 
 slice-aggregate-mark-primes : tie.Need-slice-aggregate-mark-primes
-slice-aggregate-mark-primes c =
-    let s = c .before .before .before .before .before .before .before .before in
-    let n = length (s .args .symbols .now) in
-    let r = c .before .before .before .before .before .clause-count .result in
-    let er = c .before .before .before .before .before .clause-count .ensures in
-    let f = c .before .before .before .fill-hits in
-    sym (front-long n r (f .last .1 .1 .0) big er (hits-long n r (s .args .truth .now) (f .last .1 .1 .0) big er (f .ensures)))
-
-array-borrow-prefix-primes : tie.Need-array-borrow-prefix-primes
-array-borrow-prefix-primes c =
-    let s = c .before .before .before .before .before .before .before .before in
-    let n = length (s .args .symbols .now) in
-    let r = c .before .before .before .before .before .clause-count .result in
-    let er = c .before .before .before .before .before .clause-count .ensures in
-    let f = c .before .before .before .fill-hits in
-    at-most n r (s .pre .0 .0) er
-
-slice-aggregate-mark-primes-2 : tie.Need-slice-aggregate-mark-primes-2
-slice-aggregate-mark-primes-2 c =
-    let s = c .before .before .before .before .before .before .before .before .before in
-    let n = length (s .args .symbols .now) in
-    let r = c .before .before .before .before .before .before .clause-count .result in
-    let er = c .before .before .before .before .before .before .clause-count .ensures in
-    let f = c .before .before .before .before .fill-hits in
-    sym (whole-long n r (s .pre .0 .0) er)
+slice-aggregate-mark-primes c = sym (hits-in (c .before .before .before) .long)
 
 mark-primes-requires : tie.Need-mark-primes-requires
-mark-primes-requires c κs =
-    let s = c .before .before .before .before .before .before .before .before .before in
-    let n = length (s .args .symbols .now) in
-    let r = c .before .before .before .before .before .before .clause-count .result in
-    let er = c .before .before .before .before .before .before .clause-count .ensures in
-    let f = c .before .before .before .before .fill-hits in
-    (front-long n r (f .last .1 .1 .0) big er (hits-long n r (s .args .truth .now) (f .last .1 .1 .0) big er (f .ensures)) ∙ er, whole-long n r (s .pre .0 .0) er ∙ er)
+mark-primes-requires c κs = let f = c .before .before .before in hits-in f .long ∙ counting f .clause-count .ensures
 
-array-share-prefix-primes : tie.Need-array-share-prefix-primes
-array-share-prefix-primes c =
-    let s = c .before .before .before .before .before .before .before .before .before .before .before in
-    let n = length (s .args .symbols .now) in
-    let r = c .before .before .before .before .before .before .before .before .clause-count .result in
-    let er = c .before .before .before .before .before .before .before .before .clause-count .ensures in
-    let f = c .before .before .before .before .before .before .fill-hits in
-    let m = c .before .mark-primes in
-    front-room n r (m .last .1 .1 .0) big er (primes-long n r (s .args .truth .now) (f .last .1 .1 .0) big er (f .ensures) (m .last .1 .1 .0) (m .ensures))
+array-share-prefix-clauses : tie.Need-array-share-prefix-clauses
+array-share-prefix-clauses c = primes-in (c .before) .room
 
 slice-aggregate-row-count : tie.Need-slice-aggregate-row-count
-slice-aggregate-row-count c =
-    let s = c .before .before .before .before .before .before .before .before .before .before .before .before in
-    let n = length (s .args .symbols .now) in
-    let r = c .before .before .before .before .before .before .before .before .before .clause-count .result in
-    let er = c .before .before .before .before .before .before .before .before .before .clause-count .ensures in
-    let f = c .before .before .before .before .before .before .before .fill-hits in
-    let m = c .before .before .mark-primes in
-    sym (front-long n r (m .last .1 .1 .0) big er (primes-long n r (s .args .truth .now) (f .last .1 .1 .0) big er (f .ensures) (m .last .1 .1 .0) (m .ensures)))
+slice-aggregate-row-count c = sym (primes-in (c .before .before) .long)
 
 row-count-requires : tie.Need-row-count-requires
-row-count-requires c κs =
-    let s = c .before .before .before .before .before .before .before .before .before .before .before .before in
-    let n = length (s .args .symbols .now) in
-    let r = c .before .before .before .before .before .before .before .before .before .clause-count .result in
-    let er = c .before .before .before .before .before .before .before .before .before .clause-count .ensures in
-    let f = c .before .before .before .before .before .before .before .fill-hits in
-    let m = c .before .before .mark-primes in
-    front-long n r (m .last .1 .1 .0) big er (primes-long n r (s .args .truth .now) (f .last .1 .1 .0) big er (f .ensures) (m .last .1 .1 .0) (m .ensures)) ∙ er
+row-count-requires c κs = let m = c .before .before in primes-in m .long ∙ counting (filling m) .clause-count .ensures
 
 sub-if2 : tie.Need-sub-if2
 sub-if2 c = search needs
 
 returns-2 : tie.Need-returns-2
 returns-2 c =
-    let s = c .before .before .before .before .before .before .before .before .before .before .before .before .before .before in
-    let n = length (s .args .symbols .now) in
-    let r = c .before .before .before .before .before .before .before .before .before .before .before .clause-count .result in
-    let er = c .before .before .before .before .before .before .before .before .before .before .before .clause-count .ensures in
-    let f = c .before .before .before .before .before .before .before .before .before .fill-hits in
-    let m = c .before .before .before .before .mark-primes in
-    let rule = ruleBy (s .args .symbols .now) (s .args .truth .now) in
-    let sat = sym (hits-last n r (s .args .truth .now) (f .last .1 .1 .0) big er (f .ensures)) ∙ not-false _ (c .before .before .before .before .before .before .before .if1 .left) in
-    let counted = counted-rows (s .args .symbols .now) (satOf (s .args .truth .now)) (c .before .row-count .result) _ (c .before .row-count .ensures) (primes-front n r (s .args .truth .now) (f .last .1 .1 .0) big er (f .ensures) (m .last .1 .1 .0) (m .ensures)) in
-    told-full rule (s .args .used) (s .args .lent) (s .args .table .now) sat (omega (arith, counted, c .if2 .taken, s .pre .1 .0))
+    let m = marking (c .before) in
+    let s = start (counting (filling m)) in
+    told-full (rule s) (s .args .used) (s .args .lent) (s .args .table .now) (satisfied (m .before .before))
+    (omega (arith, counted (c .before), c .if2 .taken, s .pre .1 .0))
 
-array-share-prefix-primes-2 : tie.Need-array-share-prefix-primes-2
-array-share-prefix-primes-2 c =
-    let s = c .before .before .before .before .before .before .before .before .before .before .before .before .before .before .before in
-    let n = length (s .args .symbols .now) in
-    let r = c .before .before .before .before .before .before .before .before .before .before .before .before .clause-count .result in
-    let er = c .before .before .before .before .before .before .before .before .before .before .before .before .clause-count .ensures in
-    let f = c .before .before .before .before .before .before .before .before .before .before .fill-hits in
-    let m = c .before .before .before .before .before .mark-primes in
-    front-room n r (m .last .1 .1 .0) big er (primes-long n r (s .args .truth .now) (f .last .1 .1 .0) big er (f .ensures) (m .last .1 .1 .0) (m .ensures))
+array-share-prefix-clauses-2 : tie.Need-array-share-prefix-clauses-2
+array-share-prefix-clauses-2 c = primes-in (marking (c .before .before)) .room
 
 slice-aggregate-append-primes : tie.Need-slice-aggregate-append-primes
-slice-aggregate-append-primes c =
-    let s = c .before .before .before .before .before .before .before .before .before .before .before .before .before .before .before .before in
-    let n = length (s .args .symbols .now) in
-    let r = c .before .before .before .before .before .before .before .before .before .before .before .before .before .clause-count .result in
-    let er = c .before .before .before .before .before .before .before .before .before .before .before .before .before .clause-count .ensures in
-    let f = c .before .before .before .before .before .before .before .before .before .before .before .fill-hits in
-    let m = c .before .before .before .before .before .before .mark-primes in
-    sym (front-long n r (m .last .1 .1 .0) big er (primes-long n r (s .args .truth .now) (f .last .1 .1 .0) big er (f .ensures) (m .last .1 .1 .0) (m .ensures)))
+slice-aggregate-append-primes c = sym (primes-in (marking (c .before .before .before)) .long)
 
 append-primes-requires : tie.Need-append-primes-requires
 append-primes-requires c κs =
-    let s = c .before .before .before .before .before .before .before .before .before .before .before .before .before .before .before .before in
-    let n = length (s .args .symbols .now) in
-    let r = c .before .before .before .before .before .before .before .before .before .before .before .before .before .clause-count .result in
-    let er = c .before .before .before .before .before .before .before .before .before .before .before .before .before .clause-count .ensures in
-    let f = c .before .before .before .before .before .before .before .before .before .before .before .fill-hits in
-    let m = c .before .before .before .before .before .before .mark-primes in
-    let k = c .before .before .before .row-count in
-    ((s .pre .0 .0, refl, s .pre .0 .1, front-long n r (m .last .1 .1 .0) big er (primes-long n r (s .args .truth .now) (f .last .1 .1 .0) big er (f .ensures) (m .last .1 .1 .0) (m .ensures)) ∙ er), omega (arith, k .ensures, c .before .before .if2 .left, s .pre .1))
+    let e = c .before .before in
+    let m = marking (e .before) in
+    let k = counting (filling m) in
+    let p = start k .pre in
+    ((p .0 .0, refl, p .0 .1, primes-in m .long ∙ k .clause-count .ensures), omega (arith, e .before .row-count .ensures, e .if2 .left, p .1))
 
 same-length : tie.Need-same-length
 same-length c = search needs
 
 returns-3 : tie.Need-returns-3
 returns-3 c =
-    let s = c .before .before .before .before .before .before .before .before .before .before .before .before .before .before .before .before .before .before in
-    let n = length (s .args .symbols .now) in
-    let r = c .before .before .before .before .before .before .before .before .before .before .before .before .before .before .before .clause-count .result in
-    let er = c .before .before .before .before .before .before .before .before .before .before .before .before .before .before .before .clause-count .ensures in
-    let f = c .before .before .before .before .before .before .before .before .before .before .before .before .before .fill-hits in
-    let m = c .before .before .before .before .before .before .before .before .mark-primes in
-    let rule = ruleBy (s .args .symbols .now) (s .args .truth .now) in
-    let sat = sym (hits-last n r (s .args .truth .now) (f .last .1 .1 .0) big er (f .ensures)) ∙ not-false _ (c .before .before .before .before .before .before .before .before .before .before .before .if1 .left) in
-    let counted = counted-rows (s .args .symbols .now) (satOf (s .args .truth .now)) (c .before .before .before .before .before .row-count .result) _ (c .before .before .before .before .before .row-count .ensures) (primes-front n r (s .args .truth .now) (f .last .1 .1 .0) big er (f .ensures) (m .last .1 .1 .0) (m .ensures)) in
-    let t = told-rows rule (s .args .used) (s .args .lent) (s .args .table .now) sat (omega (arith, counted, c .before .before .before .before .if2 .left, s .pre .1 .0)) in (
-      ap Rows counted ∙ t .0,
-      c .before .append-primes .ensures .0
-          ∙ ap (λ (vs : List (List Digit)). appended (s .args .table .now) (s .args .used) (map (rowOf (s .args .symbols .now)) vs)) (primes-front n r (s .args .truth .now) (f .last .1 .1 .0) big er (f .ensures) (m .last .1 .1 .0) (m .ensures))
-          ∙ t .1,
+    let e = c .before .before .before .before in
+    let m = marking (e .before) in
+    let s = start (counting (filling m)) in
+    let told = told-rows (rule s) (s .args .used) (s .args .lent) (s .args .table .now) (satisfied (m .before .before))
+    (omega (arith, counted (e .before), e .if2 .left, s .pre .1 .0)) in (
+      ap Rows (counted (e .before)) ∙ told .0,
+      c .before .append-primes .ensures .0 ∙ ap (appended (s .args .table .now) (s .args .used)) (rows-are m) ∙ told .1,
     )
 
 pub append-rule-spec : {M : Type 1} → statement M
@@ -240,23 +186,21 @@ append-rule-spec =
     tie.close
     (tie.spec
     clause-count-requires
-    array-borrow-prefix-hits
+    array-borrow-prefix-clauses
     slice-aggregate-fill-hits
     fill-hits-requires
     sub-if1
     array-read-if1
     returns
-    array-share-prefix-hits
+    array-borrow-prefix-clauses-2
     slice-aggregate-mark-primes
-    array-borrow-prefix-primes
-    slice-aggregate-mark-primes-2
     mark-primes-requires
-    array-share-prefix-primes
+    array-share-prefix-clauses
     slice-aggregate-row-count
     row-count-requires
     sub-if2
     returns-2
-    array-share-prefix-primes-2
+    array-share-prefix-clauses-2
     slice-aggregate-append-primes
     append-primes-requires
     same-length

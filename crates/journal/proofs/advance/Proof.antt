@@ -1,4 +1,4 @@
--- `journal::advance` meets its contract: one line more in the buffer, and one command less to come. Assumes nothing.
+-- `journal::advance` meets its contract: one line more in the buffer, and one command less to come.
 use borrow.Author.Needs.{needs}
 use native.Mathlib.Omega.{arith}
 use Rattle.formula.proofs.Parts.{onward-length}

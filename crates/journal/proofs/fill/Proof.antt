@@ -1,4 +1,4 @@
--- `journal::fill` meets its contract: the invariant: the buffer and what is still to come are the same text. The measure is what is left of the input. Assumes nothing.
+-- `journal::fill` meets its contract: the invariant: the buffer and what is still to come are the same text. The measure is what is left of the input.
 use borrow.Author.Needs.{needs}
 use Prim.Native.Nat.{_+_, _-_, _≤_, _<_}
 use mathlib.Core.Path.{_≡_, refl, sym, _∙_}

@@ -1,4 +1,4 @@
--- `journal::goes_on` meets its contract: by the test. Assumes nothing.
+-- `journal::goes_on` meets its contract: by the test.
 use borrow.Author.Needs.{needs}
 use Rattle.journal.proofs.goes_on.Statement.{statement}
 use Rattle.journal.proofs.goes_on.Tie as tie

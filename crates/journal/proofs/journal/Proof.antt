@@ -1,4 +1,4 @@
--- `journal::journal` meets its contract: the invariant: the next command stands in the input. The measure is what is left of the input. Assumes nothing.
+-- `journal::journal` meets its contract: the invariant: the next command stands in the input. The measure is what is left of the input.
 use borrow.Author.Needs.{needs}
 use Prim.Native.Nat.{_-_, _≤_}
 use mathlib.Core.Path.{_≡_, refl, sym, _∙_}

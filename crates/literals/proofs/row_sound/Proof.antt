@@ -1,5 +1,5 @@
 -- `literals::row_sound` meets its contract. The loop's invariant: the row is sound exactly where the numbers from place k on rise
--- from above `last`. The measure is what is left of the row. Assumes nothing.
+-- from above `last`. The measure is what is left of the row.
 use Prim.Native.Nat.{_≤_, _<_, _-_}
 use mathlib.Core.Path.{_≡_, sym, ap, _∙_}
 use mathlib.Core.Logic.{⊎-elim}
@@ -78,17 +78,8 @@ shared-slice-copy-out-symbol c = omega arith
 symbol-requires-2 : tie.Need-symbol-requires-2 Inv-loop μ-loop
 symbol-requires-2 c κs = search needs
 
-all-zero-requires : tie.Need-all-zero-requires Inv-loop μ-loop
-all-zero-requires c κs = omega arith
-
 returns-2 : tie.Need-returns-2 Inv-loop μ-loop
 returns-2 c =
-    let w = c .before .before in
-    let t = w .before .before in
-    c .all-zero .ensures ∙ sym (t .before .loop .inv .2 ∙ rising-zero _ _ _ _ _ (t .loop-test .taken) (start t .pre) _ (symbol-is w) (c .before .if2 .taken))
-
-returns-3 : tie.Need-returns-3 Inv-loop μ-loop
-returns-3 c =
     let w = c .before .before in
     let t = w .before .before in
     let literal = c .before .if2 .left in
@@ -105,15 +96,18 @@ loop-less c = omega arith
 
 loop-again : tie.Need-loop-again Inv-loop μ-loop
 loop-again c =
-    let w = c .before .before .before in
+    let w = c .before in
     let t = w .before .before in (
       omega arith,
       omega arith,
-      t .before .loop .inv .2 ∙ rising-next _ _ _ _ _ (t .loop-test .taken) (start t .pre) _ (symbol-is w) (c .before .before .if2 .left) (c .before .if3 .left) (ltb-false _ _ (c .if4 .left)),
+      t .before .loop .inv .2 ∙ ⊎-elim
+          (λ a. rw (a .1) (rising-zero _ _ _ _ _ (t .loop-test .taken) (start t .pre) _ (symbol-is w) (a .0 .taken)))
+          (λ a. rw (a .3) (rising-next _ _ _ _ _ (t .loop-test .taken) (start t .pre) _ (symbol-is w) (a .0 .left) (a .1 .left) (ltb-false _ _ (a .2 .left))))
+          (c .if2 .came),
     )
 
-returns-4 : tie.Need-returns-4 Inv-loop μ-loop
-returns-4 c = sym (c .before .loop .inv .2 ∙ rising-none _ _ _ _ _ (c .loop-test .left))
+returns-3 : tie.Need-returns-3 Inv-loop μ-loop
+returns-3 c = sym (c .before .loop .inv .2 ∙ rising-none _ _ _ _ _ (c .loop-test .left))
 
 pub row-sound-spec : {M : Type 1} → statement M
 row-sound-spec =
@@ -132,10 +126,8 @@ row-sound-spec =
     mul-symbol
     shared-slice-copy-out-symbol
     symbol-requires-2
-    all-zero-requires
     returns-2
-    returns-3
     add-k-2
     loop-less
     loop-again
-    returns-4)
+    returns-3)

@@ -1,5 +1,5 @@
 -- `literals::rows_sound` meets its contract. The loop's invariant: the rows in use are all sound exactly where those from `row` on are.
--- The measure is the number of rows left. Assumes nothing.
+-- The measure is the number of rows left.
 use Prim.Native.Nat.{ℕ, _≤_, _-_}
 use mathlib.Core.Path.{_≡_, sym, _∙_}
 use mathlib.Core.Bool.{Bool}

@@ -59,7 +59,7 @@ standing-by-requires c κs =
     let w = r .before .before .before in
     let long = front r .long in
     let low = at w .low in
-    (omega (arith, long, low), omega (arith, long, opp-in (w .p .given .0 .0) (2 * w .before .before .before .args .board .symbols) (omega arith) low))
+    (omega (arith, long, low), omega (arith, long, opp-in (w .p .given .0 .0) (2 * w .before .before .before .args .board .symbols) (omega arith) low), omega (arith, long, at w .good .sound .symbols))
 
 returns-2 : tie.Need-returns-2
 unfolding asked askFaults

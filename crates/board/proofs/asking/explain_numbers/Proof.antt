@@ -100,13 +100,11 @@ returns-3 c =
 array-share-prefix-ranks : tie.Need-array-share-prefix-ranks
 array-share-prefix-ranks c = front (c .before .before .before .before) .room
 
-slice-aggregate-support : tie.Need-slice-aggregate-support
-slice-aggregate-support c = sym (front (c .before .before .before .before .before) .long)
+slice-aggregate-support-row : tie.Need-slice-aggregate-support-row
+slice-aggregate-support-row c = sym (front (c .before .before .before .before .before) .long)
 
-support-requires : tie.Need-support-requires
-support-requires c κs =
-    let r = c .before .before .before .before .before in
-    (front r .fit, omega (arith, front r .long, at (r .before .before .before) .low))
+support-row-requires : tie.Need-support-row-requires
+support-row-requires c κs = front (c .before .before .before .before .before) .fit
 
 returns-4 : tie.Need-returns-4
 unfolding reasoned explainFaults
@@ -131,7 +129,7 @@ returns-5 c =
     let shows = shown (2 * b .symbols) rows (b .held) (small w) q (p .low) (λ e. z .before .if2 .left (rank r ∙ e)) (λ e. z .if3 .left (rank r ∙ e)) in
     rw (p .is-good, p .in-range, high r ∙ e .if1 .left, ← p .place, shows)
     (ap₂ (λ (rank row : ℕ). record { outcome = Done; rank = rank; row = row }) (rank r)
-    (support-told (2 * b .symbols) rows (b .held) (small w) q (p .low) (front r .is) (c .support .ensures)))
+    (support-told (2 * b .symbols) rows (b .held) (small w) q (p .low) (front r .is) (rank r) (z .before .if2 .left) (z .if3 .left) (c .support-row .ensures)))
 
 pub explain-numbers-spec : {M : Type 1} → statement M
 explain-numbers-spec =
@@ -152,7 +150,7 @@ explain-numbers-spec =
     unexplained-requires-4
     returns-3
     array-share-prefix-ranks
-    slice-aggregate-support
-    support-requires
+    slice-aggregate-support-row
+    support-row-requires
     returns-4
     returns-5)

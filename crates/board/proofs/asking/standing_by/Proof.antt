@@ -8,27 +8,35 @@ use lib.ListN.{getD}
 use Rattle.meaning.specs.Literals.{opp, has, conflict}
 use Rattle.meaning.specs.Tests.{none}
 use Rattle.rounds.specs.Ranks.{below}
-use Rattle.board.proofs.Ranked.{has-below}
+use Rattle.rounds.proofs.RankTables.{below-rank}
+use Rattle.rounds.proofs.Clashes.{clash-none, clash-some}
 use Rattle.board.proofs.asking.standing_by.Statement.{statement}
 use Rattle.board.proofs.asking.standing_by.Tie as tie
 
 -- there is no conflict
 clear : (c : tie.Else1) → conflict (below none (c .before .before .before .args .ranks .now)) ≡ false
-clear c = sym (c .before .in-conflict .ensures) ∙ c .if1 .left
+clear c =
+    let a = c .before .before .before in
+    clash-none (a .args .ranks .now) (a .pre .2) (sym (c .before .first-clash .ensures) ∙ c .if1 .left)
 
 -- the literal has no rank
 without : (c : tie.Else2) → let a = c .before .before .before .before .before .args in has (below none (a .ranks .now)) (a .p) ≡ false
-without c = let a = c .before .before .before .before .before in has-below none (a .args .ranks .now) (a .args .p) (a .pre .0) ∙ le-ltb _ none (c .if2 .left)
+without c = let a = c .before .before .before .before .before in below-rank none (a .args .ranks .now) (a .args .p) (a .pre .0) ∙ le-ltb _ none (c .if2 .left)
 
 -- the opposite's rank
 other : (c : tie.After-opposite) → let a = c .before .before .before .before .before .before .args in has (below none (a .ranks .now)) (opp (a .p)) ≡ ltb (getD (a .ranks .now) (c .opposite .result) 0) none
-other c = let a = c .before .before .before .before .before .before in rw (c .opposite .ensures) (has-below none (a .args .ranks .now) (opp (a .args .p)) (a .pre .1))
+other c = let a = c .before .before .before .before .before .before in rw (c .opposite .ensures) (below-rank none (a .args .ranks .now) (opp (a .args .p)) (a .pre .1))
 
-in-conflict-requires : tie.Need-in-conflict-requires
-in-conflict-requires c κs = search needs
+first-clash-requires : tie.Need-first-clash-requires
+first-clash-requires c κs = c .before .pre .2
+
+cast-if1 : tie.Need-cast-if1
+cast-if1 c = search needs
 
 returns : tie.Need-returns
-returns c = rw (sym (c .before .in-conflict .ensures) ∙ c .if1 .taken)
+returns c =
+    let a = c .before .before .before in
+    rw (clash-some (a .args .ranks .now) (a .pre .2) (λ e. c .if1 .taken (c .before .first-clash .ensures ∙ e)) .1)
 
 mul-if2 : tie.Need-mul-if2
 mul-if2 c = search needs
@@ -40,7 +48,7 @@ returns-2 : tie.Need-returns-2
 returns-2 c =
     let e = c .before .before in
     let a = e .before .before .before in
-    rw (clear e, has-below none (a .args .ranks .now) (a .args .p) (a .pre .0) ∙ lt-ltb _ none (c .if2 .taken))
+    rw (clear e, below-rank none (a .args .ranks .now) (a .args .p) (a .pre .0) ∙ lt-ltb _ none (c .if2 .taken))
 
 opposite-requires : tie.Need-opposite-requires
 opposite-requires c κs = search needs
@@ -65,7 +73,8 @@ pub standing-by-spec : {M : Type 1} → statement M
 standing-by-spec =
     tie.close
     (tie.spec
-    in-conflict-requires
+    first-clash-requires
+    cast-if1
     returns
     mul-if2
     shared-slice-read-if2

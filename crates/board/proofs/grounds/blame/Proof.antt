@@ -1,7 +1,7 @@
 -- `grounds::blame` meets its contract: its tests are the faults of `blameFaults`, in their order, and it marks what the symbol's two
 -- literals reach.
 use borrow.Author.Needs.{needs}
-use mathlib.Core.Path.{_≡_, sym, ap, _∙_}
+use mathlib.Core.Path.{_≡_, sym, _∙_}
 use mathlib.Core.Bool.{true}
 use Prim.Native.Nat.{_*_, _<_}
 use native.Mathlib.Omega.{arith}
@@ -10,13 +10,14 @@ use Rattle.meaning.specs.Tests.{none, first}
 use Rattle.meaning.specs.Literals.{conflict}
 use Rattle.meaning.specs.Rounds.{ranksOf}
 use Rattle.literals.specs.declared.refusal.Refusal.the-variants.{BadBoard, TableTooShort, RankTooHigh, NothingToShow}
+use Rattle.rounds.specs.Ranks.{clashIn}
+use Rattle.rounds.proofs.Clashes.{clash-final, conflict-none, conflict-some}
 use Rattle.board.specs.Faults.{goodBoard}
 use Rattle.board.specs.Ranking.{rowsOn, tooHigh}
 use Rattle.board.specs.Asking.{derivedOn}
-use Rattle.board.specs.Grounds.{clashIn, blameFaults, blameOutcome}
+use Rattle.board.specs.Grounds.{blameFaults, blameOutcome}
 use Rattle.board.proofs.Goodness.{Good, good-is}
 use Rattle.board.proofs.Lending.{Front, ranks-front, ranks-high}
-use Rattle.board.proofs.Clashes.{conflict-none, conflict-some}
 use Rattle.board.proofs.Grounded.{blame-refused, blame-done}
 use Rattle.board.proofs.grounds.blame.Statement.{statement}
 use Rattle.board.proofs.grounds.blame.Tie as tie
@@ -43,7 +44,7 @@ clash : (c : tie.After-first-clash) → let s = c .before .before .before .befor
     c .first-clash .result ≡ first (clashIn (ranksOf (2 * b .symbols) (rowsOn (s .args .table .now) b) (b .held))) (b .symbols)
 clash c =
     let r = c .before .before .before .before in
-    c .first-clash .ensures ∙ ap (λ ranks. first (clashIn ranks) (r .before .before .before .before .before .before .args .board .symbols)) (front r .is)
+    clash-final _ _ _ (small (r .before .before .before)) (front r .is) (c .first-clash .ensures)
 
 -- there is one
 clashes : (c : tie.Else4) → let s = c .before .before .before .before .before .before .before .before .before .before .before in let b = s .args .board in
@@ -85,7 +86,7 @@ slice-aggregate-first-clash c = sym (front (c .before .before .before) .long)
 first-clash-requires : tie.Need-first-clash-requires
 first-clash-requires c κs =
     let r = c .before .before .before in
-    (omega (arith, front r .long), omega (arith, good (r .before .before .before) .sound .symbols))
+    omega (arith, front r .long, good (r .before .before .before) .sound .symbols)
 
 cast-if4 : tie.Need-cast-if4
 cast-if4 c = search needs

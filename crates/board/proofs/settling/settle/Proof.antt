@@ -1,11 +1,12 @@
 -- `settling::settle` meets its contract: its tests are the faults of `settleFaults`, in their order, and it writes what the ranks tell.
 use borrow.Author.Needs.{needs}
 use mathlib.Core.Path.{_≡_, sym, _∙_}
+use mathlib.Core.Logic.{⊎-elim}
 use mathlib.Core.Bool.{true}
 use native.Mathlib.Omega.{arith}
-use Prim.Native.Nat.{_*_}
-use borrow.Author.Tests.{not-true, not-false, le-leb, lt-leb}
-use lib.ListN.{take}
+use Prim.Native.Nat.{_*_, _≤_}
+use borrow.Author.Tests.{not-true, not-false, ltb-true, ltb-false, le-leb, lt-leb}
+use lib.ListN.{length, take}
 use Rattle.literals.specs.declared.refusal.Refusal.the-variants.{BadBoard, TableTooShort, RankTooHigh}
 use Rattle.board.specs.Faults.{goodBoard}
 use Rattle.board.specs.Ranking.{tooHigh}
@@ -22,6 +23,11 @@ is-good c = sym (c .before .good2 .ensures) ∙ not-false _ (c .if1 .left)
 
 good : (c : tie.Else1) → let s = c .before .before .before .before .before in Good (s .args .table .now) (s .args .board)
 good c = good-is _ _ (is-good c)
+
+-- the three tables are long enough
+long : (c : tie.Else4) → let s = c .before .before .before .before .before .before .before .before in let b = s .args .board in
+    (b .symbols ≤ length (s .args .labels .now)) × (2 * b .symbols ≤ length (s .args .ranks .now)) × (2 * b .symbols ≤ length (s .args .supports .now))
+long c = (c .before .before .if2 .left, ltb-false _ _ (c .before .if3 .left), ltb-false _ _ (c .if4 .left))
 
 -- the ranks, and whether one is too high
 front : (c : tie.After-ranks-on) → let s = c .before .before .before .before .before .before .before .before .before in Front (s .args .table .now) (s .args .board) (c .ranks-on .result .list)
@@ -42,27 +48,24 @@ mul-places c = omega (arith, good c .sound .symbols)
 
 returns-2 : tie.Need-returns-2
 unfolding settleOutcome settleFaults
-returns-2 c = settle-refused _ _ _ _ _ TableTooShort (rw (is-good (c .before), lt-leb _ _ (c .if2 .taken)))
-
-returns-3 : tie.Need-returns-3
-unfolding settleOutcome settleFaults
-returns-3 c = settle-refused _ _ _ _ _ TableTooShort (rw (is-good (c .before .before), le-leb _ _ (c .before .if2 .left), lt-leb _ _ (c .if3 .taken)))
-
-returns-4 : tie.Need-returns-4
-unfolding settleOutcome settleFaults
-returns-4 c =
+returns-2 c =
     settle-refused _ _ _ _ _ TableTooShort
-    (rw (is-good (c .before .before .before), le-leb _ _ (c .before .before .if2 .left), le-leb _ _ (c .before .if3 .left), lt-leb _ _ (c .if4 .taken)))
+    (⊎-elim
+    (λ a. rw (is-good (c .before), lt-leb _ _ (a .taken)))
+    (⊎-elim
+    (λ a. rw (is-good (c .before), le-leb _ _ (a .0 .left), lt-leb _ _ (ltb-true _ _ (a .1 .taken))))
+    (λ a. rw (is-good (c .before), le-leb _ _ (a .0 .left), le-leb _ _ (ltb-false _ _ (a .1 .left)), lt-leb _ _ (ltb-true _ _ (a .2 .taken)))))
+    (c .if2 .came))
 
 ranks-on-requires : tie.Need-ranks-on-requires
 ranks-on-requires c κs = is-good (c .before .before .before)
 
-returns-5 : tie.Need-returns-5
+returns-3 : tie.Need-returns-3
 unfolding settleOutcome settleFaults
-returns-5 c =
+returns-3 c =
     let f = c .before .before in
     settle-refused _ _ _ _ _ RankTooHigh
-    (rw (is-good (f .before .before .before), le-leb _ _ (f .before .before .if2 .left), le-leb _ _ (f .before .if3 .left), le-leb _ _ (f .if4 .left), high (c .before) ∙ c .if5 .taken))
+    (rw (is-good (f .before .before .before), le-leb _ _ (long f .0), le-leb _ _ (long f .1), le-leb _ _ (long f .2), high (c .before) ∙ c .if5 .taken))
 
 array-share-prefix-own : tie.Need-array-share-prefix-own
 array-share-prefix-own c = front (c .before .before) .room
@@ -75,7 +78,7 @@ write-tables-requires c κs =
     let r = c .before .before .before .before .before .before in
     let f = front r in
     let e = r .before in
-    (f .fit, (f .long, e .before .before .if2 .left, omega (arith, f .long, e .before .if3 .left), omega (arith, f .long, e .if4 .left)))
+    (f .fit, (f .long, long e .0, omega (arith, f .long, long e .1), omega (arith, f .long, long e .2)))
 
 same-length : tie.Need-same-length
 same-length c = search needs
@@ -86,9 +89,9 @@ same-length-2 c = search needs
 same-length-3 : tie.Need-same-length-3
 same-length-3 c = search needs
 
-returns-6 : tie.Need-returns-6
+returns-4 : tie.Need-returns-4
 unfolding settleOutcome settleFaults
-returns-6 c =
+returns-4 c =
     let w = c .before .before .before .before .before .before in
     let z = w .before .before .before .before .before .before in
     let r = z .before in
@@ -98,7 +101,7 @@ returns-6 c =
     let own = take (2 * s .args .board .symbols) (r .ranks-on .result .list) in
     let told = w .write-tables .ensures in
     settle-done (s .args .table .now) (s .args .board) (s .args .labels .now) (s .args .ranks .now) (s .args .supports .now) own (front r .is) (omega (arith, good g .sound .symbols))
-    (rw (is-good g, le-leb _ _ (e .before .before .if2 .left), le-leb _ _ (e .before .if3 .left), le-leb _ _ (e .if4 .left), high r ∙ z .if5 .left))
+    (rw (is-good g, le-leb _ _ (long e .0), le-leb _ _ (long e .1), le-leb _ _ (long e .2), high r ∙ z .if5 .left))
     (told .0) (told .1 .0) (told .1 .1)
 
 pub settle-spec : {M : Type 1} → statement M
@@ -109,14 +112,12 @@ settle-spec =
     returns
     mul-places
     returns-2
-    returns-3
-    returns-4
     ranks-on-requires
-    returns-5
+    returns-3
     array-share-prefix-own
     slice-aggregate-write-tables
     write-tables-requires
     same-length
     same-length-2
     same-length-3
-    returns-6)
+    returns-4)

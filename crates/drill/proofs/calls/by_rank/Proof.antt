@@ -3,9 +3,6 @@ use Prim.Native.Nat.{_≤_, _-_}
 use borrow.Author.Needs.{needs}
 use Rattle.drill.proofs.calls.by_rank.Statement.{statement}
 use Rattle.drill.proofs.calls.by_rank.Tie as tie
-use Rattle.drill.proofs.counting.words.Reads as words-reads
-use Rattle.drill.proofs.printing.number.Reads as number-reads
-use Rattle.drill.proofs.printing.text.Reads as text-reads
 
 abbrev Inv-loop : tie.InvT-loop
 Inv-loop ranks k₀ k = k ≤ 400

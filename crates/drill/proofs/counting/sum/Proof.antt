@@ -4,7 +4,6 @@ use borrow.Author.Needs.{needs}
 use lib.ListN.{length}
 use Rattle.drill.proofs.counting.sum.Statement.{statement}
 use Rattle.drill.proofs.counting.sum.Tie as tie
-use Rattle.drill.proofs.counting.wide.Reads as wide-reads
 
 abbrev Inv-loop : tie.InvT-loop
 Inv-loop list n total₀ k₀ total k = (k ≤ length list) × (k ≤ n) × (total ≤ 65535 * k)

@@ -5,8 +5,6 @@ use borrow.Author.Needs.{needs}
 use lib.ListN.{length}
 use Rattle.drill.proofs.large.chain.Statement.{statement}
 use Rattle.drill.proofs.large.chain.Tie as tie
-use Rattle.board.proofs.rules.add_rule.Reads as add-rule-reads
-use Rattle.drill.proofs.boards.blank.Reads as blank-reads
 
 abbrev Inv-loop : tie.InvT-loop
 Inv-loop table₀ b₀ i₀ table b i = (i ≤ 200) × (length table ≡ length table₀)

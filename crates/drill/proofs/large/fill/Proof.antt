@@ -5,8 +5,6 @@ use borrow.Author.Needs.{needs}
 use lib.ListN.{length}
 use Rattle.drill.proofs.large.fill.Statement.{statement}
 use Rattle.drill.proofs.large.fill.Tie as tie
-use Rattle.drill.proofs.large.put.Reads as put-reads
-use Rattle.drill.proofs.large.signed.Reads as signed-reads
 
 abbrev Inv-loop : tie.InvT-loop
 Inv-loop table₀ r₀ table r = (r ≤ 2048) × (length table ≡ length table₀)

@@ -4,7 +4,6 @@ use borrow.Author.Needs.{needs}
 use lib.ListN.{length}
 use Rattle.drill.proofs.printing.bytes.Statement.{statement}
 use Rattle.drill.proofs.printing.bytes.Tie as tie
-use Rattle.drill.proofs.printing.byte.Reads as byte-reads
 
 abbrev Inv-loop : tie.InvT-loop
 Inv-loop list n k₀ k = k ≤ length list

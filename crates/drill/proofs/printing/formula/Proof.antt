@@ -4,7 +4,6 @@ use borrow.Author.Needs.{needs}
 use lib.ListN.{length}
 use Rattle.drill.proofs.printing.formula.Statement.{statement}
 use Rattle.drill.proofs.printing.formula.Tie as tie
-use Rattle.drill.proofs.printing.hex.Reads as hex-reads
 
 abbrev Inv-loop : tie.InvT-loop
 Inv-loop bytes k₀ k = k ≤ length bytes

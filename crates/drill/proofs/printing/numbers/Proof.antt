@@ -4,8 +4,6 @@ use borrow.Author.Needs.{needs}
 use lib.ListN.{length}
 use Rattle.drill.proofs.printing.numbers.Statement.{statement}
 use Rattle.drill.proofs.printing.numbers.Tie as tie
-use Rattle.drill.proofs.printing.literal.Reads as literal-reads
-use Rattle.drill.proofs.printing.text.Reads as text-reads
 
 abbrev Inv-loop : tie.InvT-loop
 Inv-loop row k₀ t4 k = k ≤ length row

@@ -4,8 +4,6 @@ use borrow.Author.Needs.{needs}
 use lib.ListN.{length}
 use Rattle.drill.proofs.printing.premises.Statement.{statement}
 use Rattle.drill.proofs.printing.premises.Tie as tie
-use Rattle.drill.proofs.printing.signed.Reads as signed-reads
-use Rattle.drill.proofs.printing.text.Reads as text-reads
 
 abbrev Inv-loop : tie.InvT-loop
 Inv-loop held k₀ t4 k = k ≤ length held

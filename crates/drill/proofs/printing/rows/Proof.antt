@@ -5,7 +5,6 @@ use borrow.Author.Needs.{needs}
 use lib.ListN.{length}
 use Rattle.drill.proofs.printing.rows.Statement.{statement}
 use Rattle.drill.proofs.printing.rows.Tie as tie
-use Rattle.drill.proofs.printing.numbers.Reads as numbers-reads
 
 abbrev Inv-loop : tie.InvT-loop
 Inv-loop table from count row₀ at₀ row at = (at ≤ length table) × (8 * row ≡ at)

@@ -6,7 +6,6 @@ use mathlib.Core.Logic.{⊎-elim}
 use lib.ListN.{length}
 use Rattle.drill.proofs.rules.each.Statement.{statement}
 use Rattle.drill.proofs.rules.each.Tie as tie
-use Rattle.drill.proofs.rules.show.Reads as show-reads
 
 abbrev Inv-loop : tie.InvT-loop
 Inv-loop b lent list start₀ k₀ start k = (k ≤ length list) × (start ≤ k)

@@ -1,4 +1,4 @@
--- `naming::mark` meets its contract. The measure is the depth left. Assumes nothing.
+-- `naming::mark` meets its contract. The measure is the depth left.
 use Prim.Native.Nat.{ℕ, _<_}
 use borrow.Author.Needs.{needs}
 use native.Mathlib.Omega.{arith}

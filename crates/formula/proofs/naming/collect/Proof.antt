@@ -1,5 +1,5 @@
 -- `naming::collect` meets its contract. The loop's invariant: the marked numbers below `symbol` are gathered.
--- The measure is how many numbers are left. Assumes nothing.
+-- The measure is how many numbers are left.
 use mathlib.Core.Logic.{⊎-elim}
 use mathlib.Core.Path.{sym, subst₂}
 use mathlib.Core.List.{List}

@@ -1,4 +1,4 @@
--- `naming::symbols_of` meets its contract: what is collected from the marks is what stands in the formula. Assumes nothing.
+-- `naming::symbols_of` meets its contract: what is collected from the marks is what stands in the formula.
 use mathlib.Core.Path.{sym, ap, _∙_}
 use borrow.Author.Needs.{needs}
 use Rattle.formula.specs.Parse.{parse, levels}

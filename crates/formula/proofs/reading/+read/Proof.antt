@@ -1,13 +1,13 @@
--- `reading::read` meets its contract. The measure is the depth left. Assumes nothing.
+-- `reading::read` meets its contract. The measure is the depth left.
 use Prim.Native.Nat.{ℕ, _≤_, _-_, _+_, _<_}
 use mathlib.Core.Path.{sym, ap, _∙_}
 use borrow.Author.Needs.{needs}
 use native.Mathlib.Omega.{arith}
 use lib.ListN.{length}
-use Rattle.formula.specs.Answers.{readOf, reach}
+use Rattle.formula.specs.Answers.{readOf, extent}
 use Rattle.formula.proofs.Parsing.{parse-deep, parse-short, reads-symbol, reads-not, reads-first, reads-second, reads-unknown}
 use Rattle.formula.proofs.Parts.{onward-length}
-use Rattle.formula.proofs.Reaching.{first-reach, both-reach}
+use Rattle.formula.proofs.Extents.{first-extent, both-extent}
 use borrow.Fn.Kinds.{In}
 use borrow.Fn.PlainCycle.{Measures, is, falls, and}
 use Rattle.formula.proofs.reading.read.Reads as read
@@ -84,7 +84,7 @@ read-read-requires t c κs = (omega arith, tt)
 read-past-by-requires : (t : ℕ) → read-lts.Need-past-by-requires (calls t) (read-at t) read.Post
 read-past-by-requires t c κs =
     let s = c .before .before .before .before .before .before .before .before .before in
-    omega (arith, first-reach (s .args .symbols) (s .args .depth - 1) (s .args .bytes .now) (omega arith) (c .read .result) (c .read .ensures), s .good .0 .1)
+    omega (arith, first-extent (s .args .symbols) (s .args .depth - 1) (s .args .bytes .now) (omega arith) (c .read .result) (c .read .ensures), s .good .0 .1)
 
 read-enum-told-3 : (t : ℕ) → read-lts.Need-enum-told-3 (calls t) (read-at t) read.Post
 read-enum-told-3 t c = search needs
@@ -105,8 +105,8 @@ first-within t c =
     let a = c .before .before .before .before .before .before .before .before .before .before .before .before .args in
     omega (
       arith,
-      ap reach (c .before .count .given .1),
-      first-reach (a .symbols) (a .depth - 1) (a .bytes .now) (omega arith) (c .before .before .before .read2 .result) (c .before .before .before .read2 .ensures),
+      ap extent (c .before .count .given .1),
+      first-extent (a .symbols) (a .depth - 1) (a .bytes .now) (omega arith) (c .before .before .before .read2 .result) (c .before .before .before .read2 .ensures),
     )
 
 read-add-past-by : (t : ℕ) → read-lts.Need-add-past-by (calls t) (read-at t) read.Post
@@ -132,7 +132,7 @@ read-past-by-requires-2 t c κs =
     let s = c .before .before .before .before .before .before .before .before .before .before .before .before .before .before in
     omega (
       arith,
-      both-reach (s .args .symbols) (s .args .depth - 1) (s .args .bytes .now) (omega arith) (c .before .before .before .count .given .0 .0) (first-within t (c .before .before)) (c .read3 .result) (c .read3 .ensures),
+      both-extent (s .args .symbols) (s .args .depth - 1) (s .args .bytes .now) (omega arith) (c .before .before .before .count .given .0 .0) (first-within t (c .before .before)) (c .read3 .result) (c .read3 .ensures),
       s .good .0 .1,
     )
 
@@ -144,8 +144,8 @@ read-past-by-requires-3 t c κs =
     let s = c .before .before .before .before .before .before .before .before .before .before .before .before in
     omega (
       arith,
-      ap reach (c .before .why .given .1),
-      first-reach (s .args .symbols) (s .args .depth - 1) (s .args .bytes .now) (omega arith) (c .before .before .before .read2 .result) (c .before .before .before .read2 .ensures),
+      ap extent (c .before .why .given .1),
+      first-extent (s .args .symbols) (s .args .depth - 1) (s .args .bytes .now) (omega arith) (c .before .before .before .read2 .result) (c .before .before .before .read2 .ensures),
       s .good .0 .1,
     )
 

@@ -1,4 +1,4 @@
--- `reading::kind_of` meets its contract: each arm's number picks its case of `kindOf`, and the last arm's is none of them. Assumes nothing.
+-- `reading::kind_of` meets its contract: each arm's number picks its case of `kindOf`, and the last arm's is none of them.
 use borrow.Author.Tests.{ne-eqb}
 use Rattle.formula.proofs.reading.kind_of.Statement.{statement}
 use Rattle.formula.proofs.reading.kind_of.Tie as tie

@@ -1,4 +1,4 @@
--- `reading::past_by` meets its contract: the arm that is taken says which constructor the answer is. Assumes nothing.
+-- `reading::past_by` meets its contract: the arm that is taken says which constructor the answer is.
 use borrow.Author.Needs.{needs}
 use native.Mathlib.Omega.{arith}
 use Rattle.formula.proofs.reading.past_by.Statement.{statement}

@@ -1,4 +1,4 @@
--- `reading::read_symbol` meets its contract: at each return the tests that led there pick the case of `symbolAt`. Assumes nothing.
+-- `reading::read_symbol` meets its contract: at each return the tests that led there pick the case of `symbolAt`.
 use borrow.Author.Needs.{needs}
 use mathlib.Core.Path.{sym, ap}
 use Rattle.formula.specs.Answers.{readOf}

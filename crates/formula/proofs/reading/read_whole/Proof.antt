@@ -1,4 +1,4 @@
--- `reading::read_whole` meets its contract. Assumes nothing.
+-- `reading::read_whole` meets its contract.
 use borrow.Author.Needs.{needs}
 use Rattle.formula.proofs.Parsing.{whole-used, whole-more, whole-bad}
 use Rattle.formula.proofs.reading.read_whole.Statement.{statement}

@@ -1,4 +1,4 @@
--- `truth::evaluate` meets its contract. The measure is the depth left. Assumes nothing.
+-- `truth::evaluate` meets its contract. The measure is the depth left.
 use Prim.Native.Nat.{ℕ, _<_, _+_}
 use mathlib.Core.Path.{ap, _∙_}
 use mathlib.Core.Bool.{Bool}

@@ -1,4 +1,4 @@
--- `truth::bit_at` meets its contract: a mask of the lowest bit is the remainder by 2. Assumes nothing.
+-- `truth::bit_at` meets its contract: a mask of the lowest bit is the remainder by 2.
 use Prim.Native.Nat.{ℕ, _/_, _^_}
 use mathlib.Core.Path.{ap}
 use borrow.Author.Needs.{needs}

@@ -1,15 +1,14 @@
 -- `truth::fill_truth` meets its contract. The loop's invariant: the values under the assignments passed stand in the table.
--- The measure is how many assignments are left. Assumes nothing.
+-- The measure is how many assignments are left.
 use mathlib.Core.Path.{_≡_, ap, sym, _∙_}
 use mathlib.Core.Bool.{false}
-use Prim.Native.Nat.{ℕ, _≤_, _<_, _-_}
+use Prim.Native.Nat.{ℕ, _≤_, _<_, _-_, _^_}
 use native.Mathlib.Omega.{arith}
 use borrow.Author.Count.{below-none}
 use borrow.Author.Needs.{needs}
 use lib.ListN.{length, getD, length-set}
 use Rattle.meaning.proofs.Tables.{filled-more, tabulate-ext}
 use Rattle.formula.specs.Parse.{parse, levels}
-use Rattle.meaning.specs.Clauses.{twos}
 use Rattle.formula.specs.Answers.{truthOf}
 use Rattle.formula.specs.declared.truth.Valued.{Valued}
 use Rattle.formula.proofs.Assignments.{valueAt, truth-by-number}
@@ -19,10 +18,10 @@ use Rattle.formula.proofs.truth.fill_truth.Tie as tie
 
 abbrev Inv-loop : tie.InvT-loop
 Inv-loop bytes symbols names table₀ assignment₀ table assignment =
-    (assignment ≤ length table) × (length table ≡ twos (length names)) × ((k : ℕ) → k < assignment → getD table k false ≡ valueAt names (parse 255 levels bytes) k)
+    (assignment ≤ length table) × (length table ≡ 2 ^ length names) × ((k : ℕ) → k < assignment → getD table k false ≡ valueAt names (parse 255 levels bytes) k)
 
 abbrev μ-loop : tie.MeasureT-loop
-μ-loop bytes symbols names table₀ assignment₀ table assignment = twos (length names) - assignment
+μ-loop bytes symbols names table₀ assignment₀ table assignment = 2 ^ length names - assignment
 
 loop-holds : tie.Need-loop-holds Inv-loop μ-loop
 loop-holds c = (omega arith, c .before .before .before .pre .1 .1 .1, below-none _)
@@ -61,7 +60,7 @@ returns c =
     let bytes = s .args .bytes .now in
     let names = s .args .names .now in
     let l = c .before .loop in
-    tabulate-ext false (twos (length names)) (valueAt names (parse 255 levels bytes)) (l .table) (l .inv .1) (λ k h. l .inv .2 k (omega arith))
+    tabulate-ext false (2 ^ length names) (valueAt names (parse 255 levels bytes)) (l .table) (l .inv .1) (λ k h. l .inv .2 k (omega arith))
     ∙ sym (truth-by-number names (parse 255 levels bytes))
     ∙ ap (truthOf names) (sym (wide (s .args .symbols) (s .pre .0) levels bytes (s .pre .1 .0)))
 

@@ -1,5 +1,5 @@
 -- `truth::given` meets its contract. The loop's invariant: what the names give the symbol is what the last `left` of them give it.
--- The measure is how many names are left. Assumes nothing.
+-- The measure is how many names are left.
 use Prim.Native.Nat.{_≤_}
 use mathlib.Core.Path.{_≡_, sym, _∙_}
 use borrow.Author.Needs.{needs}

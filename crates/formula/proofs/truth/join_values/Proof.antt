@@ -1,4 +1,4 @@
--- `truth::join_values` meets its contract: each arm's constructor picks its case. Assumes nothing.
+-- `truth::join_values` meets its contract: each arm's constructor picks its case.
 use borrow.Author.Needs.{needs}
 use Rattle.formula.proofs.truth.join_values.Statement.{statement}
 use Rattle.formula.proofs.truth.join_values.Tie as tie

@@ -1,144 +1,169 @@
+-- `fill_hits` meets its contract: the two calls fill the first two thirds, and the last is joined of them. The measure is n.
 use mathlib.Core.Path.{_≡_, sym, ap, _∙_}
+use mathlib.Core.List.{List}
+use mathlib.Core.Bool.{Bool}
+use Prim.Native.Nat.{ℕ, suc, _-_, _*_, _/_, _<_, _^_}
 use native.Mathlib.Omega.{arith}
+use borrow.Fn.Kinds.{In, Out}
+use borrow.Fn.PlainCycle.{Measures, is, falls, and}
 use lib.ListN.{length, length-take, length-drop, length-set}
 use lib.Seq.{length-take-le}
-use Rattle.meaning.specs.Clauses.{twos}
-use Rattle.implicates.specs.Numbers.{threes}
 use Rattle.implicates.specs.Hits.{hitTable}
-use Rattle.implicates.proofs.Table.{twos-down, threes-down, fill-one, middle-long, put-long, fill-blocks}
-use Prim.Native.Nat.{ℕ, suc, _-_, _/_, _<_}
-use mathlib.Core.List.{[]}
-use borrow.Fn.Kinds.{In}
-use borrow.Fn.PlainCycle.{Measures, is, falls, and}
+use Rattle.implicates.proofs.Table.{pow-down, fill-one, middle-long, put-long, fill-blocks}
 use Rattle.implicates.proofs.hits.fill_hits.Reads as fill-hits
-use Rattle.implicates.proofs.hits.fill_hits.Kinds as fill-hits-kinds
-use Rattle.implicates.proofs.hits.+fill_hits.Lts-fill_hits as fill-hits-lts
-use Rattle.implicates.proofs.hits.join_thirds.Reads as join-thirds-reads
+use Rattle.implicates.proofs.hits.fill_hits.Kinds as kinds
+use Rattle.implicates.proofs.hits.+fill_hits.Lts-fill_hits as lts
+use Rattle.implicates.proofs.hits.join_thirds.Reads as join-thirds
 use Rattle.implicates.proofs.hits.+fill_hits.{statement}
 use Rattle.implicates.proofs.hits.+fill_hits.Tie.{close}
 
-abbrev μ-fill-hits : Measures 2 fill-hits-kinds.ps ℕ
-μ-fill-hits κs a = a .1 .0
+abbrev μ : Measures 2 kinds.ps ℕ
+μ κs a = a .1 .0
 
-abbrev fill-hits-at : ℕ → In 2 fill-hits-kinds.ps
-fill-hits-at t = and 2 fill-hits-kinds.ps (is 2 fill-hits-kinds.ps μ-fill-hits t) fill-hits.Pre
+abbrev at : ℕ → In 2 kinds.ps
+at t = and 2 kinds.ps (is 2 kinds.ps μ t) fill-hits.Pre
 
-abbrev fill-hits-below : ℕ → In 2 fill-hits-kinds.ps
-fill-hits-below t =
-    and 2 fill-hits-kinds.ps (falls 2 fill-hits-kinds.ps _<_ μ-fill-hits t) fill-hits.Pre
+abbrev below : ℕ → In 2 kinds.ps
+below t = and 2 kinds.ps (falls 2 kinds.ps _<_ μ t) fill-hits.Pre
 
-fill-hits-shared-slice-read-hits : (t : ℕ) → fill-hits-lts.Need-shared-slice-read-hits (fill-hits-below t, fill-hits.Post, join-thirds-reads.Asked, join-thirds-reads.Learnt) (fill-hits-at t) fill-hits.Post
-fill-hits-shared-slice-read-hits t c = omega (arith, ap twos (c .before .if1 .taken))
+-- what the calls are handed and give
+abbrev calls : ℕ → lts.Claims
+calls t = (below t, fill-hits.Post, join-thirds.Asked, join-thirds.Learnt)
 
-fill-hits-slice-write-hits : (t : ℕ) → fill-hits-lts.Need-slice-write-hits (fill-hits-below t, fill-hits.Post, join-thirds-reads.Asked, join-thirds-reads.Learnt) (fill-hits-at t) fill-hits.Post
-fill-hits-slice-write-hits t c = omega (arith, ap threes (c .before .if1 .taken))
+module _ (t : ℕ) where
+  -- a point of `fill_hits`, or a need at one, where n is t
+  abbrev Here : (lts.Claims → In 2 kinds.ps → Out 2 kinds.ps kinds.r → Type 0) → Type 0
+  Here point = point (calls t) (at t) fill-hits.Post
 
-fill-hits-slice-aggregate-fill-hits : (t : ℕ) → fill-hits-lts.Need-slice-aggregate-fill-hits (fill-hits-below t, fill-hits.Post, join-thirds-reads.Asked, join-thirds-reads.Learnt) (fill-hits-at t) fill-hits.Post
-fill-hits-slice-aggregate-fill-hits t c = sym (length-take-le _ (c .before .before .before .before .args .truth .now) (omega arith))
+  abbrev start : Here lts.Else1 → Here lts.Start
+  start e = e .before .before .before
 
-fill-hits-sub-fill-hits : (t : ℕ) → fill-hits-lts.Need-sub-fill-hits (fill-hits-below t, fill-hits.Post, join-thirds-reads.Asked, join-thirds-reads.Learnt) (fill-hits-at t) fill-hits.Post
-fill-hits-sub-fill-hits t c = omega arith
+  abbrev truth : Here lts.Else1 → List Bool
+  truth e = start e .args .truth .now
 
-fill-hits-slice-relend-prefix-fill-hits :
-    (t : ℕ) → fill-hits-lts.Need-slice-relend-prefix-fill-hits (fill-hits-below t, fill-hits.Post, join-thirds-reads.Asked, join-thirds-reads.Learnt) (fill-hits-at t) fill-hits.Post
-fill-hits-slice-relend-prefix-fill-hits t c = omega arith
+  abbrev hits : Here lts.Else1 → List Bool
+  hits e = start e .args .hits .now
 
-fill-hits-slice-aggregate-fill-hits-2 : (t : ℕ) → fill-hits-lts.Need-slice-aggregate-fill-hits-2 (fill-hits-below t, fill-hits.Post, join-thirds-reads.Asked, join-thirds-reads.Learnt) (fill-hits-at t) fill-hits.Post
-fill-hits-slice-aggregate-fill-hits-2 t c = sym (length-take-le _ (c .before .before .before .before .before .args .hits .now) (omega arith))
+  -- how long both tables are, where n is not 0
+  long : (e : Here lts.Else1) → (length (truth e) ≡ 2 * 2 ^ (start e .args .n - 1)) × (length (hits e) ≡ 3 * 3 ^ (start e .args .n - 1))
+  long e =
+      let s = start e in
+      (s .pre .1 .0 ∙ pow-down 2 (s .args .n) (e .if1 .left), s .pre .1 .1 ∙ pow-down 3 (s .args .n) (e .if1 .left))
 
-fill-hits-fill-hits-requires : (t : ℕ) → fill-hits-lts.Need-fill-hits-requires (fill-hits-below t, fill-hits.Post, join-thirds-reads.Asked, join-thirds-reads.Learnt) (fill-hits-at t) fill-hits.Post
-fill-hits-fill-hits-requires t c κs =
-    let a = c .before .before .before .before .before .args in
-    let h = c .before .before .if1 .left in
-    (omega arith, (simp length-take (omega (arith, twos-down (a .n) h)), simp length-take (omega (arith, threes-down (a .n) h))))
+  -- the point after the first call, from that after the second
+  abbrev first : Here lts.After-fill-hits2 → Here lts.After-fill-hits
+  first g = g .before .before .before .before .before
 
-fill-hits-sub-fill-hits-2 : (t : ℕ) → fill-hits-lts.Need-sub-fill-hits-2 (fill-hits-below t, fill-hits.Post, join-thirds-reads.Asked, join-thirds-reads.Learnt) (fill-hits-at t) fill-hits.Post
-fill-hits-sub-fill-hits-2 t c = omega arith
+  shared-slice-read-hits : Here lts.Need-shared-slice-read-hits
+  shared-slice-read-hits c = omega (arith, ap (λ (x : ℕ). 2 ^ x) (c .before .if1 .taken))
 
-fill-hits-part-fill-hits-start : (t : ℕ) → fill-hits-lts.Need-part-fill-hits-start (fill-hits-below t, fill-hits.Post, join-thirds-reads.Asked, join-thirds-reads.Learnt) (fill-hits-at t) fill-hits.Post
-fill-hits-part-fill-hits-start t c = omega arith
+  slice-write-hits : Here lts.Need-slice-write-hits
+  slice-write-hits c = omega (arith, ap (λ (x : ℕ). 3 ^ x) (c .before .if1 .taken))
 
-fill-hits-part-fill-hits-end : (t : ℕ) → fill-hits-lts.Need-part-fill-hits-end (fill-hits-below t, fill-hits.Post, join-thirds-reads.Asked, join-thirds-reads.Learnt) (fill-hits-at t) fill-hits.Post
-fill-hits-part-fill-hits-end t c = omega arith
+  slice-aggregate-fill-hits : Here lts.Need-slice-aggregate-fill-hits
+  slice-aggregate-fill-hits c = sym (length-take-le _ (truth (c .before)) (omega arith))
 
-fill-hits-sub-fill-hits-3 : (t : ℕ) → fill-hits-lts.Need-sub-fill-hits-3 (fill-hits-below t, fill-hits.Post, join-thirds-reads.Asked, join-thirds-reads.Learnt) (fill-hits-at t) fill-hits.Post
-fill-hits-sub-fill-hits-3 t c = omega arith
+  sub-fill-hits : Here lts.Need-sub-fill-hits
+  sub-fill-hits c = omega arith
 
-fill-hits-mul-fill-hits : (t : ℕ) → fill-hits-lts.Need-mul-fill-hits (fill-hits-below t, fill-hits.Post, join-thirds-reads.Asked, join-thirds-reads.Learnt) (fill-hits-at t) fill-hits.Post
-fill-hits-mul-fill-hits t c = omega arith
+  slice-relend-prefix-fill-hits : Here lts.Need-slice-relend-prefix-fill-hits
+  slice-relend-prefix-fill-hits c = omega arith
 
-fill-hits-sub-fill-hits-4 : (t : ℕ) → fill-hits-lts.Need-sub-fill-hits-4 (fill-hits-below t, fill-hits.Post, join-thirds-reads.Asked, join-thirds-reads.Learnt) (fill-hits-at t) fill-hits.Post
-fill-hits-sub-fill-hits-4 t c = omega arith
+  slice-aggregate-fill-hits-2 : Here lts.Need-slice-aggregate-fill-hits-2
+  slice-aggregate-fill-hits-2 c = sym (length-take-le _ (hits (c .before .before)) (omega arith))
 
-fill-hits-part-fill-hits-start-2 : (t : ℕ) → fill-hits-lts.Need-part-fill-hits-start-2 (fill-hits-below t, fill-hits.Post, join-thirds-reads.Asked, join-thirds-reads.Learnt) (fill-hits-at t) fill-hits.Post
-fill-hits-part-fill-hits-start-2 t c = omega arith
+  fill-hits-requires : Here lts.Need-fill-hits-requires
+  fill-hits-requires c κs =
+      let l = long (c .before .before) in
+      (omega arith, (simp length-take (omega arith), simp length-take (omega arith)))
 
-fill-hits-part-fill-hits-end-2 : (t : ℕ) → fill-hits-lts.Need-part-fill-hits-end-2 (fill-hits-below t, fill-hits.Post, join-thirds-reads.Asked, join-thirds-reads.Learnt) (fill-hits-at t) fill-hits.Post
-fill-hits-part-fill-hits-end-2 t c = omega arith
+  sub-fill-hits-2 : Here lts.Need-sub-fill-hits-2
+  sub-fill-hits-2 c = omega arith
 
-fill-hits-fill-hits-requires-2 : (t : ℕ) → fill-hits-lts.Need-fill-hits-requires-2 (fill-hits-below t, fill-hits.Post, join-thirds-reads.Asked, join-thirds-reads.Learnt) (fill-hits-at t) fill-hits.Post
-fill-hits-fill-hits-requires-2 t c κs =
-    let k = c .before .before .before .before .before .before .before .before .before .before in
-    let h = c .before .before .before .before .before .before .before .if1 .left in
-    let third = length (k .args .hits .now) / 3 in
-    let d = twos-down (k .args .n) h in
-    let e = threes-down (k .args .n) h in
-    (omega arith, (simp (length-take, length-drop) (omega arith), middle-long third (k .args .hits .now) (c .before .before .before .before .fill-hits .last .1 .1 .0) [] (omega arith) (c .before .before .before .before .fill-hits .kept .1 .1 .0) ∙ omega arith))
+  part-fill-hits-start : Here lts.Need-part-fill-hits-start
+  part-fill-hits-start c = omega arith
 
-fill-hits-join-thirds-requires : (t : ℕ) → fill-hits-lts.Need-join-thirds-requires (fill-hits-below t, fill-hits.Post, join-thirds-reads.Asked, join-thirds-reads.Learnt) (fill-hits-at t) fill-hits.Post
-fill-hits-join-thirds-requires t c κs =
-    let k = c .before .before .before .before .before .before .before .before .before .before .before .before .before .before in
-    let h = c .before .before .before .before .before .before .before .before .before .before .before .if1 .left in
-    let third = length (k .args .hits .now) / 3 in
-    let e = threes-down (k .args .n) h in
-    put-long third (k .args .hits .now) (c .before .before .before .before .before .before .before .before .fill-hits .last .1 .1 .0) (c .before .before .before .fill-hits2 .last .1 .1 .0) (omega arith) (c .before .before .before .before .before .before .before .before .fill-hits .kept .1 .1 .0) (c .before .before .before .fill-hits2 .kept .1 .1 .0)
+  part-fill-hits-end : Here lts.Need-part-fill-hits-end
+  part-fill-hits-end c = omega arith
 
-fill-hits-same-length : (t : ℕ) → fill-hits-lts.Need-same-length (fill-hits-below t, fill-hits.Post, join-thirds-reads.Asked, join-thirds-reads.Learnt) (fill-hits-at t) fill-hits.Post
-fill-hits-same-length t c = simp length-set
+  sub-fill-hits-3 : Here lts.Need-sub-fill-hits-3
+  sub-fill-hits-3 c = omega arith
 
-fill-hits-returns : (t : ℕ) → fill-hits-lts.Need-returns (fill-hits-below t, fill-hits.Post, join-thirds-reads.Asked, join-thirds-reads.Learnt) (fill-hits-at t) fill-hits.Post
-fill-hits-returns t c =
-    let k = c .before .before .before .before in fill-one (k .args .n) (k .args .truth .now) (k .args .hits .now) (c .before .if1 .taken) (k .pre .1 .1)
+  mul-fill-hits : Here lts.Need-mul-fill-hits
+  mul-fill-hits c = omega arith
 
-fill-hits-same-length-2 : (t : ℕ) → fill-hits-lts.Need-same-length-2 (fill-hits-below t, fill-hits.Post, join-thirds-reads.Asked, join-thirds-reads.Learnt) (fill-hits-at t) fill-hits.Post
-fill-hits-same-length-2 t c = omega arith
+  sub-fill-hits-4 : Here lts.Need-sub-fill-hits-4
+  sub-fill-hits-4 c = omega arith
 
-fill-hits-returns-2 : (t : ℕ) → fill-hits-lts.Need-returns-2 (fill-hits-below t, fill-hits.Post, join-thirds-reads.Asked, join-thirds-reads.Learnt) (fill-hits-at t) fill-hits.Post
-fill-hits-returns-2 t c =
-    let k = c .before .before .before .before .before .before .before .before .before .before .before .before .before .before .before .before .before in
-    let h = c .before .before .before .before .before .before .before .before .before .before .before .before .before .before .if1 .left in
-    let half = length (k .args .truth .now) / 2 in
-    let third = length (k .args .hits .now) / 3 in
-    let d = twos-down (k .args .n) h in
-    let e = threes-down (k .args .n) h in
-    let up : suc (k .args .n - 1) ≡ k .args .n = omega arith in
-    c .before .before .join-thirds .ensures
-    ∙ fill-blocks (k .args .n - 1) half third (k .args .truth .now) (k .args .hits .now) (c .before .before .before .before .before .before .before .before .before .before .before .fill-hits .last .1 .1 .0) (c .before .before .before .before .before .before .fill-hits2 .last .1 .1 .0)
-    (omega arith) (omega arith) (omega arith) (c .before .before .before .before .before .before .before .before .before .before .before .fill-hits .ensures) (c .before .before .before .before .before .before .fill-hits2 .ensures)
-    ∙ ap (λ (j : ℕ). hitTable j (k .args .truth .now)) up
+  part-fill-hits-start-2 : Here lts.Need-part-fill-hits-start-2
+  part-fill-hits-start-2 c = omega arith
+
+  part-fill-hits-end-2 : Here lts.Need-part-fill-hits-end-2
+  part-fill-hits-end-2 c = omega arith
+
+  fill-hits-requires-2 : Here lts.Need-fill-hits-requires-2
+  fill-hits-requires-2 c κs =
+      let f = c .before .before .before .before in
+      let e = f .before .before .before in
+      let l = long e in
+      let middle = middle-long (length (hits e) / 3) (hits e) (f .fill-hits .last .1 .1 .0) (omega arith) (f .fill-hits .kept .1 .1 .0) in
+      (omega arith, (simp (length-take, length-drop) (omega arith), omega (arith, middle)))
+
+  join-thirds-requires : Here lts.Need-join-thirds-requires
+  join-thirds-requires c κs =
+      let g = c .before .before .before in
+      let f = first g in
+      let e = f .before .before .before in
+      let l = long e in
+      put-long (length (hits e) / 3) (hits e) (f .fill-hits .last .1 .1 .0) (omega arith) (f .fill-hits .kept .1 .1 .0)
+      (g .fill-hits2 .last .1 .1 .0) (g .fill-hits2 .kept .1 .1 .0)
+
+  same-length : Here lts.Need-same-length
+  same-length c = simp length-set
+
+  returns : Here lts.Need-returns
+  returns c =
+      let s = c .before .before .before .before in
+      fill-one (s .args .n) (s .args .truth .now) (s .args .hits .now) (c .before .if1 .taken) (s .pre .1 .1)
+
+  same-length-2 : Here lts.Need-same-length-2
+  same-length-2 c = omega arith
+
+  returns-2 : Here lts.Need-returns-2
+  returns-2 c =
+      let g = c .before .before .before .before .before .before in
+      let f = first g in
+      let e = f .before .before .before in
+      let n = start e .args .n in
+      let l = long e in
+      let up : suc (n - 1) ≡ n = omega arith in
+      c .before .before .join-thirds .ensures
+      ∙ fill-blocks (n - 1) (length (truth e) / 2) (length (hits e) / 3) (truth e) (hits e) (f .fill-hits .last .1 .1 .0)
+      (g .fill-hits2 .last .1 .1 .0) (omega arith) (omega arith) (omega arith) (f .fill-hits .ensures) (g .fill-hits2 .ensures)
+      ∙ ap (λ (j : ℕ). hitTable j (truth e)) up
 
 pub +fill-hits-spec : {M : Type 1} → statement M
-+fill-hits-spec = close μ-fill-hits λ t. fill-hits-lts.spec (fill-hits-below t, fill-hits.Post, join-thirds-reads.Asked, join-thirds-reads.Learnt)
-    (fill-hits-at t)
++fill-hits-spec = close μ λ t. lts.spec (calls t)
+    (at t)
     fill-hits.Post
-    (fill-hits-shared-slice-read-hits t)
-    (fill-hits-slice-write-hits t)
-    (fill-hits-slice-aggregate-fill-hits t)
-    (fill-hits-sub-fill-hits t)
-    (fill-hits-slice-relend-prefix-fill-hits t)
-    (fill-hits-slice-aggregate-fill-hits-2 t)
-    (fill-hits-fill-hits-requires t)
-    (fill-hits-sub-fill-hits-2 t)
-    (fill-hits-part-fill-hits-start t)
-    (fill-hits-part-fill-hits-end t)
-    (fill-hits-sub-fill-hits-3 t)
-    (fill-hits-mul-fill-hits t)
-    (fill-hits-sub-fill-hits-4 t)
-    (fill-hits-part-fill-hits-start-2 t)
-    (fill-hits-part-fill-hits-end-2 t)
-    (fill-hits-fill-hits-requires-2 t)
-    (fill-hits-join-thirds-requires t)
-    (fill-hits-same-length t)
-    (fill-hits-returns t)
-    (fill-hits-same-length-2 t)
-    (fill-hits-returns-2 t)
+    (shared-slice-read-hits t)
+    (slice-write-hits t)
+    (slice-aggregate-fill-hits t)
+    (sub-fill-hits t)
+    (slice-relend-prefix-fill-hits t)
+    (slice-aggregate-fill-hits-2 t)
+    (fill-hits-requires t)
+    (sub-fill-hits-2 t)
+    (part-fill-hits-start t)
+    (part-fill-hits-end t)
+    (sub-fill-hits-3 t)
+    (mul-fill-hits t)
+    (sub-fill-hits-4 t)
+    (part-fill-hits-start-2 t)
+    (part-fill-hits-end-2 t)
+    (fill-hits-requires-2 t)
+    (join-thirds-requires t)
+    (same-length t)
+    (returns t)
+    (same-length-2 t)
+    (returns-2 t)

@@ -1,43 +1,63 @@
 -- `append_one` meets its contract: a clause that is not chosen leaves the table as it is.
-use mathlib.Core.Path.{sym, ap, _∙_}
-use mathlib.Core.List.{[], _∷_}
-use Prim.Native.Nat.{_+_, _-_, _*_}
+use mathlib.Core.Path.{_≡_, sym, ap, _∙_}
+use mathlib.Core.Bool.{Bool, false}
+use mathlib.Core.List.{List, [], _∷_}
+use Prim.Native.Nat.{ℕ}
 use native.Mathlib.Omega.{arith}
-use borrow.Rule.Slice.PartMut.{putMid}
 use borrow.Author.Needs.{needs}
 use borrow.Author.Tests.{not-true, not-false}
-use lib.ListN.{length}
-use Rattle.meaning.specs.Clauses.{chosen}
-use Rattle.literals.specs.Row.{width}
+use lib.IntN.{ℤ}
+use lib.ListN.{length, getD}
+use Rattle.meaning.specs.Clauses.{Digit, chosen}
 use Rattle.implicates.specs.Numbers.{clauseAt}
 use Rattle.implicates.specs.Hits.{marked}
 use Rattle.implicates.proofs.Numbers.{marked-at}
-use Rattle.implicates.proofs.Turns.{chosen-other, chosen-failed, chosen-one, skipped, one-row}
+use Rattle.implicates.proofs.Turns.{Stands, chosen-other, chosen-failed, chosen-one, skipped, one-row}
 use Rattle.implicates.proofs.rows.append_one.Statement.{statement}
 use Rattle.implicates.proofs.rows.append_one.Tie as tie
+
+abbrev start : tie.After-shared-slice-known3 → tie.Start
+start c = c .before .before .before
+
+abbrev clause : tie.Start → List Digit
+clause s = clauseAt (s .args .n) (s .args .c)
+
+abbrev test : tie.Start → List Digit → Bool
+test s = marked (s .args .primes .now)
+
+tested : (s : tie.Start) → test s (clause s) ≡ getD (s .args .primes .now) (s .args .c) false
+tested s = marked-at (s .args .primes .now) (s .args .n) (s .args .c) (s .pre .0 .3)
+
+-- what is chosen of the clause, and the table and the next row after it
+abbrev picked : tie.Start → List (List Digit)
+picked s = chosen (test s) (s .args .k) (clause s ∷ [])
+
+abbrev After : tie.Start → List ℤ → ℕ → Type 0
+After s table next = Stands (s .args .table .now) (s .args .row) (s .args .symbols .now) (picked s) table next
+
+picked-it : (c : tie.Else2) → let s = start (c .before .before .before) in picked s ≡ clause s ∷ []
+picked-it c =
+    let e = c .before .before in
+    let s = start (e .before) in
+    chosen-one (test s) (s .args .k) (clause s) (sym (c .before .literal-count .ensures) ∙ c .if2 .left) (tested s ∙ not-false _ (e .if1 .left))
 
 shared-slice-read-if1 : tie.Need-shared-slice-read-if1
 shared-slice-read-if1 c = search needs
 
 returns : tie.Need-returns
 returns c =
-    let s = c .before .before .before .before in
-    let a = s .args in
-    let v = clauseAt (a .n) (a .c) in
-    let p = marked (a .primes .now) in
-    skipped (a .table .now) (a .row) (a .symbols .now) (chosen p (a .k) (v ∷ []))
-    (chosen-failed p (a .k) v (marked-at (a .primes .now) (a .n) (a .c) (s .pre .0 .3) ∙ not-true _ (c .if1 .taken)))
+    let s = start (c .before) in
+    let w : After s _ _ = skipped (chosen-failed (test s) (s .args .k) (clause s) (tested s ∙ not-true _ (c .if1 .taken))) in
+    (w .rows, w .count)
 
 literal-count-requires : tie.Need-literal-count-requires
 literal-count-requires c κs = search needs
 
 returns-2 : tie.Need-returns-2
 returns-2 c =
-    let a = c .before .before .before .before .before .before .args in
-    let v = clauseAt (a .n) (a .c) in
-    let p = marked (a .primes .now) in
-    skipped (a .table .now) (a .row) (a .symbols .now) (chosen p (a .k) (v ∷ []))
-    (chosen-other p (a .k) v (λ e. c .if2 .taken (c .before .literal-count .ensures ∙ e)))
+    let s = start (c .before .before .before) in
+    let w : After s _ _ = skipped (chosen-other (test s) (s .args .k) (clause s) (λ e. c .if2 .taken (c .before .literal-count .ensures ∙ e))) in
+    (w .rows, w .count)
 
 mul-at : tie.Need-mul-at
 mul-at c = search needs
@@ -55,14 +75,7 @@ part-write-row-start : tie.Need-part-write-row-start
 part-write-row-start c = search needs
 
 part-write-row-end : tie.Need-part-write-row-end
-part-write-row-end c =
-    let s = c .before .before .before .before .before .before in
-    let a = s .args in
-    let v = clauseAt (a .n) (a .c) in
-    let p = marked (a .primes .now) in
-    let t = marked-at (a .primes .now) (a .n) (a .c) (s .pre .0 .3) ∙ not-false _ (c .before .before .if1 .left) in
-    let e = chosen-one p (a .k) v (sym (c .before .literal-count .ensures) ∙ c .if2 .left) t in
-    omega (arith, s .pre .1, ap length e)
+part-write-row-end c = omega (arith, start (c .before .before .before) .pre .1, ap length (picked-it c))
 
 write-row-requires : tie.Need-write-row-requires
 write-row-requires c κs = search needs
@@ -75,14 +88,9 @@ same-length c = search needs
 
 returns-3 : tie.Need-returns-3
 returns-3 c =
-    let s = c .before .before .before .before .before .before .before .before .before in
-    let a = s .args in
-    let v = clauseAt (a .n) (a .c) in
-    let p = marked (a .primes .now) in
-    let t = marked-at (a .primes .now) (a .n) (a .c) (s .pre .0 .3) ∙ not-false _ (c .before .before .before .before .before .if1 .left) in
-    let e = chosen-one p (a .k) v (sym (c .before .before .before .before .literal-count .ensures) ∙ c .before .before .before .if2 .left) t in
-    let w = one-row (a .table .now) (a .row) (a .symbols .now) (chosen p (a .k) (v ∷ [])) v e in
-    (ap (putMid (width * a .row) (width * a .row + width - width * a .row) (a .table .now)) (c .before .write-row .ensures) ∙ w .0, w .1)
+    let e = c .before .before .before in
+    let w : After (start (e .before .before .before)) _ _ = one-row (picked-it e) (c .before .write-row .ensures) in
+    (w .rows, w .count)
 
 pub append-one-spec : {M : Type 1} → statement M
 append-one-spec =

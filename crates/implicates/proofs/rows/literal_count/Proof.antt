@@ -1,15 +1,15 @@
--- `literal_count` meets its contract. The invariant: `rest` is the number of the first k symbols' digits, and `count` counts the literals of the others.
---
+-- `literal_count` meets its contract. The invariant: `rest` is the number of the first k symbols' digits, and `count` counts the literals
+-- of the others.
 use mathlib.Core.Path.{_≡_, sym, ap, _∙_}
 use mathlib.Core.Logic.{⊎-elim}
-use Prim.Native.Nat.{ℕ, _≤_, _/_, _%_}
+use Prim.Native.Nat.{ℕ, _≤_}
 use native.Mathlib.Omega.{arith}
-use lib.ListN.{take, drop, length, length-drop}
+use lib.ListN.{take, drop, length-drop}
 use Rattle.meaning.specs.Clauses.{size}
 use Rattle.meaning.proofs.Clauses.{size-le}
-use Rattle.implicates.specs.Numbers.{number, clauseAt, weigh}
+use Rattle.implicates.specs.Numbers.{number, clauseAt}
 use Rattle.implicates.proofs.Numbers.{length-clauseAt}
-use Rattle.implicates.proofs.Digits.{number-first, drop-first, size-more, size-same, digitOf, digit-turn, rest-turn, drop-turn}
+use Rattle.implicates.proofs.Digits.{Turn, number-first, drop-first, size-more, size-same, digitOf, digit, next-rest, drop-turn}
 use Rattle.implicates.proofs.rows.literal_count.Statement.{statement}
 use Rattle.implicates.proofs.rows.literal_count.Tie as tie
 
@@ -28,7 +28,8 @@ add-count : tie.Need-add-count Inv-loop μ-loop
 add-count c =
     let a = c .before .before .before .args in
     let l = c .before .before .loop in
-    omega (arith, l .inv .2, size-le (drop (l .k) (clauseAt (a .n) (a .c))), length-drop (l .k) (clauseAt (a .n) (a .c)), length-clauseAt (a .n) (a .c))
+    let v = clauseAt (a .n) (a .c) in
+    omega (arith, l .inv .2, size-le (drop (l .k) v), length-drop (l .k) v, length-clauseAt (a .n) (a .c))
 
 sub-k : tie.Need-sub-k Inv-loop μ-loop
 sub-k c = omega arith
@@ -38,18 +39,18 @@ loop-less c = omega arith
 
 loop-again : tie.Need-loop-again Inv-loop μ-loop
 loop-again c =
-    let a = c .before .before .before .args in
+    let s = c .before .before .before in
     let l = c .before .before .loop in
-    let v = clauseAt (a .n) (a .c) in
-    let low : l .k ≤ length v = omega (arith, length-clauseAt (a .n) (a .c)) in
-    let digit : l .rest % 3 ≡ weigh (digitOf v (l .k)) 1 = ap (λ (x : ℕ). x % 3) (l .inv .1) ∙ digit-turn v (l .k) (omega arith) low in (
+    let t : Turn (s .args .n) (s .args .c) (l .rest) (l .k)
+    = record { known = s .pre; some = c .before .loop-test .taken; low = l .inv .0; left = l .inv .1 } in
+    let v = clauseAt (s .args .n) (s .args .c) in (
       omega arith,
-      ap (λ (x : ℕ). x / 3) (l .inv .1) ∙ rest-turn v (l .k) (omega arith) low,
+      next-rest t,
       ⊎-elim
-          (λ w. omega (arith, l .inv .2, size-more (digitOf v (l .k)) (drop (l .k) v) (omega arith)))
-          (λ w. omega (arith, l .inv .2, size-same (digitOf v (l .k)) (drop (l .k) v) (omega arith)))
+          (λ w. omega (arith, l .inv .2, size-more (digitOf v (l .k)) (drop (l .k) v) (omega (arith, digit t))))
+          (λ w. omega (arith, l .inv .2, size-same (digitOf v (l .k)) (drop (l .k) v) (omega (arith, digit t))))
           (c .if1 .came)
-          ∙ sym (ap size (drop-turn v (l .k) (omega arith) low)),
+          ∙ sym (ap size (drop-turn t)),
     )
 
 returns : tie.Need-returns Inv-loop μ-loop

@@ -1,22 +1,23 @@
--- `put_literals` meets its contract. The invariant: the literals of the symbols after the k-th stand in the row, and `rest` has the others' digits.
---
+-- `put_literals` meets its contract. The invariant: the literals of the symbols after the k-th stand in the row, and `rest` has the
+-- others' digits.
 use mathlib.Core.Path.{_≡_, sym, ap, _∙_}
 use mathlib.Core.Logic.{⊎-elim}
-use Prim.Native.Nat.{_≤_, _-_}
+use mathlib.Core.List.{List}
+use Prim.Native.Nat.{_≤_}
 use native.Mathlib.Omega.{arith}
 use mir.Facts.{toZ-ofZ}
 use mir.Syntax.{w16}
 use borrow.Author.Needs.{sfits-of}
-use lib.ListN.{length, set, take, length-take, length-replicate}
+use lib.ListN.{length, take, length-take, length-replicate}
 use lib.Seq.{take-all}
 use lib.IntN.{pos}
-use Rattle.meaning.specs.Clauses.{size}
+use Rattle.meaning.specs.Clauses.{Digit, size}
 use Rattle.meaning.proofs.Clauses.{size-le}
 use Rattle.literals.specs.Row.{width}
 use Rattle.implicates.specs.Numbers.{number, clauseAt}
 use Rattle.implicates.proofs.Numbers.{length-clauseAt}
-use Rattle.implicates.proofs.Digits.{number-first}
-use Rattle.implicates.proofs.Putting.{putFrom, put-first, put-done, next-rest, at-literal, at-out, next-literal, next-out, length-putFrom, symbol-pos}
+use Rattle.implicates.proofs.Digits.{Turn, number-first, next-rest}
+use Rattle.implicates.proofs.Putting.{putFrom, put-first, put-done, count-literal, count-out, put-literal, put-out, length-putFrom, symbol-pos}
 use Rattle.implicates.proofs.rows.put_literals.Statement.{statement}
 use Rattle.implicates.proofs.rows.put_literals.Tie as tie
 
@@ -27,86 +28,87 @@ Inv-loop row₀ symbols n c count rest₀ at₀ k₀ row rest at k =
 abbrev μ-loop : tie.MeasureT-loop
 μ-loop row₀ symbols n c count rest₀ at₀ k₀ row rest at k = k
 
+abbrev start : tie.At-loop Inv-loop μ-loop → tie.Start Inv-loop μ-loop
+start l = l .before .before
+
+abbrev clause : tie.At-loop Inv-loop μ-loop → List Digit
+clause l = clauseAt (start l .args .n) (start l .args .c)
+
+turn : (c : tie.In-loop Inv-loop μ-loop) → let a = start (c .before) .args in let l = c .before .loop in Turn (a .n) (a .c) (l .rest) (l .k)
+turn c = let i = c .before .loop .inv in record { known = start (c .before) .pre .4; some = c .loop-test .taken; low = i .0; left = i .1 }
+
+row-long : (l : tie.At-loop Inv-loop μ-loop) → length (l .loop .row) ≡ width
+row-long l =
+    let s = start l in
+    ap length (l .loop .inv .3) ∙ length-putFrom (s .args .symbols .now) (s .args .n) (s .args .c) (s .pre .2) (s .pre .1) (l .loop .k)
+
+at-low : (l : tie.At-loop Inv-loop μ-loop) → l .loop .at ≤ l .loop .k
+at-low l = omega (arith, l .loop .inv .2, size-le (take (l .loop .k) (clause l)), length-take (l .loop .k) (clause l))
+
 loop-holds : tie.Need-loop-holds Inv-loop μ-loop
 loop-holds c =
-    let a = c .before in
-    let n = a .args .n in
-    let whole : take n (clauseAt n (a .args .c)) ≡ clauseAt n (a .args .c) = take-all n (clauseAt n (a .args .c)) (omega (arith, length-clauseAt n (a .args .c))) in (
+    let s = c .before in
+    let n = s .args .n in
+    let v = clauseAt n (s .args .c) in
+    let whole : take n v ≡ v = take-all n v (omega (arith, length-clauseAt n (s .args .c))) in (
       omega arith,
-      number-first n (a .args .c) (a .pre .4),
-      a .pre .5 ∙ ap size (sym whole),
-      a .pre .0 ∙ put-first (a .args .symbols .now) n (a .args .c) (a .pre .1) (a .pre .4),
+      number-first n (s .args .c) (s .pre .4),
+      s .pre .5 ∙ ap size (sym whole),
+      s .pre .0 ∙ put-first (s .args .symbols .now) n (s .args .c) (s .pre .2) (s .pre .1) (s .pre .4),
     )
 
 sub-k : tie.Need-sub-k Inv-loop μ-loop
 sub-k c = omega arith
 
 sub-at : tie.Need-sub-at Inv-loop μ-loop
-sub-at c =
-    let a = c .before .before .before .before in
-    let l = c .before .before .loop in
-    omega (arith, at-literal (a .args .symbols .now) (a .args .n) (a .args .c) (l .rest) (l .at) (l .k) (l .row) (a .pre .2) (omega arith) (l .inv .0) (l .inv .1) (l .inv .2) (l .inv .3) (c .if1 .taken))
+sub-at c = omega (arith, c .before .before .loop .inv .2, count-literal (turn (c .before)) (c .if1 .taken))
 
 shared-slice-read-literal : tie.Need-shared-slice-read-literal Inv-loop μ-loop
 shared-slice-read-literal c = omega arith
 
 literal-requires : tie.Need-literal-requires Inv-loop μ-loop
 literal-requires c κs =
-    let a = c .before .before .before .before .before in
-    symbol-pos (a .args .symbols .now) _ (a .pre .3) (omega arith)
+    let s = start (c .before .before .before) in
+    symbol-pos (s .args .symbols .now) _ (s .pre .3) (omega arith)
 
 mul-t15 : tie.Need-mul-t15 Inv-loop μ-loop
-mul-t15 c =
-    let a = c .before .before .before .before .before .before in
-    let l = c .before .before .before .before .loop in
-    omega (arith, l .inv .2, size-le (take (l .k) (clauseAt (a .args .n) (a .args .c))), length-take (l .k) (clauseAt (a .args .n) (a .args .c)))
+mul-t15 c = omega (arith, at-low (c .before .before .before .before))
 
 slice-set-from-row : tie.Need-slice-set-from-row Inv-loop μ-loop
 slice-set-from-row c =
-    let a = c .before .before .before .before .before .before in
-    let l = c .before .before .before .before .loop in
-    omega (
-      arith,
-      ap length (l .inv .3),
-      length-putFrom (a .args .symbols .now) (clauseAt (a .args .n) (a .args .c)) (l .k) (omega (arith, length-clauseAt (a .args .n) (a .args .c))) (omega (arith, length-clauseAt (a .args .n) (a .args .c))),
-      l .inv .2,
-      size-le (take (l .k) (clauseAt (a .args .n) (a .args .c))),
-      length-take (l .k) (clauseAt (a .args .n) (a .args .c)),
-      length-clauseAt (a .args .n) (a .args .c),
-      at-literal (a .args .symbols .now) (a .args .n) (a .args .c) (l .rest) (l .at) (l .k) (l .row) (a .pre .2) (omega arith) (l .inv .0) (l .inv .1) (l .inv .2) (l .inv .3) (c .before .before .if1 .taken),
-    )
+    let i = c .before .before in
+    let l = i .before .before in
+    omega (arith, row-long l, at-low l, l .loop .inv .2, count-literal (turn (i .before)) (i .if1 .taken))
 
 loop-less : tie.Need-loop-less Inv-loop μ-loop
 loop-less c = omega arith
 
 loop-again : tie.Need-loop-again Inv-loop μ-loop
 loop-again c =
-    let a = c .before .before .before .before in
-    let l = c .before .before .loop in
+    let t = turn (c .before) in
+    let s = start (c .before .before) in
+    let ss = s .args .symbols .now in
+    let i = c .before .before .loop .inv in
     ⊎-elim
-    (λ w. (
+    (λ w. let put = toZ-ofZ (sfits-of {w = w16} {z = w .2 .result} (w .2 .ok)) ∙ w .2 .ensures in (
       omega arith,
-      next-rest (a .args .symbols .now) (a .args .n) (a .args .c) (l .rest) (l .at) (l .k) (l .row) (a .pre .2) (omega arith) (l .inv .0) (l .inv .1) (l .inv .2) (l .inv .3),
-      omega (arith, w .4, at-literal (a .args .symbols .now) (a .args .n) (a .args .c) (l .rest) (l .at) (l .k) (l .row) (a .pre .2) (omega arith) (l .inv .0) (l .inv .1) (l .inv .2) (l .inv .3) (w .0 .taken)),
-      w .3 ∙ ap (set (l .row) (l .at - 1)) (toZ-ofZ (sfits-of {w = w16} {z = w .2 .result} (w .2 .ok)) ∙ w .2 .ensures) ∙ next-literal (a .args .symbols .now) (a .args .n) (a .args .c) (l .rest) (l .at) (l .k) (l .row) (a .pre .2) (omega arith) (l .inv .0) (l .inv .1) (l .inv .2) (l .inv .3) (w .0 .taken),
+      next-rest t,
+      omega (arith, w .4, i .2, count-literal t (w .0 .taken)),
+      w .3 ∙ put-literal t ss (s .pre .2) (i .3) (i .2) (w .0 .taken) put,
     ))
-    (λ w. (omega arith, next-rest (a .args .symbols .now) (a .args .n) (a .args .c) (l .rest) (l .at) (l .k) (l .row) (a .pre .2) (omega arith) (l .inv .0) (l .inv .1) (l .inv .2) (l .inv .3), w .2 ∙ at-out (a .args .symbols .now) (a .args .n) (a .args .c) (l .rest) (l .at) (l .k) (l .row) (a .pre .2) (omega arith) (l .inv .0) (l .inv .1) (l .inv .2) (l .inv .3) (w .0 .left), w .1 ∙ next-out (a .args .symbols .now) (a .args .n) (a .args .c) (l .rest) (l .at) (l .k) (l .row) (a .pre .2) (omega arith) (l .inv .0) (l .inv .1) (l .inv .2) (l .inv .3) (w .0 .left)))
+    (λ w. (omega arith, next-rest t, w .2 ∙ i .2 ∙ count-out t (w .0 .left), w .1 ∙ i .3 ∙ put-out t ss (s .pre .2) (w .0 .left)))
     (c .if1 .came)
 
 same-length : tie.Need-same-length Inv-loop μ-loop
-same-length c =
-    let a = c .before .before .before in
-    let v = clauseAt (a .args .n) (a .args .c) in
-    ap length (c .before .loop .inv .3) ∙ length-putFrom (a .args .symbols .now) v (c .before .loop .k) (omega (arith, length-clauseAt (a .args .n) (a .args .c))) (omega (arith, length-clauseAt (a .args .n) (a .args .c)))
-    ∙ sym (ap length (a .pre .0) ∙ length-replicate width (pos 0))
+same-length c = row-long (c .before) ∙ sym (ap length (start (c .before) .pre .0) ∙ length-replicate width (pos 0))
 
 returns : tie.Need-returns Inv-loop μ-loop
 returns c =
-    let a = c .before .before .before in
+    let s = start (c .before) in
     let l = c .before .loop in
+    let ss = s .args .symbols .now in
     let e : l .k ≡ 0 = omega arith in
-    l .inv .3 ∙ ap (putFrom (a .args .symbols .now) (clauseAt (a .args .n) (a .args .c))) e
-    ∙ put-done (a .args .symbols .now) (clauseAt (a .args .n) (a .args .c)) (omega (arith, length-clauseAt (a .args .n) (a .args .c))) (omega (arith, length-clauseAt (a .args .n) (a .args .c)))
+    l .inv .3 ∙ ap (putFrom ss (clause (c .before))) e ∙ put-done ss (s .args .n) (s .args .c) (s .pre .2) (s .pre .1)
 
 pub put-literals-spec : {M : Type 1} → statement M
 put-literals-spec =

@@ -1,12 +1,11 @@
 -- `row_count` meets its contract. The invariant: `count` counts those of the first c clauses that are marked.
 use mathlib.Core.Path.{_≡_, refl, ap, _∙_}
 use mathlib.Core.Logic.{⊎-elim}
-use Prim.Native.Nat.{ℕ, _≤_, _-_}
+use Prim.Native.Nat.{ℕ, _≤_, _-_, _^_}
 use native.Mathlib.Omega.{arith}
 use lib.ListN.{length, take}
 use Rattle.meaning.specs.Tests.{keep}
 use Rattle.meaning.specs.Clauses.{clauses}
-use Rattle.implicates.specs.Numbers.{threes}
 use Rattle.implicates.specs.Hits.{marked}
 use Rattle.implicates.proofs.Numbers.{marked-at}
 use Rattle.implicates.proofs.Counting.{tally, count-turn, count-all}
@@ -50,7 +49,7 @@ returns c =
     let a = c .before .before in
     let l = c .before .loop in
     let p = marked (a .args .primes .now) in
-    let last : l .c ≡ threes (a .args .n) = omega arith in
+    let last : l .c ≡ 3 ^ (a .args .n) = omega arith in
     l .inv .2 ∙ ap (λ (j : ℕ). length (keep p (take j (clauses (a .args .n))))) last ∙ count-all p (a .args .n)
 
 pub row-count-spec : {M : Type 1} → statement M

@@ -1,4 +1,4 @@
--- `lines::commands::command_of` meets its contract: each arm's number picks its case of `commandOf`. Assumes nothing.
+-- `lines::commands::command_of` meets its contract: each arm's number picks its case of `commandOf`.
 use borrow.Author.Tests.{ne-eqb}
 use Rattle.lines.proofs.commands.command_of.Statement.{statement}
 use Rattle.lines.proofs.commands.command_of.Tie as tie

@@ -1,4 +1,4 @@
--- `lines::commands::formula_length` meets its contract: by what reading answers. Assumes nothing.
+-- `lines::commands::formula_length` meets its contract: by what reading answers.
 use borrow.Author.Needs.{needs}
 use mathlib.Core.Path.{sym, _∙_}
 use Rattle.formula.specs.Parse.{levels, parse}

@@ -1,4 +1,4 @@
--- `lines::commands::literal_in` meets its contract: the two bytes are a number below 65,536, and 65,536 is taken off where the sign bit is set. Assumes nothing.
+-- `lines::commands::literal_in` meets its contract: the two bytes are a number below 65,536, and 65,536 is taken off where the sign bit is set.
 use borrow.Author.Needs.{needs}
 use Prim.Native.Nat.{_<_}
 use mathlib.Core.Path.{sym, _∙_}

@@ -1,4 +1,4 @@
--- `lines::commands::put_command` meets its contract: each arm writes its word. Assumes nothing.
+-- `lines::commands::put_command` meets its contract: each arm writes its word.
 use borrow.Author.Needs.{needs}
 use Rattle.lines.proofs.commands.put_command.Statement.{statement}
 use Rattle.lines.proofs.commands.put_command.Tie as tie

@@ -1,4 +1,4 @@
--- `lines::commands::put_reason` meets its contract: one piece after another. Assumes nothing.
+-- `lines::commands::put_reason` meets its contract: one piece after another.
 use borrow.Author.Needs.{needs}
 use Prim.Native.Nat.{_+_, _*_, _≤_}
 use mathlib.Core.Path.{_≡_, _∙_}

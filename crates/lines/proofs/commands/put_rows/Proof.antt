@@ -1,4 +1,4 @@
--- `lines::commands::put_rows` meets its contract: one piece after another. Assumes nothing.
+-- `lines::commands::put_rows` meets its contract: one piece after another.
 use borrow.Author.Needs.{needs}
 use Prim.Native.Nat.{_+_, _≤_}
 use native.Mathlib.Omega.{arith}

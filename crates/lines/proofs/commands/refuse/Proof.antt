@@ -1,4 +1,4 @@
--- `lines::commands::refuse` meets its contract: the number is that of the refusal. Assumes nothing.
+-- `lines::commands::refuse` meets its contract: the number is that of the refusal.
 use borrow.Author.Needs.{needs}
 use Prim.Native.Nat.{_+_, _≤_}
 use mathlib.Core.Path.{refl}

@@ -1,4 +1,4 @@
--- `lines::commands::say_addition` meets its contract: by the outcome. Assumes nothing.
+-- `lines::commands::say_addition` meets its contract: by the outcome.
 use borrow.Author.Needs.{needs}
 use mathlib.Core.Path.{refl}
 use Rattle.lines.proofs.commands.say_addition.Statement.{statement}

@@ -1,4 +1,4 @@
--- `lines::commands::say_body` meets its contract: each arm makes its call. Assumes nothing.
+-- `lines::commands::say_body` meets its contract: each arm makes its call.
 use borrow.Author.Needs.{needs}
 use Prim.Native.Nat.{_≤_}
 use mathlib.Core.Path.{_≡_, refl}

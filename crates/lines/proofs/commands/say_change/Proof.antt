@@ -1,4 +1,4 @@
--- `lines::commands::say_change` meets its contract: by the outcome. Assumes nothing.
+-- `lines::commands::say_change` meets its contract: by the outcome.
 use borrow.Author.Needs.{needs}
 use Rattle.lines.proofs.commands.say_change.Statement.{statement}
 use Rattle.lines.proofs.commands.say_change.Tie as tie

@@ -1,4 +1,4 @@
--- `lines::commands::say_command` meets its contract: the body is cut short, or whole. Assumes nothing.
+-- `lines::commands::say_command` meets its contract: the body is cut short, or whole.
 use borrow.Author.Needs.{needs}
 use Rattle.lines.proofs.Bodies.{cut-said, cut-table, whole-said}
 use Rattle.lines.proofs.commands.say_command.Statement.{statement}

@@ -1,4 +1,4 @@
--- `lines::commands::say_rule` meets its contract: the formula's bytes are cut out and handed to the board. Assumes nothing.
+-- `lines::commands::say_rule` meets its contract: the formula's bytes are cut out and handed to the board.
 use borrow.Author.Needs.{needs}
 use Prim.Native.Nat.{_≤_}
 use mathlib.Core.Path.{sym}

@@ -1,4 +1,4 @@
--- `lines::commands::say_standing` meets its contract: by the standing. Assumes nothing.
+-- `lines::commands::say_standing` meets its contract: by the standing.
 use borrow.Author.Needs.{needs}
 use Rattle.lines.proofs.commands.say_standing.Statement.{statement}
 use Rattle.lines.proofs.commands.say_standing.Tie as tie

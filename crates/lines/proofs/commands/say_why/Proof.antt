@@ -1,4 +1,4 @@
--- `lines::commands::say_why` meets its contract: by the outcome; the part is a row of at most eight literals. Assumes nothing.
+-- `lines::commands::say_why` meets its contract: by the outcome; the part is a row of at most eight literals.
 use borrow.Author.Needs.{needs}
 use Prim.Native.Nat.{_+_, _-_, _≤_}
 use mathlib.Core.Path.{_≡_, refl, sym, ap, _∙_}

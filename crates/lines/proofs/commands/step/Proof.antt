@@ -1,4 +1,4 @@
--- `lines::commands::step` meets its contract: the line's pieces, one after the other. Assumes nothing.
+-- `lines::commands::step` meets its contract: the line's pieces, one after the other.
 use borrow.Author.Needs.{needs}
 use Prim.Native.Nat.{_+_, _≤_}
 use mathlib.Core.Path.{_≡_}

@@ -1,4 +1,4 @@
--- The proof of the cycle of calls {put_natural}. The measure is the number itself. Assumes nothing.
+-- The proof of the cycle of calls {put_natural}. The measure is the number itself.
 use Prim.Native.Nat.{ℕ, _+_, _/_, _%_, _<_}
 use mathlib.Core.List.{[], _∷_}
 use mathlib.Core.Path.{ap}

@@ -1,4 +1,4 @@
--- `lines::text::put_literal` meets its contract, by the sign. Assumes nothing.
+-- `lines::text::put_literal` meets its contract, by the sign.
 use borrow.Author.Needs.{needs}
 use mathlib.Core.Path.{ap, _∙_}
 use native.Mathlib.Omega.{arith}

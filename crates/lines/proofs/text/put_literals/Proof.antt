@@ -1,4 +1,4 @@
--- `lines::text::put_literals` meets its contract. The invariant: the first k literals are written. Assumes nothing.
+-- `lines::text::put_literals` meets its contract. The invariant: the first k literals are written.
 use mathlib.Core.Path.{_≡_, refl, _∙_}
 use Prim.Native.Nat.{_+_, _*_, _-_, _≤_}
 use native.Mathlib.Omega.{arith}

@@ -1,4 +1,4 @@
--- `lines::text::put_named` meets its contract: one piece after another. Assumes nothing.
+-- `lines::text::put_named` meets its contract: one piece after another.
 use borrow.Author.Needs.{needs}
 use native.Mathlib.Omega.{arith}
 use Rattle.lines.proofs.Pieces.{natural-most, put-length, put-put}

@@ -1,4 +1,4 @@
--- `lines::text::put_word` meets its contract. The invariant: the first k bytes of the word are written. Assumes nothing.
+-- `lines::text::put_word` meets its contract. The invariant: the first k bytes of the word are written.
 use mathlib.Core.Path.{_≡_, refl}
 use Prim.Native.Nat.{_+_, _-_, _≤_}
 use native.Mathlib.Nat.{add-zero}

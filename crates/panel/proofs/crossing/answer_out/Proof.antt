@@ -1,3 +1,4 @@
+-- `crossing::answer_out` meets its contract: one line a standing, and the refusal's number.
 use borrow.Author.Needs.{needs}
 use Rattle.panel.proofs.crossing.answer_out.Statement.{statement}
 use Rattle.panel.proofs.crossing.answer_out.Tie as tie

@@ -1,5 +1,4 @@
 -- `rounds::labels::write_labels` meets its contract. The loop's invariant: the symbols passed have their label. The measure is the symbols left.
---
 use borrow.Author.Needs.{needs}
 use borrow.Author.Count.{below-none}
 use Prim.Native.Nat.{ℕ, _≤_, _<_, _-_, _+_, _*_}

@@ -1,5 +1,4 @@
 -- `rounds::ranks::start_ranks` meets its contract. The loop's invariant: the places passed have their first rank. The measure is the places left.
---
 use borrow.Author.Needs.{needs}
 use borrow.Author.Count.{below-none}
 use Prim.Native.Nat.{ℕ, _≤_, _<_, _-_}

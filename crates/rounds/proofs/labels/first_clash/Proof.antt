@@ -1,22 +1,23 @@
--- `grounds::first_clash` meets its contract. The invariant: none of the first s symbols clashes.
+-- `rounds::labels::first_clash` meets its contract. The invariant: none of the first s symbols clashes.
 use mathlib.Core.Path.{_≡_}
 use mathlib.Core.Logic.{inl, inr, ⊎-elim}
 use mathlib.Core.Bool.{false}
-use Prim.Native.Nat.{ℕ, _-_, _≤_, _<_}
+use Prim.Native.Nat.{ℕ, _-_, _/_, _≤_, _<_}
+use lib.ListN.{length}
 use native.Mathlib.Omega.{arith}
 use borrow.Author.Count.{below-more}
 use borrow.Author.Tests.{lt-ltb, le-ltb}
 use Rattle.meaning.specs.Tests.{none}
-use Rattle.board.specs.Grounds.{clashIn}
-use Rattle.board.proofs.Clashes.{clash-no, clash-found, clash-nowhere}
-use Rattle.board.proofs.grounds.first_clash.Statement.{statement}
-use Rattle.board.proofs.grounds.first_clash.Tie as tie
+use Rattle.rounds.specs.Ranks.{clashIn}
+use Rattle.rounds.proofs.Clashes.{clash-no, clash-found, clash-nowhere}
+use Rattle.rounds.proofs.labels.first_clash.Statement.{statement}
+use Rattle.rounds.proofs.labels.first_clash.Tie as tie
 
 abbrev Inv-loop : tie.InvT-loop
-Inv-loop ranks symbols s₀ s = (s ≤ symbols) × ((i : ℕ) → i < s → clashIn ranks i ≡ false)
+Inv-loop ranks symbols s₀ s = (s ≤ length ranks / 2) × ((i : ℕ) → i < s → clashIn ranks i ≡ false)
 
 abbrev μ-loop : tie.MeasureT-loop
-μ-loop ranks symbols s₀ s = symbols - s
+μ-loop ranks symbols s₀ s = length ranks / 2 - s
 
 loop-holds : tie.Need-loop-holds Inv-loop μ-loop
 loop-holds c = (omega arith, λ i h. absurd (omega arith))
@@ -48,7 +49,7 @@ returns c =
     let w = t .before .before in
     let l = w .before in
     let s = l .before in
-    clash-found (s .args .ranks .now) (s .args .symbols) (s .pre .1) (l .loop .s) (w .loop-test .taken) (l .loop .inv .1) (lt-ltb _ none (t .if1 .taken)) (lt-ltb _ none (c .if2 .taken))
+    clash-found (s .args .ranks .now) (length (s .args .ranks .now) / 2) (omega arith) (l .loop .s) (w .loop-test .taken) (l .loop .inv .1) (lt-ltb _ none (t .if1 .taken)) (c .if2 .taken)
 
 add-s : tie.Need-add-s Inv-loop μ-loop
 add-s c = omega arith
@@ -60,7 +61,7 @@ loop-again : tie.Need-loop-again Inv-loop μ-loop
 loop-again c =
     let l = c .before .before .before in
     let ranks = l .before .args .ranks .now in
-    let here = clash-no ranks (l .loop .s) (⊎-elim (λ w. inr (le-ltb _ none (w .2 .left))) (λ w. inl (le-ltb _ none (w .left))) (c .if1 .came)) in
+    let here = clash-no ranks (l .loop .s) (⊎-elim (λ w. inr (w .2 .left)) (λ w. inl (le-ltb _ none (w .left))) (c .if1 .came)) in
     (omega arith, below-more (λ i. clashIn ranks i ≡ false) (l .loop .s) (l .loop .inv .1) here)
 
 cast-result : tie.Need-cast-result Inv-loop μ-loop
@@ -70,7 +71,7 @@ returns-2 : tie.Need-returns-2 Inv-loop μ-loop
 returns-2 c =
     let l = c .before in
     let s = l .before in
-    clash-nowhere (s .args .ranks .now) (s .args .symbols) (s .pre .1) (λ i h. l .loop .inv .1 i (omega arith))
+    clash-nowhere (s .args .ranks .now) (length (s .args .ranks .now) / 2) (omega arith) (λ i h. l .loop .inv .1 i (omega arith))
 
 pub first-clash-spec : {M : Type 1} → statement M
 first-clash-spec =
