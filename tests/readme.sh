@@ -1,5 +1,5 @@
 #!/usr/bin/env bash
-# Holds the README to the repository: its example is the stored case, its commands and links are there.
+# Holds the README and the documents to the repository: the example is the stored case, and what they name is there.
 set -euo pipefail
 cd "$(dirname "$0")/.."
 
@@ -26,4 +26,18 @@ for crate in crates/*/; do
         exit 1
     }
 done
-echo "readme: its example, commands, links and crates are there"
+
+# what the documents name: a word of the crates or of a file's name, and files of the crates
+for word in $(grep -oh '`[A-Za-z][A-Za-z0-9_-]*`' README.md docs/*.md | tr -d '`' | sort -u); do
+    grep -rqw -- "$word" crates crates.txt Makefile || [ -n "$(find crates -name "$word.*")" ] || {
+        echo "the documents name '$word', and nothing here has that name"
+        exit 1
+    }
+done
+for path in $(grep -oh '`[a-z_]*/\(src\|specs\|proofs\)/[A-Za-z_.]*`' README.md docs/*.md | tr -d '`' | sort -u); do
+    [ -e "crates/$path" ] || [ -e "crates/$path.antt" ] || {
+        echo "the documents name crates/$path, and there is no such file"
+        exit 1
+    }
+done
+echo "readme: its example, commands, links and crates are there, and what the documents name"

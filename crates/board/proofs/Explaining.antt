@@ -6,6 +6,7 @@ use mathlib.Core.List.{List, [], _∷_, map}
 use Prim.Native.Nat.{ℕ, zero, suc, _+_, _-_, _*_, _≤_, _<_}
 use native.Mathlib.Omega.{arith}
 use lib.IntN.{ℤ}
+use borrow.Author.Tests.{not-false}
 use lib.ListN.{length, getD}
 use Rattle.meaning.specs.Tests.{none}
 use Rattle.meaning.specs.Literals.{has}
@@ -38,10 +39,6 @@ none-given (f ∷ faults) e i = go (f .given) refl e i (λ h j. none-given fault
     go false g e zero rest = g
     go false g e (suc i) rest = rest e i
 
-not-given : (t : Bool) → not t ≡ false → t ≡ true
-not-given true e = refl
-not-given false e = clash refl e
-
 module _ (table : List ℤ) (b : Board) (l : ℤ) where
   -- the numbers have the call's outcome
   outcome-is : reasoned table b l .outcome ≡ firstFault (explainFaults table b l)
@@ -69,7 +66,7 @@ module _ (table : List ℤ) (b : Board) (l : ℤ) where
     unfolding explainFaults
     tests =
         let given = none-given (explainFaults table b l) done in
-        (good-is table b (not-given (goodBoard table b) (given 0)), not-given (inRange (b .symbols) l) (given 1), given 3)
+        (good-is table b (not-false (goodBoard table b) (given 0)), not-false (inRange (b .symbols) l) (given 1), given 3)
 
     -- the row is one of those in use
     pub row-used : (reasoned table b l .row < b .rows) × (b .rows ≤ 2048) × (width * b .rows ≤ length table)

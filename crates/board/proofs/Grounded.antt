@@ -1,6 +1,6 @@
 -- What ground and blame answer and write, where they are refused and where they are done.
 use mathlib.Core.Path.{_≡_, refl, sym, ap, _∙_}
-use mathlib.Core.Bool.{Bool, true, false, _||_}
+use mathlib.Core.Bool.{Bool, false, _||_, or-self}
 use mathlib.Core.List.{List, _++_, map}
 use Prim.Native.Nat.{ℕ, suc, _+_, _-_, _*_, _<_}
 use native.Mathlib.Omega.{arith}
@@ -18,10 +18,6 @@ use Rattle.board.specs.Ranking.{rowsOn}
 use Rattle.board.specs.Grounds.{byteOf, reachedOn, groundOutcome, groundMarks, blameOutcome, blameMarks}
 use Rattle.board.specs.declared.Board.{Board}
 use Rattle.board.specs.declared.Outcome.the-variants.{Done, Refused}
-
-or-same : (a : Bool) → (a || a) ≡ a
-or-same true = refl
-or-same false = refl
 
 -- bytes of a table of 2S places, over the front of another
 over-front : (n : ℕ) (f : ℕ → Bool) (marks : List ℕ) → map byteOf (tabulate n f) ++ drop n marks ≡ map byteOf (tabulate n f) ++ drop (length (map byteOf (tabulate n f))) marks
@@ -48,7 +44,7 @@ module _ (table : List ℤ) (b : Board) (marks : List ℕ) where
     unfolding groundMarks ground reachedOn
     ground-done p at e is =
         let one : tabulate (2 * b .symbols) (λ h. reach p h || reach p h) ≡ tabulate (2 * b .symbols) (reach (placeOf l)) =
-        tabulate-same false (2 * b .symbols) (2 * b .symbols) (λ h. reach p h || reach p h) (reach (placeOf l)) refl (λ h k. or-same (reach p h) ∙ ap (λ q. reach q h) at) in
+        tabulate-same false (2 * b .symbols) (2 * b .symbols) (λ h. reach p h || reach p h) (reach (placeOf l)) refl (λ h k. or-self (reach p h) ∙ ap (λ q. reach q h) at) in
         (sym e, is ∙ rw (e, one) (over-front (2 * b .symbols) (reach (placeOf l)) marks))
 
   -- ---- blame

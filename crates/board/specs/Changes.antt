@@ -1,13 +1,14 @@
 -- Open, hold and withdraw: "A refused call returns the number with the board as given, except that a refused open returns a board with
 -- S = 0, no rows in use and no premises".
 use Prim.Native.Nat.{ℕ}
-use mathlib.Core.Bool.{Bool, true, false, not, _&&_}
+use mathlib.Core.Bool.{Bool, true, false, not, _&&_, Bool·beq}
 use mathlib.Core.List.{List, [], _∷_}
 use lib.Dec.{leb}
 use lib.IntN.{ℤ}
 use lib.ListN.{set, replicate}
 use Rattle.meaning.specs.Literals.{has}
 use Rattle.literals.specs.Literal.{inRange, placeOf}
+use Rattle.literals.specs.declared.refusal.Refusal.{Refusal}
 use Rattle.literals.specs.declared.refusal.Refusal.the-variants.{BadBoard, BadLiteral, AlreadyHeld, NotHeld}
 use Rattle.board.specs.Faults.{goodBoard, Fault, firstFault, ifDone}
 use Rattle.board.specs.declared.Board.{Board}
@@ -33,23 +34,28 @@ opened S = changed (firstFault (openFaults S)) (emptyBoard 0) (emptyBoard S)
 abbrev pub withFlag : Board → ℤ → Bool → Board
 withFlag b l flag = record { symbols = b .symbols; rows = b .rows; held = set (b .held) (placeOf l) flag }
 
--- "Order: 1, then 2 for a given literal, 13, 14, then 10, 11 or 12"
-unfoldable pub holdFaults : List ℤ → Board → ℤ → List Fault
-holdFaults table b l =
+-- "Order: 1, then 2 for a given literal, 13, 14, then 10, 11 or 12": hold and withdraw are refused where the premise is already as it
+-- shall be
+unfoldable pub flagFaults : List ℤ → Board → ℤ → (flag : Bool) → (already : Refusal) → List Fault
+flagFaults table b l flag already =
     record { given = not (goodBoard table b); refusal = BadBoard }
     ∷ record { given = not (inRange (b .symbols) l); refusal = BadLiteral }
-    ∷ record { given = has (b .held) (placeOf l); refusal = AlreadyHeld }
+    ∷ record { given = Bool·beq (has (b .held) (placeOf l)) flag; refusal = already }
     ∷ []
 
-unfoldable pub held : List ℤ → Board → ℤ → Change
-held table b l = changed (firstFault (holdFaults table b l)) b (withFlag b l true)
+unfoldable pub flagChanged : List ℤ → Board → ℤ → (flag : Bool) → (already : Refusal) → Change
+flagChanged table b l flag already = changed (firstFault (flagFaults table b l flag already)) b (withFlag b l flag)
 
-unfoldable pub withdrawFaults : List ℤ → Board → ℤ → List Fault
-withdrawFaults table b l =
-    record { given = not (goodBoard table b); refusal = BadBoard }
-    ∷ record { given = not (inRange (b .symbols) l); refusal = BadLiteral }
-    ∷ record { given = not (has (b .held) (placeOf l)); refusal = NotHeld }
-    ∷ []
+-- 10: "hold: the literal is held already"
+abbrev pub holdFaults : List ℤ → Board → ℤ → List Fault
+holdFaults table b l = flagFaults table b l true AlreadyHeld
 
-unfoldable pub withdrawn : List ℤ → Board → ℤ → Change
-withdrawn table b l = changed (firstFault (withdrawFaults table b l)) b (withFlag b l false)
+abbrev pub held : List ℤ → Board → ℤ → Change
+held table b l = flagChanged table b l true AlreadyHeld
+
+-- 11: "withdraw: the literal isn't held"
+abbrev pub withdrawFaults : List ℤ → Board → ℤ → List Fault
+withdrawFaults table b l = flagFaults table b l false NotHeld
+
+abbrev pub withdrawn : List ℤ → Board → ℤ → Change
+withdrawn table b l = flagChanged table b l false NotHeld

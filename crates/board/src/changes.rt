@@ -1,9 +1,7 @@
 // Open, hold and withdraw: the calls that change the board and no table.
 
 ghost use mathlib.Core.Path.{_≡_};
-ghost use Prim.Native.Nat.{_<_};
-ghost use lib.ListN.{set};
-ghost use Rattle.board.specs.Changes.{emptyBoard, opened, held, withdrawn};
+ghost use Rattle.board.specs.Changes.{emptyBoard, opened, flagChanged, held, withdrawn};
 use crate::Board;
 use crate::Change;
 use crate::Outcome;
@@ -31,19 +29,6 @@ fn refused(board: Board, why: Refusal) -> Change
     }
 }
 
-// The board with one place's flag set so.
-fn flagged(board: Board, p: usize, flag: bool) -> Change
-    requires { ⌜ p < 400 ⌝ }
-    ensures { λ r. ⌜ r ≡ record { outcome = Outcome.Done; board = record { symbols = board .symbols; rows = board .rows; held = set (board .held) p flag } } ⌝ }
-{
-    let mut next = board;
-    next.held[p] = flag;
-    Change {
-        outcome: Outcome::Done,
-        board: next,
-    }
-}
-
 // Opens a board of so many symbols.
 pub fn open(symbols: usize) -> Change
     ensures { λ r. ⌜ r ≡ opened symbols ⌝ }
@@ -60,32 +45,36 @@ pub fn open(symbols: usize) -> Change
     }
 }
 
-// Puts a literal into the premises.
-pub fn hold(board: Board, table: &[i16], l: i16) -> Change
-    ensures { λ r. ⌜ r ≡ held (now (table .entry)) board l ⌝ }
+// Sets the flag of a literal's premise so; refused with `already` where it is so.
+fn change_flag(board: Board, table: &[i16], l: i16, flag: bool, already: Refusal) -> Change
+    ensures { λ r. ⌜ r ≡ flagChanged (now (table .entry)) board l flag already ⌝ }
 {
     match place_on(board, table, l) {
         Placed::Refused(why) => refused(board, why),
         Placed::At(p) => {
-            if board.held[p] {
-                return refused(board, Refusal::AlreadyHeld);
+            if board.held[p] == flag {
+                return refused(board, already);
             }
-            flagged(board, p, true)
+            let mut next = board;
+            next.held[p] = flag;
+            Change {
+                outcome: Outcome::Done,
+                board: next,
+            }
         }
     }
+}
+
+// Puts a literal into the premises.
+pub fn hold(board: Board, table: &[i16], l: i16) -> Change
+    ensures { λ r. ⌜ r ≡ held (now (table .entry)) board l ⌝ }
+{
+    change_flag(board, table, l, true, Refusal::AlreadyHeld)
 }
 
 // Takes a literal out of the premises.
 pub fn withdraw(board: Board, table: &[i16], l: i16) -> Change
     ensures { λ r. ⌜ r ≡ withdrawn (now (table .entry)) board l ⌝ }
 {
-    match place_on(board, table, l) {
-        Placed::Refused(why) => refused(board, why),
-        Placed::At(p) => {
-            if !board.held[p] {
-                return refused(board, Refusal::NotHeld);
-            }
-            flagged(board, p, false)
-        }
-    }
+    change_flag(board, table, l, false, Refusal::NotHeld)
 }

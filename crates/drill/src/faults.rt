@@ -1,11 +1,11 @@
 // Each cause of refusal 1, at each call that can give it.
 
 ghost use Prim.Native.Nat.{_≤_};
-use crate::boards;
-use crate::boards::blank;
-use crate::calls;
-use crate::printing;
 use board::Board;
+use report::boards;
+use report::boards::blank;
+use report::calls;
+use report::printing;
 
 fn changing(b: Board, table: &[i16], l: i16) {
     calls::hold(b, table, l);

@@ -1,9 +1,9 @@
 // The board of document 01's journal, made by the calls.
 
-use crate::boards::GUARD;
-use crate::calls;
-use crate::printing;
 use board::Board;
+use report::boards::GUARD;
+use report::calls;
+use report::printing;
 
 // What its fifth board gives for literal 4, and its tenth, where 1 was withdrawn and -3 is held.
 fn answers(fifth: Board, table: &[i16]) {

@@ -1,11 +1,11 @@
 // The calls that write: tables a place too short, tables of the stated length, and longer ones.
 
 ghost use Prim.Native.Nat.{_≤_};
-use crate::boards;
-use crate::boards::with;
-use crate::calls;
-use crate::printing;
 use board::Board;
+use report::boards;
+use report::boards::with;
+use report::calls;
+use report::printing;
 
 fn settle(b: Board, labels: usize, ranks: usize, supports: usize)
     requires { ⌜ (labels ≤ 410) × (ranks ≤ 410) × (supports ≤ 410) ⌝ }

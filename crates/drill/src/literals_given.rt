@@ -1,9 +1,9 @@
 // The calls that are given a literal: one of no symbol of the board's, and one that is held, derived, or neither.
 
-use crate::boards;
-use crate::calls;
-use crate::printing;
 use board::Board;
+use report::boards;
+use report::calls;
+use report::printing;
 
 // Hold and withdraw, each on the board as it is, and then ask, explain and ground.
 fn show(b: Board, l: i16) {

@@ -1,17 +1,10 @@
-// Runs the calls of `board` over the boards that document 01 lists and over every refusal, and prints what each call answers. A line
-// says the board and how many numbers of its table are lent, and then one call or several, each after a semicolon.
+// Runs the calls of `board` over the boards that document 01 lists and over every refusal, and prints what each call answers.
 
-mod boards;
-mod calls;
-mod comparing;
-mod counting;
 mod faults;
 mod journal;
-mod large;
 mod lengths;
 mod literals_given;
 mod opening;
-mod printing;
 mod rules;
 
 fn main() {
@@ -21,5 +14,4 @@ fn main() {
     literals_given::run();
     lengths::run();
     journal::run();
-    large::run();
 }

@@ -1,6 +1,6 @@
 // Opening a board.
 
-use crate::printing;
+use report::printing;
 
 fn show(symbols: usize) {
     let told = board::changes::open(symbols);

@@ -1,11 +1,11 @@
 // Adding rules: each refusal, the order of the tests, and the last free row.
 
 ghost use Prim.Native.Nat.{_≤_};
-use crate::boards;
-use crate::boards::blank;
-use crate::calls;
-use crate::printing;
 use board::Board;
+use report::boards;
+use report::boards::blank;
+use report::calls;
+use report::printing;
 
 fn show(b: Board, lent: usize, bytes: &[u8])
     requires { ⌜ lent ≤ 40 ⌝ }

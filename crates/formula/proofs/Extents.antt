@@ -1,8 +1,7 @@
 -- No answer looks further than the bytes go: the bytes used and the places of faults are within the bytes that were parsed.
-use mathlib.Core.Path.{_≡_, ap}
 use mathlib.Core.Bool.{Bool, true, false, cond, _&&_}
 use mathlib.Core.List.{List, [], _∷_}
-use Prim.Native.Nat.{ℕ, zero, suc, _+_, _<_, _≤_}
+use Prim.Native.Nat.{ℕ, zero, suc, _+_, _-_, _≤_}
 use native.Mathlib.Omega.{arith}
 use lib.ListN.{length, drop, length-drop}
 use lib.Dec.{leb}
@@ -11,11 +10,11 @@ use Rattle.literals.specs.declared.refusal.Refusal.the-variants.{BadLiteral}
 use Rattle.formula.specs.Kinds.{kindOf, joined}
 use Rattle.formula.specs.Parse.{Parsed, good, bad, parse, bodyOf, symbolAt, after, secondOf}
 use Rattle.formula.specs.Answers.{readOf, extent, usedOf}
-use Rattle.formula.specs.declared.reading.Answer.{Answer}
 use Rattle.formula.specs.declared.reading.Join.{Join}
 use Rattle.formula.specs.declared.reading.Kind.{Kind}
 use Rattle.formula.specs.declared.reading.Kind.the-variants.{Symbol, Not, Two, Unknown}
 use Rattle.formula.proofs.Parts.{onward, onward-length}
+use Rattle.formula.proofs.Parsing.{At, first, second}
 
 pick-extent : (b : Bool) (p q : Parsed) (n : ℕ) → extent (readOf p) ≤ n → extent (readOf q) ≤ n → extent (readOf (cond b p q)) ≤ n
 pick-extent true p q n hp hq = hp
@@ -56,16 +55,15 @@ parse-extent S (suc depth) (k ∷ body) = body-extent (λ l. parse S depth l) (p
 
 -- ---- the same of a reader's first operand, and of both
 
-module _ (S depth : ℕ) (bytes : List ℕ) (long : 0 < length bytes) where
-  pub first-extent : (r : Answer) → r ≡ readOf (parse S depth (onward 1 bytes)) → 1 + extent r ≤ length bytes
-  first-extent r e = omega (arith, ap extent e, parse-extent S depth (onward 1 bytes), onward-length 1 bytes)
+module _ (S : ℕ) {depth : ℕ} {bytes : List ℕ} {kind : Kind} (at : At depth bytes kind) where
+  pub first-extent : 1 + extent (readOf (first S depth bytes)) ≤ length bytes
+  first-extent = omega (arith, parse-extent S (depth - 1) (onward 1 bytes), onward-length 1 bytes, at .long)
 
-  pub both-extent : (count : ℕ) → 1 + count ≤ length bytes → (r : Answer) → r ≡ readOf (parse S depth (onward count (onward 1 bytes)))
-      → 1 + count + extent r ≤ length bytes
-  both-extent count h r e =
-      omega (arith, ap extent e, parse-extent S depth (onward count (onward 1 bytes)), onward-length count (onward 1 bytes), onward-length 1 bytes)
+  pub both-extent : (count : ℕ) → 1 + count ≤ length bytes → 1 + count + extent (readOf (second S depth bytes count)) ≤ length bytes
+  both-extent count h =
+      omega (arith, parse-extent S (depth - 1) (onward count (onward 1 bytes)), onward-length count (onward 1 bytes), onward-length 1 bytes)
 
-used-extent : (p : Parsed) → usedOf p ≤ extent (readOf p)
+pub used-extent : (p : Parsed) → usedOf p ≤ extent (readOf p)
 used-extent (good f used) = omega arith
 used-extent (bad why at) = omega arith
 

@@ -1,5 +1,5 @@
 -- Laws of parsing, from the tests that a reader makes and its operands' answers.
-use mathlib.Core.Path.{_≡_, refl, ap, sym, _∙_}
+use mathlib.Core.Path.{_≡_, refl, ap, ap₂, sym, _∙_}
 use mathlib.Core.List.{List, [], _∷_}
 use Prim.Native.Nat.{ℕ, zero, suc, _+_, _-_, _<_, _≤_}
 use native.Mathlib.Omega.{arith}
@@ -10,7 +10,7 @@ use Rattle.meaning.specs.Formulae.{Formula, symbol, neg}
 use Rattle.literals.specs.declared.refusal.Refusal.{Refusal}
 use Rattle.literals.specs.declared.refusal.Refusal.the-variants.{BadLiteral, CutShort, UnknownKind, TooDeep, BytesLeftOver}
 use Rattle.formula.specs.Kinds.{kindOf, joined}
-use Rattle.formula.specs.Parse.{Parsed, good, bad, parse, bodyOf, symbolAt, after, secondOf, ended, levels, wholeOf}
+use Rattle.formula.specs.Parse.{Parsed, good, bad, parse, bodyOf, symbolAt, after, secondOf, levels, wholeOf}
 use Rattle.formula.specs.Answers.{readOf, past}
 use Rattle.formula.specs.declared.reading.Answer.{Answer}
 use Rattle.formula.specs.declared.reading.Answer.the-variants.{Used, Refused}
@@ -64,90 +64,90 @@ parse-body S (suc depth) [] h n = absurd (omega arith)
 parse-body S (suc depth) (k ∷ body) h n =
     ap (λ (d : ℕ). bodyOf S (λ l. parse S d l) (kindOf k) body) (sym (sub-one (suc depth)))
 
+-- ---- a formula from its kind and its operands
+
+-- the first operand, and the one that stands past the bytes that the first one takes
+abbrev pub first : (S depth : ℕ) → List ℕ → Parsed
+first S depth bytes = parse S (depth - 1) (onward 1 bytes)
+
+abbrev pub second : (S depth : ℕ) → List ℕ → ℕ → Parsed
+second S depth bytes used = parse S (depth - 1) (onward used (onward 1 bytes))
+
+-- a level is left, and there is a byte that says the kind
+pub record At (depth : ℕ) (bytes : List ℕ) (kind : Kind) : Type 0 where
+  pub deep : 0 < depth
+  pub long : 0 < length bytes
+  pub says : kindOf (getD bytes 0 0) ≡ kind
+
+module _ (S : ℕ) {depth : ℕ} {bytes : List ℕ} where
+  by-kind : {kind : Kind} → At depth bytes kind → parse S depth bytes ≡ bodyOf S (λ l. parse S (depth - 1) l) kind (onward 1 bytes)
+  by-kind at =
+      parse-body S depth bytes (at .deep) (at .long)
+      ∙ ap₂ (bodyOf S (λ l. parse S (depth - 1) l)) (at .says) (sym (onward-drop 1 bytes))
+
+  pub by-symbol : At depth bytes Symbol → parse S depth bytes ≡ symbolAt S (onward 1 bytes)
+  unfolding bodyOf
+  by-symbol at = by-kind at
+
+  pub by-not : At depth bytes Not → parse S depth bytes ≡ after 1 neg (first S depth bytes)
+  unfolding bodyOf
+  by-not at = by-kind at
+
+  pub by-unknown : At depth bytes Unknown → parse S depth bytes ≡ bad UnknownKind 0
+  unfolding bodyOf
+  by-unknown at = by-kind at
+
+  module _ {join : Join} (at : At depth bytes (Two join)) where
+    pub by-first : {why : Refusal} {place : ℕ} → first S depth bytes ≡ bad why place → parse S depth bytes ≡ bad why (1 + place)
+    unfolding bodyOf secondOf
+    by-first e = by-kind at ∙ rw e
+
+    pub by-second : {f : Formula} {used : ℕ} → first S depth bytes ≡ good f used
+        → parse S depth bytes ≡ after (1 + used) (joined join f) (second S depth bytes used)
+    unfolding bodyOf secondOf
+    by-second {f} {used} e = by-kind at ∙ rw (e, onward-drop used (onward 1 bytes))
+
 -- ---- a reader's answer from its operands' answers
+
+answer-good : (p : Parsed) {count : ℕ} → readOf p ≡ Used count → (f : Formula) × (p ≡ good f count)
+answer-good (good f used) {count} e = let same : used ≡ count = cc in (f, ap (good f) same)
+answer-good (bad why at) e = let z : _≡_ {A = ℕ} 0 1 = cc in absurd (omega arith)
+
+answer-bad : (p : Parsed) {why : Refusal} {at : ℕ} → readOf p ≡ Refused why at → p ≡ bad why at
+answer-bad (good f used) e = let z : _≡_ {A = ℕ} 0 1 = cc in absurd (omega arith)
+answer-bad (bad why′ at′) {why} {at} e = let same : why′ ≡ why = cc in let there : at′ ≡ at = cc in ap₂ bad same there
 
 past-after : (skipped : ℕ) (wrap : Formula → Formula) (p : Parsed) → past skipped (readOf p) ≡ readOf (after skipped wrap p)
 past-after skipped wrap (good f used) = refl
 past-after skipped wrap (bad why at) = refl
 
-module _ (operand : List ℕ → Parsed) (join : Join) (body : List ℕ) where
-  second-used : (p : Parsed) (count : ℕ) → readOf p ≡ Used count
-      → past (1 + count) (readOf (operand (drop count body))) ≡ readOf (secondOf operand join body p)
-  unfolding secondOf
-  second-used (good f used) count e =
-      let same : count ≡ used = cc in
-      past-after (1 + count) (joined join f) (operand (drop count body))
-      ∙ ap (λ (n : ℕ). readOf (after (1 + n) (joined join f) (operand (drop n body)))) same
-  second-used (bad why at) count e = let z : _≡_ {A = ℕ} 0 1 = cc in absurd (omega arith)
+module _ (S : ℕ) {depth : ℕ} {bytes : List ℕ} where
+  pub reads-not : At depth bytes Not → {one : Answer} → one ≡ readOf (first S depth bytes) → past 1 one ≡ readOf (parse S depth bytes)
+  reads-not at read = ap (past 1) read ∙ past-after 1 neg (first S depth bytes) ∙ sym (ap readOf (by-not S at))
 
-  second-refused : (p : Parsed) (why : Refusal) (at : ℕ) → readOf p ≡ Refused why at
-      → past 1 (Refused why at) ≡ readOf (secondOf operand join body p)
-  unfolding secondOf
-  second-refused (good f used) why at e = let z : _≡_ {A = ℕ} 0 1 = cc in absurd (omega arith)
-  second-refused (bad why′ at′) why at e = ap (past 1) (sym e)
+  module _ {join : Join} (at : At depth bytes (Two join)) {one : Answer} (read : one ≡ readOf (first S depth bytes)) where
+    pub reads-first : {why : Refusal} {place : ℕ} → one ≡ Refused why place → Refused why (1 + place) ≡ readOf (parse S depth bytes)
+    reads-first r = sym (ap readOf (by-first S at (answer-bad (first S depth bytes) (sym read ∙ r))))
 
--- `found` is the kind that the first byte says
-module _ (S depth : ℕ) (bytes : List ℕ) (deep : 0 < depth) (long : 0 < length bytes) (found : Kind) (says : found ≡ kindOf (getD bytes 0 0)) where
-  pub by-kind : (kind : Kind) → found ≡ kind
-      → parse S depth bytes ≡ bodyOf S (λ l. parse S (depth - 1) l) kind (onward 1 bytes)
-  by-kind kind e =
-      parse-body S depth bytes deep long
-      ∙ ap (λ (k : Kind). bodyOf S (λ l. parse S (depth - 1) l) k (drop 1 bytes)) (sym says ∙ e)
-      ∙ ap (λ (l : List ℕ). bodyOf S (λ l. parse S (depth - 1) l) kind l) (sym (onward-drop 1 bytes))
-
-  pub reads-symbol : found ≡ Symbol → readOf (symbolAt S (onward 1 bytes)) ≡ readOf (parse S depth bytes)
-  unfolding bodyOf
-  reads-symbol e = sym (ap readOf (by-kind Symbol e))
-
-  pub reads-unknown : found ≡ Unknown → Refused UnknownKind 0 ≡ readOf (parse S depth bytes)
-  unfolding bodyOf
-  reads-unknown e = sym (ap readOf (by-kind Unknown e))
-
-  module _ (first : Answer) (read : first ≡ readOf (parse S (depth - 1) (onward 1 bytes))) where
-    pub reads-not : found ≡ Not → past 1 first ≡ readOf (parse S depth bytes)
-    unfolding bodyOf
-    reads-not e =
-        ap (past 1) read ∙ past-after 1 neg (parse S (depth - 1) (onward 1 bytes)) ∙ sym (ap readOf (by-kind Not e))
-
-    pub reads-first : (join : Join) → found ≡ Two join → (why : Refusal) (at : ℕ) → first ≡ Refused why at
-        → past 1 (Refused why at) ≡ readOf (parse S depth bytes)
-    unfolding bodyOf
-    reads-first join e why at r =
-        second-refused (λ l. parse S (depth - 1) l) join (onward 1 bytes) (parse S (depth - 1) (onward 1 bytes)) why at (sym read ∙ r)
-        ∙ sym (ap readOf (by-kind (Two join) e))
-
-    pub reads-second : (join : Join) → found ≡ Two join → (count : ℕ) → first ≡ Used count
-        → (second : Answer) → second ≡ readOf (parse S (depth - 1) (onward count (onward 1 bytes)))
-        → past (1 + count) second ≡ readOf (parse S depth bytes)
-    unfolding bodyOf
-    reads-second join e count r second q =
-        ap (past (1 + count)) (q ∙ ap (λ (l : List ℕ). readOf (parse S (depth - 1) l)) (onward-drop count (onward 1 bytes)))
-        ∙ second-used (λ l. parse S (depth - 1) l) join (onward 1 bytes) (parse S (depth - 1) (onward 1 bytes)) count (sym read ∙ r)
-        ∙ sym (ap readOf (by-kind (Two join) e))
+    pub reads-second : {count : ℕ} → one ≡ Used count → {two : Answer} → two ≡ readOf (second S depth bytes count)
+        → past (1 + count) two ≡ readOf (parse S depth bytes)
+    reads-second {count} r q =
+        let one-good = answer-good (first S depth bytes) (sym read ∙ r) in
+        ap (past (1 + count)) q
+        ∙ past-after (1 + count) (joined join (one-good .0)) (second S depth bytes count)
+        ∙ sym (ap readOf (by-second S at (one-good .1)))
 
 -- ---- nothing may follow the whole
 
-module _ (S : ℕ) (bytes : List ℕ) (answer : Answer) (read : answer ≡ readOf (parse S levels bytes)) where
-  ended-used : (p : Parsed) (count n : ℕ) → readOf p ≡ Used count → count ≡ n → Used count ≡ readOf (ended n p)
-  ended-used (good f used) count n e h = let same : count ≡ used = cc in rw (eq-eqb used n (sym same ∙ h)) (sym e)
-  ended-used (bad why at) count n e h = let z : _≡_ {A = ℕ} 0 1 = cc in absurd (omega arith)
-
-  ended-more : (p : Parsed) (count n : ℕ) → readOf p ≡ Used count → (count ≡ n → ⊥) → Refused BytesLeftOver count ≡ readOf (ended n p)
-  ended-more (good f used) count n e h = let same : count ≡ used = cc in rw (ne-eqb used n (λ q. h (same ∙ q))) (ap (Refused BytesLeftOver) same)
-  ended-more (bad why at) count n e h = let z : _≡_ {A = ℕ} 0 1 = cc in absurd (omega arith)
-
-  ended-bad : (p : Parsed) (why : Refusal) (at n : ℕ) → readOf p ≡ Refused why at → Refused why at ≡ readOf (ended n p)
-  ended-bad (good f used) why at n e = let z : _≡_ {A = ℕ} 0 1 = cc in absurd (omega arith)
-  ended-bad (bad why′ at′) why at n e = sym e
-
-  pub whole-used : (count : ℕ) → answer ≡ Used count → count ≡ length bytes → Used count ≡ readOf (wholeOf S bytes)
+module _ (S : ℕ) (bytes : List ℕ) {answer : Answer} (read : answer ≡ readOf (parse S levels bytes)) where
+  pub whole-used : {count : ℕ} → answer ≡ Used count → count ≡ length bytes → Used count ≡ readOf (wholeOf S bytes)
   unfolding wholeOf
-  whole-used count r h = ended-used (parse S levels bytes) count (length bytes) (sym read ∙ r) h
+  whole-used {count} r h = rw (answer-good (parse S levels bytes) (sym read ∙ r) .1, eq-eqb count (length bytes) h)
 
-  pub whole-more : (count : ℕ) → answer ≡ Used count → (count ≡ length bytes → ⊥) → Refused BytesLeftOver count ≡ readOf (wholeOf S bytes)
+  pub whole-more : {count : ℕ} → answer ≡ Used count → (count ≡ length bytes → ⊥) → Refused BytesLeftOver count ≡ readOf (wholeOf S bytes)
   unfolding wholeOf
-  whole-more count r h = ended-more (parse S levels bytes) count (length bytes) (sym read ∙ r) h
+  whole-more {count} r h = rw (answer-good (parse S levels bytes) (sym read ∙ r) .1, ne-eqb count (length bytes) h)
 
-  pub whole-bad : (why : Refusal) (at : ℕ) → answer ≡ Refused why at → Refused why at ≡ readOf (wholeOf S bytes)
+  pub whole-bad : {why : Refusal} {at : ℕ} → answer ≡ Refused why at → Refused why at ≡ readOf (wholeOf S bytes)
   unfolding wholeOf
-  whole-bad why at r = ended-bad (parse S levels bytes) why at (length bytes) (sym read ∙ r)
+  whole-bad r = rw (answer-bad (parse S levels bytes) (sym read ∙ r))

@@ -1,58 +1,56 @@
 -- A formula that was read for the symbols 1 to S: they alone stand in it, its bytes are some of those that were read, and it is the
 -- same formula where more symbols are allowed.
-use mathlib.Core.Path.{_≡_, refl, ap, ap₂, sym, subst, _∙_}
+use mathlib.Core.Path.{_≡_, refl, ap, sym, subst, _∙_}
 use mathlib.Core.Bool.{Bool, true, false, cond, _&&_}
 use mathlib.Core.List.{List, [], _∷_}
 use Prim.Native.Nat.{ℕ, zero, suc, _+_, _≤_}
 use native.Mathlib.Omega.{arith}
 use lib.ListN.{length, drop}
 use lib.Dec.{leb, eqb}
-use borrow.Author.Tests.{leb-true, le-leb, eqb-true}
+use borrow.Author.Tests.{leb-true, le-leb}
 use Rattle.meaning.specs.Formulae.{Formula, symbol, neg, inside}
-use Rattle.meaning.proofs.Tests.{and-intro}
-use Rattle.literals.specs.declared.refusal.Refusal.{Refusal}
+use Rattle.meaning.proofs.Tests.{both-true, and-intro}
 use Rattle.literals.specs.declared.refusal.Refusal.the-variants.{BadLiteral, BytesLeftOver}
 use Rattle.formula.specs.Kinds.{kindOf, joined}
 use Rattle.formula.specs.Parse.{Parsed, good, bad, parse, bodyOf, symbolAt, after, secondOf, ended, levels, wholeOf}
-use Rattle.formula.specs.Answers.{readOf, isGood, usedOf}
-use Rattle.formula.specs.declared.reading.Answer.the-variants.{Used, Refused}
+use Rattle.formula.specs.Answers.{isGood, usedOf}
 use Rattle.formula.specs.declared.reading.Join.{Join}
 use Rattle.formula.specs.declared.reading.Join.the-variants.{And, Or, Implies, Same}
 use Rattle.formula.specs.declared.reading.Kind.{Kind}
 use Rattle.formula.specs.declared.reading.Kind.the-variants.{Symbol, Not, Two, Unknown}
 use Rattle.formula.proofs.Extents.{parse-used}
-use Rattle.formula.proofs.Walk.{never, good-after, good-first}
+use Rattle.formula.proofs.Walk.{never, number-fits}
 
 -- ---- for more symbols
 
-picked-wider : (a b c : Bool) (s : ℕ) → (b ≡ true → c ≡ true) → isGood (cond (a && b) (good (symbol s) 2) (bad BadLiteral 1)) ≡ true
-    → cond (a && b) (good (symbol s) 2) (bad BadLiteral 1) ≡ cond (a && c) (good (symbol s) 2) (bad BadLiteral 1)
-picked-wider true true c s h e = rw (h refl)
-picked-wider true false c s h e = never e
-picked-wider false b c s h e = never e
+after-wider : (skipped : ℕ) (wrap : Formula → Formula) (p q : Parsed) → (isGood p ≡ true → p ≡ q) → isGood (after skipped wrap p) ≡ true
+    → after skipped wrap p ≡ after skipped wrap q
+after-wider skipped wrap (good f used) q alike e = ap (after skipped wrap) (alike refl)
+after-wider skipped wrap (bad why at) q alike e = never e
 
 module _ (few more : ℕ) (h : few ≤ more) where
   symbol-wider : (body : List ℕ) → isGood (symbolAt few body) ≡ true → symbolAt few body ≡ symbolAt more body
   unfolding symbolAt
   symbol-wider [] e = refl
   symbol-wider (s ∷ rest) e =
-      picked-wider (leb 1 s) (leb s few) (leb s more) s (λ l. le-leb s more (omega (arith, leb-true s few l))) e
+      let fits = number-fits (leb 1 s && leb s few) s e in
+      let both = both-true (leb 1 s) (leb s few) fits in
+      rw (fits, and-intro (leb 1 s) (leb s more) (both .0) (le-leb s more (omega (arith, leb-true s few (both .1)))))
 
   module _ (p q : List ℕ → Parsed) (alike : (l : List ℕ) → isGood (p l) ≡ true → p l ≡ q l) where
-    second-wider : (join : Join) (body : List ℕ) (r : Parsed) → isGood (secondOf p join body r) ≡ true
-        → secondOf p join body r ≡ secondOf q join body r
+    second-wider : (join : Join) (body : List ℕ) (r t : Parsed) → (isGood r ≡ true → r ≡ t) → isGood (secondOf p join body r) ≡ true
+        → secondOf p join body r ≡ secondOf q join body t
     unfolding secondOf
-    second-wider join body (good f used) e =
-        ap (after (1 + used) (joined join f)) (alike (drop used body) (sym (good-after (1 + used) (joined join f) (p (drop used body))) ∙ e))
-    second-wider join body (bad why at) e = refl
+    second-wider join body (good f used) t same e =
+        after-wider (1 + used) (joined join f) (p (drop used body)) (q (drop used body)) (alike (drop used body)) e
+        ∙ ap (secondOf q join body) (same refl)
+    second-wider join body (bad why at) t same e = never e
 
     body-wider : (kind : Kind) (body : List ℕ) → isGood (bodyOf few p kind body) ≡ true → bodyOf few p kind body ≡ bodyOf more q kind body
     unfolding bodyOf
     body-wider Symbol body e = symbol-wider body e
-    body-wider Not body e = ap (after 1 neg) (alike body (sym (good-after 1 neg (p body)) ∙ e))
-    body-wider (Two join) body e =
-        second-wider join body (p body) e
-        ∙ ap (secondOf q join body) (alike body (good-first p join body (p body) e))
+    body-wider Not body e = after-wider 1 neg (p body) (q body) (alike body) e
+    body-wider (Two join) body e = second-wider join body (p body) (q body) (alike body) e
     body-wider Unknown body e = never e
 
   pub wider : (depth : ℕ) (bytes : List ℕ) → isGood (parse few depth bytes) ≡ true → parse few depth bytes ≡ parse more depth bytes
@@ -93,25 +91,22 @@ module _ (S : ℕ) where
       picked true e = (e, omega arith)
       picked false e = tt
 
-  not-fine : (p : Parsed) → Fine S p → Fine S (after 1 neg p)
-  unfolding inside
-  not-fine (good f used) h = (h .0, omega arith)
-  not-fine (bad why at) h = tt
+  after-fine : (skipped : ℕ) (wrap : Formula → Formula) (p : Parsed) → ((f : Formula) → inside S f ≡ true → inside S (wrap f) ≡ true)
+      → Fine S p → Fine S (after skipped wrap p)
+  after-fine skipped wrap (good f used) keeps h = (keeps f (h .0), omega arith)
+  after-fine skipped wrap (bad why at) keeps h = tt
 
   module _ (p : List ℕ → Parsed) (fine : (l : List ℕ) → Fine S (p l)) where
-    joined-fine : (join : Join) (f : Formula) (used : ℕ) (q : Parsed) → inside S f ≡ true → Fine S q → Fine S (after (1 + used) (joined join f) q)
-    joined-fine join f used (good g more) e h = (inside-joined join f g e (h .0), omega arith)
-    joined-fine join f used (bad why at) e h = tt
-
     second-fine : (join : Join) (body : List ℕ) (r : Parsed) → Fine S r → Fine S (secondOf p join body r)
     unfolding secondOf
-    second-fine join body (good f used) h = joined-fine join f used (p (drop used body)) (h .0) (fine (drop used body))
+    second-fine join body (good f used) h =
+        after-fine (1 + used) (joined join f) (p (drop used body)) (λ g. inside-joined join f g (h .0)) (fine (drop used body))
     second-fine join body (bad why at) h = tt
 
     body-fine : (kind : Kind) (body : List ℕ) → Fine S (bodyOf S p kind body)
-    unfolding bodyOf
+    unfolding bodyOf inside
     body-fine Symbol body = symbol-fine body
-    body-fine Not body = not-fine (p body) (fine body)
+    body-fine Not body = after-fine 1 neg (p body) (λ f e. e) (fine body)
     body-fine (Two join) body = second-fine join body (p body) (fine body)
     body-fine Unknown body = tt
 
@@ -127,35 +122,19 @@ pub record Read (S : ℕ) (bytes : List ℕ) (f : Formula) (used : ℕ) : Type 0
   pub some : 1 ≤ used
   pub within : used ≤ length bytes
 
-pub parse-read : (S depth : ℕ) (bytes : List ℕ) (f : Formula) (used : ℕ) → parse S depth bytes ≡ good f used → Read S bytes f used
-parse-read S depth bytes f used e =
-    let fine = subst (Fine S) e (parse-fine S depth bytes) in
-    record { known = fine .0; some = fine .1; within = omega (arith, ap usedOf e, parse-used S depth bytes) }
-
 -- ---- the whole, where nothing follows it
 
-ended-good : (p : Parsed) (n : ℕ) (f : Formula) (used : ℕ) → ended n p ≡ good f used → (p ≡ good f used) × (used ≡ n)
-ended-good (good g count) n f used e = go (eqb count n) refl e
+ended-good : (p : Parsed) (n : ℕ) (f : Formula) (used : ℕ) → ended n p ≡ good f used → p ≡ good f used
+ended-good (good g count) n f used e = go (eqb count n) e
   where
-    go : (b : Bool) → eqb count n ≡ b → cond b (good g count) (bad BytesLeftOver count) ≡ good f used → (good g count ≡ good f used) × (used ≡ n)
-    go true q r = let same : count ≡ used = cc in (r, sym same ∙ eqb-true count n q)
-    go false q r = never (ap isGood r)
-ended-good (bad why at) n f used e = never (ap isGood e)
-
--- a good whole is a good parse that takes every byte
-pub whole-parse : (S : ℕ) (bytes : List ℕ) (f : Formula) (used : ℕ) → wholeOf S bytes ≡ good f used → (parse S levels bytes ≡ good f used) × (used ≡ length bytes)
-unfolding wholeOf
-whole-parse S bytes f used e = ended-good (parse S levels bytes) (length bytes) f used e
+    go : (b : Bool) → cond b (good g count) (bad BytesLeftOver count) ≡ good f used → good g count ≡ good f used
+    go true r = r
+    go false r = never (ap isGood r)
+ended-good (bad why at) n f used e = e
 
 pub whole-read : (S : ℕ) (bytes : List ℕ) (f : Formula) (used : ℕ) → wholeOf S bytes ≡ good f used → Read S bytes f used
-whole-read S bytes f used e = parse-read S levels bytes f used (whole-parse S bytes f used e .0)
-
--- ---- what an answer says of what was parsed
-
-pub answer-good : (p : Parsed) (count : ℕ) → readOf p ≡ Used count → (f : Formula) × (p ≡ good f count)
-answer-good (good f used) count e = let same : used ≡ count = cc in (f, ap (good f) same)
-answer-good (bad why at) count e = let z : _≡_ {A = ℕ} 0 1 = cc in absurd (omega arith)
-
-pub answer-bad : (p : Parsed) (why : Refusal) (at : ℕ) → readOf p ≡ Refused why at → p ≡ bad why at
-answer-bad (good f used) why at e = let z : _≡_ {A = ℕ} 0 1 = cc in absurd (omega arith)
-answer-bad (bad why′ at′) why at e = let same : why′ ≡ why = cc in let there : at′ ≡ at = cc in ap₂ bad same there
+unfolding wholeOf
+whole-read S bytes f used e =
+    let r = ended-good (parse S levels bytes) (length bytes) f used e in
+    let fine = subst (Fine S) r (parse-fine S levels bytes) in
+    record { known = fine .0; some = fine .1; within = omega (arith, ap usedOf r, parse-used S levels bytes) }

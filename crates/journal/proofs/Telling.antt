@@ -14,7 +14,7 @@ use lib.Seq.{drop-drop, length-take-le, sets-eq, take-at}
 use Rattle.formula.proofs.Parts.{onward, onward-drop}
 use Rattle.lines.specs.Text.{Put}
 use Rattle.lines.specs.Commands.{Did, said, Said, saidTable}
-use Rattle.lines.specs.declared.commands.Progress.{Progress}
+use Rattle.lines.specs.declared.saying.Progress.{Progress}
 use Rattle.lines.proofs.Bodies.{said-used}
 use Rattle.lines.proofs.Pieces.{put-length}
 use Rattle.lines.proofs.Runs.{lines-step}

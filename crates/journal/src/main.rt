@@ -62,7 +62,7 @@ fn advance(run: Run, table: &mut [i16], input: &[u8], out: &mut [u8]) -> Run
 {
     let from = run.next;
     let at = run.filled;
-    let done = lines::commands::step(
+    let done = lines::saying::step(
         run.board,
         table,
         &input[from..],

@@ -8,7 +8,7 @@ use Rattle.board.specs.declared.Board.{Board}
 use Rattle.lines.specs.Text.{Put, lineEnd, natural}
 use Rattle.lines.specs.Commands.{commandAt, commandSaid, commandTable, Did, said, saidTable, wordOf}
 use Rattle.lines.specs.declared.commands.Command.{Command}
-use Rattle.lines.specs.declared.commands.Progress.{Progress}
+use Rattle.lines.specs.declared.saying.Progress.{Progress}
 use Rattle.lines.proofs.Pieces.{put-put}
 
 module _ (ordinal : ℕ) (b : Board) (table : List ℤ) (input : List ℕ) {command : Command} (is : command ≡ commandAt input) where

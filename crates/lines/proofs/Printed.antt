@@ -15,7 +15,7 @@ use Rattle.literals.specs.Row.{numbersAt, zeros, rising, rowSound, rowsSound, d
 use Rattle.formula.specs.Parse.{symbolAt, secondOf, bodyOf, parse, wholeOf}
 use Rattle.implicates.specs.Appending.{appended}
 use Rattle.board.specs.Faults.{goodBoard}
-use Rattle.board.specs.Changes.{openFaults, opened, holdFaults, held, withdrawFaults, withdrawn}
+use Rattle.board.specs.Changes.{openFaults, opened, held, flagFaults, flagChanged}
 use Rattle.board.specs.Rules.{ruleFaults, ruled, ruledTable}
 use Rattle.board.specs.Asking.{askFaults, asked, explainFaults, reasoned, explained}
 use Rattle.lines.specs.Text.{digitsOf, literalList}
@@ -42,5 +42,5 @@ lines =
     ++ (49 ∷ 49 ∷ 32 ∷ 97 ∷ 115 ∷ 107 ∷ 32 ∷ 99 ∷ 111 ∷ 110 ∷ 102 ∷ 108 ∷ 105 ∷ 99 ∷ 116 ∷ 10 ∷ [])
 
 printed : linesOf 40 1 start (replicate 16384 (pos 0)) input ≡ lines
-unfolding hit implicate prime ofSize value occurs symbolsOf opp gives next reached rankBy firstGiver supportAt supportOf rankAbove placeOf literalAt numbersAt zeros rising rowSound rowsSound decode rowsIn encode symbolAt secondOf bodyOf parse wholeOf appended goodBoard openFaults opened holdFaults held withdrawFaults withdrawn ruleFaults ruled ruledTable askFaults asked explainFaults reasoned explained digitsOf literalList literalIn formulaLength commandSaid commandTable said saidTable linesOf
+unfolding hit implicate prime ofSize value occurs symbolsOf opp gives next reached rankBy firstGiver supportAt supportOf rankAbove placeOf literalAt numbersAt zeros rising rowSound rowsSound decode rowsIn encode symbolAt secondOf bodyOf parse wholeOf appended goodBoard openFaults opened flagFaults flagChanged ruleFaults ruled ruledTable askFaults asked explainFaults reasoned explained digitsOf literalList literalIn formulaLength commandSaid commandTable said saidTable linesOf
 printed = refl

@@ -21,7 +21,7 @@ use Rattle.board.specs.declared.asking.Standing.{Standing}
 use Rattle.board.specs.declared.asking.Standing.the-variants.{Conflict, Stands, RuledOut, Open as Unsettled, Refused}
 use Rattle.lines.specs.declared.commands.Command.{Command}
 use Rattle.lines.specs.declared.commands.Command.the-variants.{Open, Rule, Hold, Drop, Ask, Why, Other}
-use Rattle.lines.specs.declared.commands.Progress.{Progress}
+use Rattle.lines.specs.declared.saying.Progress.{Progress}
 use Rattle.lines.specs.Text.{Put, natural, literalList, openWord, ruleWord, holdWord, dropWord, askWord, whyWord, kindWord, okWord, noWord, rowsWord, standsWord, outWord, conflictWord, rankWord, rowWord, space, colon, lineEnd}
 
 -- ---- the commands

@@ -9,7 +9,7 @@ use lib.IntN.{ℤ}
 use lib.ListN.{length}
 use Rattle.literals.specs.Row.{rowsLent}
 use Rattle.board.specs.Faults.{firstFault}
-use Rattle.board.specs.Changes.{changed, emptyBoard, openFaults, opened, withFlag, holdFaults, held, withdrawFaults, withdrawn}
+use Rattle.board.specs.Changes.{changed, emptyBoard, openFaults, opened, withFlag, holdFaults, held, withdrawFaults, withdrawn, flagChanged}
 use Rattle.board.specs.Rules.{ruleFaults, rowsOfBytes, ruled}
 use Rattle.board.specs.declared.Board.{Board}
 use Rattle.board.specs.declared.Outcome.{Outcome}
@@ -31,11 +31,11 @@ module _ (table : List ℤ) (b : Board) (n : Narrow b) where
   narrow-flagged o l flag = narrow-changed o b (withFlag b l flag) n (record { symbols = n .symbols; rows = n .rows })
 
   pub narrow-held : (l : ℤ) → Narrow (held table b l .board)
-  unfolding held
+  unfolding flagChanged
   narrow-held l = narrow-flagged (firstFault (holdFaults table b l)) l true
 
   pub narrow-withdrawn : (l : ℤ) → Narrow (withdrawn table b l .board)
-  unfolding withdrawn
+  unfolding flagChanged
   narrow-withdrawn l = narrow-flagged (firstFault (withdrawFaults table b l)) l false
 
   -- "rows in use plus its prime implicates" are at most the rows lent

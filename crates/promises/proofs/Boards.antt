@@ -17,7 +17,7 @@ use Rattle.literals.specs.Refusals.{numberOf}
 use Rattle.formula.specs.Parse.{symbolAt, secondOf, bodyOf, parse, wholeOf}
 use Rattle.implicates.specs.Appending.{appended}
 use Rattle.board.specs.Faults.{goodBoard, ifDone}
-use Rattle.board.specs.Changes.{openFaults, opened, holdFaults, held, withdrawFaults, withdrawn, emptyBoard}
+use Rattle.board.specs.Changes.{openFaults, opened, emptyBoard, flagFaults, flagChanged}
 use Rattle.board.specs.Rules.{ruleFaults, ruled, ruledTable}
 use Rattle.board.specs.Settling.{settleFaults, settleOutcome, settledLabels}
 use Rattle.board.specs.Asking.{askFaults, asked, explainFaults, reasoned}
@@ -138,5 +138,5 @@ boards =
 
 -- the calls answer each question as 01 does
 boards-hold : map (λ b. map (λ q. tell (run fresh (b .0)) (q .0)) (b .1)) boards ≡ map (λ b. map (λ q. q .1) (b .1)) boards
-unfolding tell after faults opp value occurs symbolsOf hit implicate prime ofSize gives next reached rankBy labelsOf rankAbove reachesIn reaches blamed blame placeOf literalAt numbersAt zeros rising rowSound rowsSound decode rowsIn encode symbolAt secondOf bodyOf parse wholeOf appended goodBoard openFaults opened holdFaults held withdrawFaults withdrawn ruleFaults ruled ruledTable settleFaults settleOutcome settledLabels askFaults asked explainFaults reasoned blameFaults blameOutcome blameMarks
+unfolding tell after faults opp value occurs symbolsOf hit implicate prime ofSize gives next reached rankBy labelsOf rankAbove reachesIn reaches blamed blame placeOf literalAt numbersAt zeros rising rowSound rowsSound decode rowsIn encode symbolAt secondOf bodyOf parse wholeOf appended goodBoard openFaults opened flagFaults flagChanged ruleFaults ruled ruledTable settleFaults settleOutcome settledLabels askFaults asked explainFaults reasoned blameFaults blameOutcome blameMarks
 boards-hold = refl

@@ -26,7 +26,7 @@ use Rattle.literals.proofs.Encoding.{length-encode, encode-sound}
 use Rattle.implicates.specs.Appending.{encodeAll, appended}
 use Rattle.implicates.proofs.Appending.{length-appended}
 use Rattle.board.specs.Faults.{goodBoard}
-use Rattle.board.specs.Changes.{emptyBoard, openFaults, opened, holdFaults, withdrawFaults, withFlag}
+use Rattle.board.specs.Changes.{emptyBoard, openFaults, opened, holdFaults, withdrawFaults, withFlag, flagFaults}
 use Rattle.board.specs.Rules.{withRows, ruled, ruledTable}
 use Rattle.board.specs.declared.Board.{Board}
 use Rattle.board.specs.declared.Outcome.the-variants.{Done, Refused}
@@ -145,11 +145,11 @@ module _ (w : World) (g : Whole w) where
   flagged l flag e = flag-good (w .table) (w .board) l flag g (not-false (inRange (w .board .symbols) l) e)
 
   hold-good : (lent : ℕ) (l : ℤ) → outcome w (holds lent l) ≡ Done → Whole (after w (holds lent l))
-  unfolding faults holdFaults
+  unfolding faults flagFaults
   hold-good lent l e = rw (hold-puts w lent l e) (flagged l true (none-given (holdFaults (front w lent) (w .board) l) e 1))
 
   withdraw-good : (lent : ℕ) (l : ℤ) → outcome w (withdraws lent l) ≡ Done → Whole (after w (withdraws lent l))
-  unfolding faults withdrawFaults
+  unfolding faults flagFaults
   withdraw-good lent l e = rw (withdraw-takes w lent l e) (flagged l false (none-given (withdrawFaults (front w lent) (w .board) l) e 1))
 
   -- the rows of a good rule are sound, and lie in the part that it was lent

@@ -7,7 +7,7 @@ use native.Mathlib.Omega.{arith}
 use lib.ListN.{take-append-drop}
 use Rattle.literals.specs.declared.refusal.Refusal.{Refusal}
 use Rattle.board.specs.Faults.{Fault, firstFault}
-use Rattle.board.specs.Changes.{opened, held, withdrawn}
+use Rattle.board.specs.Changes.{opened, flagChanged}
 use Rattle.board.specs.Rules.{ruled, ruledTable}
 use Rattle.board.specs.Settling.{settleOutcome, settledLabels, settledRanks, settledSupports}
 use Rattle.board.specs.Grounds.{groundOutcome, groundMarks, blameOutcome, blameMarks}
@@ -37,7 +37,7 @@ refused-exactly w c why = (first-given why (faults w c), given-first why)
 -- ---- what it leaves
 
 pub refused-untouched : RefusedUntouched
-unfolding after faults opened ruled ruledTable held withdrawn
+unfolding after faults opened ruled ruledTable flagChanged
 refused-untouched w (opens S) why e = rw e
 refused-untouched w (adds lent bytes) why e = rw (e, take-append-drop)
 refused-untouched w (holds lent l) why e = rw e

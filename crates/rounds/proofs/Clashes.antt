@@ -3,7 +3,7 @@ use mathlib.Core.Path.{_≡_, refl, sym, ap, _∙_}
 use mathlib.Core.Logic.{_⊎_, inl, inr, ⊎-elim}
 use mathlib.Core.Bool.{Bool, true, false, _&&_, and-false}
 use mathlib.Core.List.{List}
-use Prim.Native.Nat.{ℕ, zero, suc, _+_, _-_, _*_, _/_, _<_}
+use Prim.Native.Nat.{ℕ, suc, _+_, _-_, _*_, _/_, _<_}
 use native.Mathlib.Omega.{arith}
 use lib.Dec.{ltb, eqb}
 use lib.ListN.{length, getD}
@@ -12,8 +12,9 @@ use Rattle.meaning.specs.Literals.{opp, has, conflict}
 use Rattle.meaning.specs.Rounds.{derived, ranksOf, labelOf, label}
 use Rattle.meaning.specs.Ground.{blamed}
 use Rattle.meaning.proofs.Tests.{clash, false-of, and-intro, both-true}
-use Rattle.meaning.proofs.Tables.{first-is, first-only}
+use Rattle.meaning.proofs.Tables.{first-is}
 use Rattle.meaning.proofs.Literals.{even-or-odd, opp-even, opp-odd, has-below, conflict-at, conflict-found}
+use Rattle.rounds.proofs.Searching.{first-same}
 use Rattle.rounds.proofs.Marking.{length-below}
 use Rattle.rounds.proofs.RankTables.{below-rank, length-ranksOf}
 use Rattle.rounds.proofs.Final.{below-derived}
@@ -21,7 +22,7 @@ use Rattle.rounds.specs.Ranks.{below, clashIn}
 
 -- ---- the test on a symbol
 
-clash-yes : (ranks : List ℕ) (s : ℕ) → ltb (getD ranks (2 * s) 0) none ≡ true → ltb (getD ranks (2 * s + 1) 0) none ≡ true → clashIn ranks s ≡ true
+pub clash-yes : (ranks : List ℕ) (s : ℕ) → ltb (getD ranks (2 * s) 0) none ≡ true → ltb (getD ranks (2 * s + 1) 0) none ≡ true → clashIn ranks s ≡ true
 unfolding clashIn
 clash-yes ranks s a b = rw (a, b)
 
@@ -29,23 +30,6 @@ pub clash-no : (ranks : List ℕ) (s : ℕ) → (ltb (getD ranks (2 * s) 0) none
 unfolding clashIn
 clash-no ranks s (inl a) = rw a
 clash-no ranks s (inr b) = rw (b, and-false (ltb (getD ranks (2 * s) 0) none))
-
--- ---- the first that passes, as a scan finds it
-
-module _ (ranks : List ℕ) (symbols : ℕ) (small : symbols < none) where
-  pub clash-found : (s : ℕ) → s < symbols → ((i : ℕ) → i < s → clashIn ranks i ≡ false) → ltb (getD ranks (2 * s) 0) none ≡ true
-      → ltb (getD ranks (2 * s + 1) 0) none ≡ true → s ≡ first (clashIn ranks) symbols
-  clash-found s h before a b =
-      first-only (clashIn ranks) symbols s (first (clashIn ranks) symbols) (inl (h, clash-yes ranks s a b, before)) (first-is (clashIn ranks) symbols (omega arith))
-
-  pub clash-nowhere : ((i : ℕ) → i < symbols → clashIn ranks i ≡ false) → none ≡ first (clashIn ranks) symbols
-  clash-nowhere all =
-      first-only (clashIn ranks) symbols none (first (clashIn ranks) symbols) (inr (refl, all)) (first-is (clashIn ranks) symbols (omega arith))
-
--- tests that agree have the same first
-first-same : (n : ℕ) (f g : ℕ → Bool) → ((i : ℕ) → i < n → f i ≡ g i) → first f n ≡ first g n
-first-same zero f g h = refl
-first-same (suc n) f g h = rw (first-same n f g (λ i l. h i (omega arith)), h n (omega arith))
 
 -- ---- there is one exactly if there is a conflict
 

@@ -2,7 +2,7 @@
 use Prim.Native.Nat.{ℕ, zero, suc, _+_, _-_, _*_, _≤_, _<_}
 use mathlib.Core.Path.{_≡_, refl, sym, ap, ap₂, _∙_}
 use mathlib.Core.Logic.{_⊎_, inl, inr, ⊎-elim}
-use mathlib.Core.Bool.{Bool, false, cond}
+use mathlib.Core.Bool.{Bool, cond}
 use mathlib.Core.List.{List}
 use native.Mathlib.Omega.{arith}
 use lib.Dec.{ltb, eqb}
@@ -11,10 +11,11 @@ use borrow.Author.Tests.{eq-eqb}
 use Rattle.meaning.specs.Tests.{none}
 use Rattle.meaning.specs.Literals.{has}
 use Rattle.meaning.specs.Rounds.{byRows, after, derived, rankOf, firstGiver, supportAt, supportOf, ranksOf, supportsOf, labelOf, labelsOf}
-use Rattle.meaning.proofs.Tables.{getD-tabulate, tabulate-ext, tabulate-same, map-tabulate}
+use Rattle.meaning.proofs.Tables.{getD-tabulate, tabulate-same}
 use Rattle.meaning.proofs.Rounds.{reached-length}
 use Rattle.meaning.proofs.Ranks.{rankOf-is, derived-rank}
 use Rattle.rounds.specs.Ranks.{below, supportFrom, supportsFrom, labelsFrom}
+use Rattle.rounds.proofs.Marking.{below-tabulate}
 use Rattle.rounds.proofs.Givers.{supportFrom-row}
 use Rattle.rounds.proofs.RankTables.{getD-ranksOf, length-ranksOf, below-ranksOf}
 
@@ -43,10 +44,8 @@ module _ (places : ℕ) (rows : List (List ℕ)) (held : List Bool) (small : pla
   supportsFrom-is = tabulate-same 0 _ places _ _ (length-ranksOf places rows held) supportFrom-is
 
   pub below-derived : below none (ranksOf places rows held) ≡ derived places rows held
-  unfolding below ranksOf
-  below-derived =
-      map-tabulate (λ r. ltb r none) places _
-      ∙ sym (tabulate-ext false places _ (derived places rows held) (reached-length places (byRows rows) held places) (λ p h. sym (derived-rank places rows held small p)))
+  unfolding ranksOf
+  below-derived = below-tabulate none places _ _ (reached-length places (byRows rows) held places) (λ p h. derived-rank places rows held small p)
 
   ranked : (p : ℕ) → p < places → ltb (getD (ranksOf places rows held) p none) none ≡ has (derived places rows held) p
   unfolding ranksOf

@@ -1,71 +1,50 @@
 -- The search for the lowest-numbered row that gives a literal: row by row, and in a row literal by literal.
 use Prim.Native.Nat.{ℕ, zero, suc, _≤_, _<_}
 use mathlib.Core.Path.{_≡_, refl, sym, _∙_}
-use mathlib.Core.Logic.{inl, inr, ⊎-elim}
+use mathlib.Core.Logic.{⊎-elim}
 use mathlib.Core.Bool.{Bool, true, false, _&&_, _||_, or-true, or-false, and-true, and-false}
 use mathlib.Core.List.{List, [], _∷_}
-use native.Mathlib.Omega.{arith}
 use lib.Dec.{eqb}
 use lib.IntN.{ℤ}
 use lib.ListN.{length, getD}
 use borrow.Author.Tests.{eq-eqb, ne-eqb}
-use Rattle.meaning.specs.Tests.{all, member, none}
+use Rattle.meaning.specs.Tests.{all, member, none, first}
 use Rattle.meaning.specs.Literals.{opp, has}
 use Rattle.meaning.specs.Rounds.{gives, firstGiver, supportAt}
-use Rattle.meaning.proofs.Tables.{FirstIs, first-only}
 use Rattle.meaning.proofs.Supports.{firstGiver-is}
 use Rattle.literals.specs.Row.{numbersAt, decode, rowsIn}
 use Rattle.literals.proofs.Decoding.{length-rows, rows-at}
 use Rattle.rounds.specs.Ranks.{below, supportFrom}
+use Rattle.rounds.proofs.Searching.{first-same}
 
 -- ---- one row
 
--- whether the row gives p, where `seen` says whether p was seen and each other literal seen has its opposite known
-pub gives-on : List Bool → ℕ → Bool → List ℕ → Bool
-gives-on known p seen left = (seen || member p left) && all (λ q. eqb q p || has known (opp q)) left
+-- the row gives p exactly if what is left of it says so, where `seen` says whether p is among those passed
+pub record Seen (known : List Bool) (p : ℕ) (row left : List ℕ) (seen : Bool) : Type 0 where
+  is : gives known row p ≡ ((seen || member p left) && all (λ q. eqb q p || has known (opp q)) left)
 
-module _ (known : List Bool) (p : ℕ) where
-  pub gives-start : (row : List ℕ) → gives known row p ≡ gives-on known p false row
-  unfolding gives-on gives
-  gives-start row = refl
+pub seen-none : {known : List Bool} {p : ℕ} {row : List ℕ} → Seen known p row row false
+unfolding gives
+seen-none = record { is = refl }
 
-  pub gives-end : (seen : Bool) → gives-on known p seen [] ≡ seen
-  unfolding gives-on
-  gives-end seen = rw or-false (and-true seen)
+module _ {known : List Bool} {p : ℕ} {row left : List ℕ} {q : ℕ} {seen : Bool} (w : Seen known p row (q ∷ left) seen) where
+  pub seen-same : q ≡ p → Seen known p row left true
+  seen-same e = record { is = rw (eq-eqb q p e, or-true seen) at (w .is) }
 
-  module _ (seen : Bool) (q : ℕ) (left : List ℕ) where
-    pub gives-same : q ≡ p → gives-on known p seen (q ∷ left) ≡ gives-on known p true left
-    unfolding gives-on
-    gives-same e = rw (eq-eqb q p e, or-true seen)
+  pub seen-other : (q ≡ p → ⊥) → has known (opp q) ≡ true → Seen known p row left seen
+  seen-other d h = record { is = rw (ne-eqb q p d, h) at (w .is) }
 
-    pub gives-other : (q ≡ p → ⊥) → has known (opp q) ≡ true → gives-on known p seen (q ∷ left) ≡ gives-on known p seen left
-    unfolding gives-on
-    gives-other d h = rw (ne-eqb q p d, h)
+  pub seen-fails : (q ≡ p → ⊥) → has known (opp q) ≡ false → gives known row p ≡ false
+  seen-fails d h = (rw (ne-eqb q p d, h) at (w .is)) ∙ and-false (seen || member p left)
 
-    pub gives-fails : (q ≡ p → ⊥) → has known (opp q) ≡ false → gives-on known p seen (q ∷ left) ≡ false
-    unfolding gives-on
-    gives-fails d h = rw (ne-eqb q p d, h) (and-false (seen || member p left))
+pub seen-all : {known : List Bool} {p : ℕ} {row : List ℕ} {seen : Bool} → Seen known p row [] seen → gives known row p ≡ seen
+seen-all {seen} w = rw (or-false, and-true) at (w .is)
 
 -- ---- the rows of a table
 
-module _ (known : List Bool) (table : List ℤ) (n : ℕ) (p : ℕ) (few : n ≤ none) where
-  abbrev row : ℕ → List ℕ
-  row r = decode (numbersAt table r)
-
-  only-giver : (r : ℕ) → FirstIs (λ r. gives known (getD (rowsIn n table) r []) p) n r → r ≡ firstGiver known (rowsIn n table) p
-  only-giver r f =
-      first-only (λ r. gives known (getD (rowsIn n table) r []) p) n r _ f
-      (rw (length-rows n table) at (firstGiver-is known (rowsIn n table) p (rw (length-rows n table) few)))
-
-  row-fails : (m : ℕ) → m ≤ n → ((i : ℕ) → i < m → gives known (row i) p ≡ false) → (i : ℕ) → i < m → gives known (getD (rowsIn n table) i []) p ≡ false
-  row-fails m l f i h = rw (rows-at n table i (omega arith)) (f i h)
-
-  pub giver-found : (r : ℕ) → r < n → gives known (decode (numbersAt table r)) p ≡ true → ((i : ℕ) → i < r → gives known (decode (numbersAt table i)) p ≡ false)
-      → r ≡ firstGiver known (rowsIn n table) p
-  giver-found r l h f = only-giver r (inl (l, rw (rows-at n table r l) h, row-fails r (omega arith) f))
-
-  pub giver-missing : ((i : ℕ) → i < n → gives known (decode (numbersAt table i)) p ≡ false) → none ≡ firstGiver known (rowsIn n table) p
-  giver-missing f = only-giver none (inr (refl, row-fails n (omega arith) f))
+pub giver-in : (known : List Bool) (table : List ℤ) (n p : ℕ) → first (λ r. gives known (decode (numbersAt table r)) p) n ≡ firstGiver known (rowsIn n table) p
+unfolding firstGiver
+giver-in known table n p = rw (length-rows n table) (first-same n _ _ (λ r h. rw (rows-at n table r h)))
 
 -- ---- the support that a table of ranks tells
 

@@ -1,8 +1,8 @@
 -- Laws of marking literals: `join`, a row's opposites, and what the marked literals of a rank lead to.
 use Prim.Native.Nat.{ℕ, zero, suc, _+_, _≤_, _<_}
 use mathlib.Core.Path.{_≡_, refl, sym, ap, _∙_}
-use mathlib.Core.Logic.{_⊎_, inl, inr, ⊎-elim}
-use mathlib.Core.Bool.{Bool, true, false, not, _&&_, _||_, and-true, and-false, or-true, or-false, or-assoc}
+use mathlib.Core.Logic.{_≢_, _⊎_, inl, inr, ⊎-elim}
+use mathlib.Core.Bool.{Bool, true, false, not, _&&_, _||_, and-false, or-true, or-false, or-assoc}
 use mathlib.Core.List.{List, [], _∷_, List·Memᴰ as In, List·Memᴰ·not-nil as in-nil}
 use native.Mathlib.Nat.{add-zero, add-suc, suc-add, zero-add}
 use native.Mathlib.Numerals.{add-one}
@@ -11,7 +11,6 @@ use lib.Dec.{eqb}
 use lib.IntN.{ℤ}
 use lib.ListN.{length, getD, set, length-set}
 use lib.Seq.{getD-set-same, getD-set-other}
-use borrow.Author.Count.{below-none, below-more}
 use borrow.Author.Tests.{eq-eqb, ne-eqb, eqb-true, eqb-false, ltb-true, not-true}
 use Rattle.meaning.specs.Tests.{any, from, none}
 use Rattle.meaning.specs.Literals.{opp, has}
@@ -25,8 +24,8 @@ use Rattle.meaning.proofs.Reach.{past-end}
 use Rattle.literals.specs.Row.{numbersAt, decode, rowsIn}
 use Rattle.literals.proofs.Decoding.{rows-at}
 use Rattle.rounds.specs.Ranks.{below, supportFrom}
-use Rattle.rounds.specs.Reach.{opposed, leads, join, expandedTo, heldOnly}
-use Rattle.rounds.proofs.Marking.{getD-below, length-below}
+use Rattle.rounds.specs.Reach.{opposed, leads, join, expandedTo}
+use Rattle.rounds.proofs.Marking.{below-rank, length-below}
 use Rattle.rounds.proofs.Givers.{supportFrom-held, supportFrom-none, supportFrom-row}
 
 same-or-not : (a b : ℕ) → (a ≡ b) ⊎ (a ≡ b → ⊥)
@@ -35,7 +34,7 @@ same-or-not a b = ⊎-elim (λ e. inl (eqb-true a b e)) (λ e. inr (eqb-false a 
 -- ---- adding to a set
 
 module _ (m : List Bool) (f : ℕ → Bool) where
-  pub length-join : length (join m f) ≡ length m
+  length-join : length (join m f) ≡ length m
   unfolding join
   length-join = length-tabulate (length m) _
 
@@ -50,16 +49,16 @@ module _ (m : List Bool) (f : ℕ → Bool) where
   pub join-never : ((x : ℕ) → f x ≡ false) → m ≡ join m f
   join-never h = join-ext m refl (λ x b. sym (ap (λ t. has m x || t) (h x) ∙ or-false (has m x)))
 
-pub join-same : (m : List Bool) (f g : ℕ → Bool) → ((x : ℕ) → f x ≡ g x) → join m f ≡ join m g
+join-same : (m : List Bool) (f g : ℕ → Bool) → ((x : ℕ) → f x ≡ g x) → join m f ≡ join m g
 join-same m f g h = join-ext m g (join m f) (length-join m f) (λ x b. has-join m f x b ∙ ap (λ t. has m x || t) (h x))
 
-pub join-join : (m : List Bool) (f g : ℕ → Bool) → join (join m f) g ≡ join m (λ x. f x || g x)
+join-join : (m : List Bool) (f g : ℕ → Bool) → join (join m f) g ≡ join m (λ x. f x || g x)
 join-join m f g =
     join-ext m (λ x. f x || g x) (join (join m f) g) (length-join (join m f) g ∙ length-join m f)
     (λ x b. has-join (join m f) g x (rw length-join b) ∙ ap (λ t. t || g x) (has-join m f x b) ∙ or-assoc (has m x) (f x) (g x))
 
 -- one literal
-pub join-one : (m : List Bool) (o : ℕ) → o < length m → set m o true ≡ join m (eqb o)
+join-one : (m : List Bool) (o : ℕ) → o < length m → set m o true ≡ join m (eqb o)
 join-one m o h = join-ext m (eqb o) (set m o true) (length-set m o true) (λ x b. go x (eqb o x) refl)
   where
     go : (x : ℕ) (t : Bool) → eqb o x ≡ t → has (set m o true) x ≡ has m x || t
@@ -68,21 +67,31 @@ join-one m o h = join-ext m (eqb o) (set m o true) (length-set m o true) (λ x b
 
 -- ---- the opposites of a row's other literals, one by one
 
-module _ (m : List Bool) (p : ℕ) where
-  pub opposed-none : join m (opposed p []) ≡ m
-  unfolding opposed
-  opposed-none = sym (join-never m (opposed p []) (λ x. refl))
+-- with the opposites of what is left of the row the marks are as they are to be
+pub record Crossed (p : ℕ) (row left : List ℕ) (first marks : List Bool) : Type 0 where
+  pub long : length marks ≡ length first
+  is : join marks (opposed p left) ≡ join first (opposed p row)
 
-  pub opposed-same : (q : ℕ) (left : List ℕ) → q ≡ p → join m (opposed p (q ∷ left)) ≡ join m (opposed p left)
-  unfolding opposed
-  opposed-same q left e = join-same m (opposed p (q ∷ left)) (opposed p left) (λ x. rw (eq-eqb q p e))
+pub crossed-none : {p : ℕ} {row : List ℕ} {marks : List Bool} → Crossed p row row marks marks
+crossed-none = record { long = refl; is = refl }
 
-  pub opposed-other : (q : ℕ) (left : List ℕ) → (q ≡ p → ⊥) → (o : ℕ) → o ≡ opp q → o < length m
-      → join m (opposed p (q ∷ left)) ≡ join (set m o true) (opposed p left)
+module _ {p : ℕ} {row left : List ℕ} {q : ℕ} {first marks : List Bool} (w : Crossed p row (q ∷ left) first marks) where
+  pub crossed-same : q ≡ p → Crossed p row left first marks
   unfolding opposed
-  opposed-other q left d o e h =
-      join-same m (opposed p (q ∷ left)) (λ x. eqb o x || opposed p left x) (λ x. rw (ne-eqb q p d, e))
-      ∙ sym (ap (λ n. join n (opposed p left)) (join-one m o h) ∙ join-join m (eqb o) (opposed p left))
+  crossed-same e = record { long = w .long; is = join-same marks (opposed p left) (opposed p (q ∷ left)) (λ x. rw (eq-eqb q p e)) ∙ w .is }
+
+  pub crossed-other : (q ≡ p → ⊥) → (o : ℕ) → o ≡ opp q → o < length marks → Crossed p row left first (set marks o true)
+  unfolding opposed
+  crossed-other d o e h =
+      record {
+        long = length-set marks o true ∙ w .long;
+        is = ap (λ n. join n (opposed p left)) (join-one marks o h) ∙ join-join marks (eqb o) (opposed p left)
+            ∙ join-same marks (λ x. eqb o x || opposed p left x) (opposed p (q ∷ left)) (λ x. rw (ne-eqb q p d, e)) ∙ w .is;
+      }
+
+pub crossed-all : {p : ℕ} {row : List ℕ} {first marks : List Bool} → Crossed p row [] first marks → marks ≡ join first (opposed p row)
+unfolding opposed
+crossed-all {p} {marks} w = join-never marks (opposed p []) (λ x. refl) ∙ w .is
 
 -- ---- where a literal leads
 
@@ -97,13 +106,21 @@ pub leads-by : (used : ℕ) (table : List ℤ) (ranks : List ℕ) (p r : ℕ) �
 unfolding leads
 leads-by used table ranks p r e h = ap (opposed p) (sym (rows-at used table r h) ∙ ap (λ i. getD (rowsIn used table) i []) e)
 
--- ranks fall on the way
-pub leads-down : (rows : List (List ℕ)) (ranks : List ℕ) (p x : ℕ) → length rows ≤ none → leads rows ranks p x ≡ true → getD ranks x 0 < getD ranks p 0
+-- to the opposite of another literal of its support
+pub leads-found : (rows : List (List ℕ)) (ranks : List ℕ) (p x : ℕ) → leads rows ranks p x ≡ true
+    → (q : ℕ) × In q (getD rows (supportFrom rows ranks p) []) × (q ≢ p) × (opp q ≡ x)
 unfolding leads opposed
-leads-down rows ranks p x few e =
+leads-found rows ranks p x e =
     let f = any-found (λ q. not (eqb q p) && eqb (opp q) x) (getD rows (supportFrom rows ranks p) []) e in
-    let t = both-true (not (eqb (f .0) p)) (eqb (opp (f .0)) x) (f .2) in
-    rw (← eqb-true (opp (f .0)) x (t .1)) (down (f .0) (f .1) (eqb-false (f .0) p (not-true (eqb (f .0) p) (t .0))))
+    let q = f .0 in
+    let t = both-true (not (eqb q p)) (eqb (opp q) x) (f .2) in
+    (q, f .1, eqb-false q p (not-true (eqb q p) (t .0)), eqb-true (opp q) x (t .1))
+
+-- ranks fall on the way
+leads-down : (rows : List (List ℕ)) (ranks : List ℕ) (p x : ℕ) → length rows ≤ none → leads rows ranks p x ≡ true → getD ranks x 0 < getD ranks p 0
+leads-down rows ranks p x few e =
+    let f = leads-found rows ranks p x e in
+    rw (← f .3) (down (f .0) (f .1) (f .2))
   where
     rank : ℕ
     rank = getD ranks p 0
@@ -114,7 +131,7 @@ leads-down rows ranks p x few e =
     known : (q : ℕ) → has (below rank ranks) (opp q) ≡ true → getD ranks (opp q) 0 < rank
     known q h =
         let inside : opp q < length ranks = rw (length-below rank ranks) at (has-below (below rank ranks) (opp q) h) in
-        ltb-true (getD ranks (opp q) 0) rank (sym (getD-below rank ranks (opp q) inside) ∙ h)
+        ltb-true (getD ranks (opp q) 0) rank (sym (below-rank rank ranks (opp q) inside) ∙ h)
 
     found : (q : ℕ) → In q (getD rows (supportFrom rows ranks p) []) → (q ≡ p → ⊥) → firstGiver (below rank ranks) rows p ≡ supportFrom rows ranks p
         → getD ranks (opp q) 0 < rank
@@ -141,10 +158,6 @@ module _ (rows : List (List ℕ)) (ranks : List ℕ) (k : ℕ) (m : List Bool) w
   abbrev step : ℕ → ℕ → Bool
   step x p = has m p && eqb (getD ranks p 0) k && leads rows ranks p x
 
-  pub expanded-none : m ≡ expandedTo rows ranks k m 0
-  unfolding expandedTo
-  expanded-none = join-never m _ (λ x. refl)
-
   -- a literal of rank k is marked before as it is after: only lower ones are added
   unchanged : (n p : ℕ) → length rows ≤ none → p < length m → getD ranks p 0 ≡ k → has (expandedTo rows ranks k m n) p ≡ has m p
   unfolding expandedTo
@@ -158,64 +171,47 @@ module _ (rows : List (List ℕ)) (ranks : List ℕ) (k : ℕ) (m : List Bool) w
           let c = leads-down rows ranks (f .0) p few (a .1) in
           omega arith
 
-  module _ (p : ℕ) where
-    abbrev so-far : ℕ → Bool
-    so-far x = any (step x) (from 0 p)
+  abbrev so-far : ℕ → ℕ → Bool
+  so-far p x = any (step x) (from 0 p)
 
-    one-more : (x : ℕ) → any (step x) (from 0 (p + 1)) ≡ so-far x || step x p
-    one-more x = rw add-one (any-snoc (step x) 0 p ∙ rw zero-add)
+  one-more : (p x : ℕ) → any (step x) (from 0 (p + 1)) ≡ so-far p x || step x p
+  one-more p x = rw add-one (any-snoc (step x) 0 p ∙ rw zero-add)
 
-    -- a place is expanded, or it has another rank or no mark
-    pub expanded-yes : length rows ≤ none → p < length m → getD ranks p 0 ≡ k → has (expandedTo rows ranks k m p) p ≡ true
-        → join (expandedTo rows ranks k m p) (leads rows ranks p) ≡ expandedTo rows ranks k m (p + 1)
-    unfolding expandedTo
-    expanded-yes few h e y =
-        let marked : has m p ≡ true = sym (unfold expandedTo in unchanged p p few h e) ∙ y in
-        join-join m so-far (leads rows ranks p)
-        ∙ join-same m (λ x. so-far x || leads rows ranks p x) (λ x. any (step x) (from 0 (p + 1))) (λ x. sym (one-more x ∙ rw (marked, eq-eqb (getD ranks p 0) k e)))
+  not-more : (p : ℕ) → ((x : ℕ) → step x p ≡ false) → expandedTo rows ranks k m p ≡ expandedTo rows ranks k m (p + 1)
+  unfolding expandedTo
+  not-more p never =
+      join-same m (so-far p) (λ x. any (step x) (from 0 (p + 1))) (λ x. sym (one-more p x ∙ ap (λ t. so-far p x || t) (never x) ∙ or-false (so-far p x)))
 
-    expanded-no : ((x : ℕ) → step x p ≡ false) → expandedTo rows ranks k m p ≡ expandedTo rows ranks k m (p + 1)
-    unfolding expandedTo
-    expanded-no never = join-same m so-far (λ x. any (step x) (from 0 (p + 1))) (λ x. sym (one-more x ∙ ap (λ t. so-far x || t) (never x) ∙ or-false (so-far x)))
+-- the marks are the first ones with what those of rank k below p lead to
+pub record Expanded (rows : List (List ℕ)) (ranks : List ℕ) (k : ℕ) (first : List Bool) (p : ℕ) (marks : List Bool) : Type 0 where
+  pub long : length marks ≡ length first
+  pub is : marks ≡ expandedTo rows ranks k first p
 
-    pub expanded-other : (getD ranks p 0 ≡ k → ⊥) → expandedTo rows ranks k m p ≡ expandedTo rows ranks k m (p + 1)
-    expanded-other d = expanded-no (λ x. rw (ne-eqb (getD ranks p 0) k d, and-false (has m p)))
+module _ {rows : List (List ℕ)} {ranks : List ℕ} {k : ℕ} {m : List Bool} where
+  pub expanded-none : Expanded rows ranks k m 0 m
+  unfolding expandedTo
+  expanded-none = record { long = refl; is = join-never m _ (λ x. refl) }
 
-    pub expanded-unmarked : length rows ≤ none → p < length m → getD ranks p 0 ≡ k → has (expandedTo rows ranks k m p) p ≡ false
-        → expandedTo rows ranks k m p ≡ expandedTo rows ranks k m (p + 1)
-    expanded-unmarked few h e y = expanded-no (λ x. rw (sym (unchanged p p few h e) ∙ y))
+  module _ {p : ℕ} {n : List Bool} (w : Expanded rows ranks k m p n) where
+    -- place p has another rank,
+    pub expanded-other : (getD ranks p 0 ≡ k → ⊥) → Expanded rows ranks k m (p + 1) n
+    expanded-other d = record { long = w .long; is = w .is ∙ not-more rows ranks k m p (λ x. rw (ne-eqb (getD ranks p 0) k d, and-false (has m p))) }
 
--- ---- keeping the held premises, place by place
+    module _ (few : length rows ≤ none) (inside : p < length m) (e : getD ranks p 0 ≡ k) where
+      before : has m p ≡ has n p
+      before = sym (unchanged rows ranks k m p p few inside e) ∙ sym (ap (λ l. has l p) (w .is))
 
-module _ (held m : List Bool) where
-  -- of the places below p only the held premises are kept
-  pub record Kept (p : ℕ) (n : List Bool) : Type 0 where
-    pub same-length : length n ≡ length m
-    pub passed : (i : ℕ) → i < p → has n i ≡ has m i && has held i
-    pub ahead : (i : ℕ) → p ≤ i → has n i ≡ has m i
+      -- or no mark,
+      pub expanded-unmarked : has n p ≡ false → Expanded rows ranks k m (p + 1) n
+      expanded-unmarked y = record { long = w .long; is = w .is ∙ not-more rows ranks k m p (λ x. rw (before ∙ y)) }
 
-  pub kept-none : Kept 0 m
-  kept-none = record { same-length = refl; passed = below-none _; ahead = λ i h. refl }
-
-  module _ {p : ℕ} {n : List Bool} (w : Kept p n) where
-    pub kept-held : has held p ≡ true → Kept (p + 1) n
-    kept-held e =
-        record {
-          same-length = w .same-length;
-          passed = below-more (λ i. has n i ≡ has m i && has held i) p (w .passed) (w .ahead p (omega arith) ∙ sym (ap (λ t. has m p && t) e ∙ and-true (has m p)));
-          ahead = λ i h. w .ahead i (omega arith);
-        }
-
-    pub kept-not : p < length n → has held p ≡ false → Kept (p + 1) (set n p false)
-    kept-not h e =
-        record {
-          same-length = length-set n p false ∙ w .same-length;
-          passed = below-more (λ i. has (set n p false) i ≡ has m i && has held i) p
-              (λ i b. getD-set-other n p i false false (λ d. omega (arith, d)) ∙ w .passed i b)
-              (getD-set-same n p false false h ∙ sym (ap (λ t. has m p && t) e ∙ and-false (has m p)));
-          ahead = λ i b. getD-set-other n p i false false (λ d. omega (arith, d)) ∙ w .ahead i (omega arith);
-        }
-
-  pub kept-all : (p : ℕ) (n : List Bool) → length m ≤ p → Kept p n → n ≡ heldOnly held m
-  unfolding heldOnly
-  kept-all p n l w = tabulate-ext false (length m) _ n (w .same-length) (λ i h. w .passed i (omega arith))
+      -- or it is expanded
+      pub expanded-yes : has n p ≡ true → Expanded rows ranks k m (p + 1) (join n (leads rows ranks p))
+      unfolding expandedTo
+      expanded-yes y =
+          let old = so-far rows ranks k m p in
+          record {
+            long = length-join n (leads rows ranks p) ∙ w .long;
+            is = ap (λ l. join l (leads rows ranks p)) (w .is) ∙ join-join m old (leads rows ranks p)
+                ∙ join-same m (λ x. old x || leads rows ranks p x) _ (λ x. sym (one-more rows ranks k m p x ∙ rw (before ∙ y, eq-eqb (getD ranks p 0) k e)));
+          }

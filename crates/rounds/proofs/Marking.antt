@@ -1,6 +1,7 @@
 -- Laws of writing ranks: `mark`, `below` and `Told`.
 use Prim.Native.Nat.{ℕ, zero, suc, _<_}
 use mathlib.Core.Path.{_≡_, refl, sym, ap, _∙_}
+use mathlib.Core.Logic.{_⊎_, inl, inr}
 use mathlib.Core.Bool.{Bool, true, false, cond, _&&_, _||_, true≢false, false≢true, and-false, or-false, or-assoc}
 use mathlib.Core.List.{List, [], _∷_}
 use native.Mathlib.Nat.{le-of-suc-le-suc, not-suc-le-zero}
@@ -9,21 +10,30 @@ use lib.ListN.{length, getD, set, length-set, length-map}
 use lib.Seq.{ext-getD, getD-set-same, getD-set-other}
 use lib.Dec.{ltb, eqb}
 use borrow.Author.Tests.{le-ltb, eq-eqb, ne-eqb, eqb-true, eqb-false}
-use Rattle.meaning.specs.Tests.{member, none}
-use Rattle.meaning.proofs.Tables.{length-tabulate, getD-tabulate, tabulate-ext}
+use Rattle.meaning.specs.Tests.{member, none, tabulate}
+use Rattle.meaning.specs.Literals.{has}
+use Rattle.meaning.proofs.Tests.{clash}
+use Rattle.meaning.proofs.Tables.{length-tabulate, getD-tabulate, tabulate-ext, map-tabulate}
 use Rattle.rounds.specs.Ranks.{below, mark, Told}
 
 -- ---- the places whose rank is below k
 
-pub getD-below : (k : ℕ) (ranks : List ℕ) (p : ℕ) → p < length ranks → getD (below k ranks) p false ≡ ltb (getD ranks p 0) k
+-- a place is among them exactly if its rank is below k
+pub below-rank : (k : ℕ) (ranks : List ℕ) (p : ℕ) → p < length ranks → has (below k ranks) p ≡ ltb (getD ranks p 0) k
 unfolding below
-getD-below k [] p h = absurd (not-suc-le-zero h)
-getD-below k (r ∷ ranks) zero h = refl
-getD-below k (r ∷ ranks) (suc p) h = getD-below k ranks p (le-of-suc-le-suc h)
+below-rank k [] p h = absurd (not-suc-le-zero h)
+below-rank k (r ∷ ranks) zero h = refl
+below-rank k (r ∷ ranks) (suc p) h = below-rank k ranks p (le-of-suc-le-suc h)
 
 pub length-below : (k : ℕ) (ranks : List ℕ) → length (below k ranks) ≡ length ranks
 unfolding below
 length-below k ranks = length-map ranks (λ r. ltb r k)
+
+-- the places whose number passes are known from their numbers
+pub below-tabulate : (k places : ℕ) (f : ℕ → ℕ) (known : List Bool) → length known ≡ places → ((p : ℕ) → p < places → ltb (f p) k ≡ has known p)
+    → below k (tabulate places f) ≡ known
+unfolding below
+below-tabulate k places f known long h = map-tabulate (λ r. ltb r k) places f ∙ sym (tabulate-ext false places _ known long (λ p b. sym (h p b)))
 
 -- a place of a list is the same whatever stands past its end
 pub any-default : (l : List ℕ) (p d e : ℕ) → p < length l → getD l p d ≡ getD l p e
@@ -37,7 +47,7 @@ any-default (r ∷ l) (suc p) d e h = any-default l p d e (le-of-suc-le-suc h)
 abbrev put : ℕ → ℕ → Bool → ℕ
 put k r t = cond (eqb r none && t) k r
 
-pub length-mark : (k : ℕ) (f : ℕ → Bool) (l : List ℕ) → length (mark k f l) ≡ length l
+length-mark : (k : ℕ) (f : ℕ → Bool) (l : List ℕ) → length (mark k f l) ≡ length l
 unfolding mark
 length-mark k f l = length-tabulate (length l) _
 
@@ -59,7 +69,7 @@ put-put k r s t small = go (eqb r none) s t refl
     go false s t e = rw e
 
 -- two writings are one
-pub mark-mark : (k : ℕ) (f g : ℕ → Bool) (l : List ℕ) → k < none → mark k g (mark k f l) ≡ mark k (λ p. f p || g p) l
+mark-mark : (k : ℕ) (f g : ℕ → Bool) (l : List ℕ) → k < none → mark k g (mark k f l) ≡ mark k (λ p. f p || g p) l
 mark-mark k f g l small =
     mark-ext k (λ p. f p || g p) l (mark k g (mark k f l)) (length-mark k g (mark k f l) ∙ length-mark k f l)
     (λ p h. getD-mark k g (mark k f l) p (rw length-mark h) ∙ ap (λ r. put k r (g p)) (getD-mark k f l p h) ∙ put-put k (getD l p 0) (f p) (g p) small)
@@ -85,7 +95,7 @@ ltb-put k r t small = go (eqb r none) t refl
     go false t e = refl
 
 -- writing k changes nothing about which ranks are below k
-pub below-mark : (k : ℕ) (f : ℕ → Bool) (l : List ℕ) → k < none → below k (mark k f l) ≡ below k l
+below-mark : (k : ℕ) (f : ℕ → Bool) (l : List ℕ) → k < none → below k (mark k f l) ≡ below k l
 below-mark k f l small =
     ext-getD false (below k (mark k f l)) (below k l) (length-below k (mark k f l) ∙ length-mark k f l ∙ sym (length-below k l)) same
   where
@@ -93,7 +103,7 @@ below-mark k f l small =
     same p h =
         let i : p < length (mark k f l) = rw (length-below k (mark k f l)) at h in
         let b : p < length l = rw (length-mark k f l) at i in
-        getD-below k (mark k f l) p i ∙ ap (λ r. ltb r k) (getD-mark k f l p b) ∙ ltb-put k (getD l p 0) (f p) small ∙ sym (getD-below k l p b)
+        below-rank k (mark k f l) p i ∙ ap (λ r. ltb r k) (getD-mark k f l p b) ∙ ltb-put k (getD l p 0) (f p) small ∙ sym (below-rank k l p b)
 
 -- a place that was written is not taken back
 put-kept : (k r : ℕ) (s t : Bool) → k < none → put k (put k r s) t ≡ r → put k r s ≡ r
@@ -148,6 +158,10 @@ told-set l q k h small e =
       other = λ _ s. (let w : k ≡ none = sym (getD-set-same l q k 0 h) ∙ ap (λ m. getD m q 0) s ∙ e in omega arith);
     }
 
+-- an answer r added to those before it
+abbrev pub Adds : (r added now : Bool) → Type 0
+Adds r added now = ((r ≡ true) × (now ≡ true)) ⊎ ((r ≡ false) × (now ≡ added))
+
 -- the ranks m come from l by marking what passes a test, as the answer told
 pub record Marked (k : ℕ) (test : ℕ → Bool) (l m : List ℕ) (added : Bool) : Type 0 where
   pub is : m ≡ mark k test l
@@ -161,25 +175,24 @@ module _ {k : ℕ} (small : k < none) {l : List ℕ} where
   pub marked-below : {f : ℕ → Bool} {m : List ℕ} {added : Bool} → Marked k f l m added → below k m ≡ below k l
   marked-below w = ap (below k) (w .is) ∙ below-mark k _ l small
 
-  module _ {f : ℕ → Bool} (g h : ℕ → Bool) (both : (p : ℕ) → (f p || g p) ≡ h p) {m n : List ℕ} {added : Bool} (w : Marked k f l m added) (e : n ≡ mark k g m) where
+  module _ {f : ℕ → Bool} (g h : ℕ → Bool) (both : (p : ℕ) → (f p || g p) ≡ h p)
+      {m n : List ℕ} {added : Bool} (w : Marked k f l m added) (e : n ≡ mark k g m) where
     whole : n ≡ mark k h l
     whole = e ∙ ap (mark k g) (w .is) ∙ mark-mark k f g l small ∙ mark-same k _ h l both
 
     -- one writing more: something was written, or nothing was
-    pub marked-yes : {r : Bool} → Told r m n → r ≡ true → Marked k h l n true
-    marked-yes t y =
+    pub marked-more : {r now : Bool} → Told r m n → Adds r added now → Marked k h l n now
+    marked-more t (inl y) =
         record {
           is = whole;
           told = record {
-            same = λ no. absurd (true≢false no);
+            same = λ no. clash (y .1) no;
             other = λ _ s.
                 (let back : mark k g (mark k f l) ≡ l = ap (mark k g) (sym (w .is)) ∙ sym e ∙ s in
-                t .other y (s ∙ sym (mark-kept k f g l small back) ∙ sym (w .is)));
+                t .other (y .0) (s ∙ sym (mark-kept k f g l small back) ∙ sym (w .is)));
           };
         }
-
-    pub marked-no : {r : Bool} → Told r m n → r ≡ false → Marked k h l n added
-    marked-no t y = record { is = whole; told = rw (t .same y) (w .told) }
+    marked-more t (inr y) = record { is = whole; told = rw (y .1, t .same (y .0)) (w .told) }
 
 -- ---- a row's literals, one by one
 
@@ -194,19 +207,14 @@ module _ {k : ℕ} (small : k < none) {row l : List ℕ} where
   passed-none = record { test = λ _. false; split = λ p. refl; marked = marked-none small (λ _. false) (λ p. refl) }
 
   module _ {q : ℕ} {left m n : List ℕ} {added : Bool} (w : Passed k row (q ∷ left) l m added) (e : n ≡ mark k (eqb q) m) where
-    more : {now : Bool} → Marked k (λ p. w .test p || eqb q p) l n now → Passed k row left l n now
-    more t = record { test = λ p. w .test p || eqb q p; split = λ p. or-assoc (w .test p) (eqb q p) (member p left) ∙ w .split p; marked = t }
+    -- one literal more
+    pub passed-more : {r now : Bool} → Told r m n → Adds r added now → Passed k row left l n now
+    passed-more t y =
+        record {
+          test = λ p. w .test p || eqb q p;
+          split = λ p. or-assoc (w .test p) (eqb q p) (member p left) ∙ w .split p;
+          marked = marked-more small (eqb q) _ (λ p. refl) (w .marked) e t y;
+        }
 
-    -- one literal more: it was marked, or it had a rank
-    pub passed-yes : {r : Bool} → Told r m n → r ≡ true → Passed k row left l n true
-    passed-yes t y = more (marked-yes small (eqb q) _ (λ p. refl) (w .marked) e t y)
-
-    pub passed-no : {r : Bool} → Told r m n → r ≡ false → Passed k row left l n added
-    passed-no t y = more (marked-no small (eqb q) _ (λ p. refl) (w .marked) e t y)
-
-  pub passed-all : {m : List ℕ} {added : Bool} → Passed k row [] l m added → Marked k (λ p. member p row) l m added
-  passed-all w =
-      record {
-        is = w .marked .is ∙ mark-same k (w .test) (λ p. member p row) l (λ p. sym (or-false (w .test p)) ∙ w .split p);
-        told = w .marked .told;
-      }
+  pub passed-all : {m : List ℕ} {added : Bool} → Passed k row [] l m added → (m ≡ mark k (λ p. member p row) l) × Told added l m
+  passed-all w = (w .marked .is ∙ mark-same k (w .test) (λ p. member p row) l (λ p. sym (or-false (w .test p)) ∙ w .split p), w .marked .told)

@@ -96,10 +96,6 @@ module _ (known : List Bool) where
 
 -- ---- how a scan finds them
 
--- the open literals of a row, from one that was found among those passed and those that are left
-pub found-or : Bool → ℕ → Open → Open
-found-or found one o = cond found (openAfter one o) o
-
 again : (q : ℕ) (o : Open) → openAfter q (openAfter q o) ≡ openAfter q o
 again q Nothing = rw (eq-eqb q q refl)
 again q (One r) = go (eqb q r)
@@ -118,32 +114,38 @@ two p q (One r) d = go (eqb q r)
     go false = refl
 two p q More d = refl
 
-module _ (known : List Bool) (q : ℕ) (row : List ℕ) (found : Bool) (one : ℕ) where
-  pub scan-known : has known (opp q) ≡ true → found-or found one (openIn known (q ∷ row)) ≡ found-or found one (openIn known row)
-  unfolding openIn
-  scan-known h = rw h
+-- the open literals of the row are those of what is left of it, with the one that was found
+pub record Found (known : List Bool) (row left : List ℕ) (found : Bool) (one : ℕ) : Type 0 where
+  is : openIn known row ≡ cond found (openAfter one (openIn known left)) (openIn known left)
 
-  pub scan-two : has known (opp q) ≡ false → found ≡ true → one ≢ q → found-or found one (openIn known (q ∷ row)) ≡ More
-  unfolding openIn found-or
-  scan-two h f d = rw (h, f) (two one q (openIn known row) d)
+pub found-none : {known : List Bool} {row : List ℕ} {one : ℕ} → Found known row row false one
+found-none = record { is = refl }
+
+module _ {known : List Bool} {row left : List ℕ} {q : ℕ} {found : Bool} {one : ℕ} (w : Found known row (q ∷ left) found one) where
+  pub found-known : has known (opp q) ≡ true → Found known row left found one
+  unfolding openIn
+  found-known h = record { is = rw h at (w .is) }
 
   -- a first open literal, or the one that was found again
-  pub scan-one : has known (opp q) ≡ false → (found ≡ false) ⊎ (one ≡ q) → found-or found one (openIn known (q ∷ row)) ≡ found-or true q (openIn known row)
-  unfolding openIn found-or
-  scan-one h f = rw h (go found f)
+  pub found-one : has known (opp q) ≡ false → (found ≡ false) ⊎ (one ≡ q) → Found known row left true q
+  unfolding openIn
+  found-one h f = record { is = (rw h at (w .is)) ∙ go found f }
     where
-      go : (t : Bool) → (t ≡ false) ⊎ (one ≡ q) → cond t (openAfter one (openAfter q (openIn known row))) (openAfter q (openIn known row)) ≡ openAfter q (openIn known row)
+      go : (t : Bool) → (t ≡ false) ⊎ (one ≡ q) → cond t (openAfter one (openAfter q (openIn known left))) (openAfter q (openIn known left)) ≡ openAfter q (openIn known left)
       go false f = refl
       go true (inl f) = clash refl f
-      go true (inr f) = rw f (again q (openIn known row))
+      go true (inr f) = rw f (again q (openIn known left))
 
--- nothing was found yet
-pub scan-start : (known : List Bool) (row : List ℕ) (one : ℕ) → openIn known row ≡ found-or false one (openIn known row)
-unfolding found-or
-scan-start known row one = refl
+  pub found-two : has known (opp q) ≡ false → found ≡ true → one ≢ q → More ≡ openIn known row
+  unfolding openIn
+  found-two h f d = sym ((rw (h, f) at (w .is)) ∙ two one q (openIn known left) d)
 
 -- nothing is left
-pub scan-end : (known : List Bool) (found : Bool) (one : ℕ) → found-or found one (openIn known []) ≡ cond found (One one) Nothing
-unfolding openIn found-or
-scan-end known true one = refl
-scan-end known false one = refl
+module _ {known : List Bool} {row : List ℕ} {found : Bool} {one : ℕ} (w : Found known row [] found one) where
+  pub found-some : found ≡ true → One one ≡ openIn known row
+  unfolding openIn
+  found-some f = sym (rw f at (w .is))
+
+  pub found-nothing : found ≡ false → Nothing ≡ openIn known row
+  unfolding openIn
+  found-nothing f = sym (rw f at (w .is))

@@ -11,21 +11,14 @@ use lib.ListN.{length, getD}
 use lib.Seq.{ext-getD}
 use borrow.Author.Tests.{lt-ltb, le-ltb}
 use Rattle.meaning.specs.Tests.{tabulate, none}
-use Rattle.meaning.specs.Literals.{has}
 use Rattle.meaning.specs.Rounds.{gives, byRows, after, rankBy, rankOf, ranksOf}
 use Rattle.meaning.proofs.Tests.{any-append}
-use Rattle.meaning.proofs.Tables.{length-tabulate, getD-tabulate, tabulate-ext, tabulate-same, map-tabulate}
+use Rattle.meaning.proofs.Tables.{length-tabulate, getD-tabulate, tabulate-same}
 use Rattle.meaning.proofs.Rounds.{reached-length, adds-early}
 use Rattle.meaning.proofs.Ranks.{after-start, rankBy-is, rankBy-below, rankBy-next, rankBy-final, rank-below}
 use Rattle.rounds.specs.Ranks.{below, mark, ranksAfter, startRanks, ranksBy, Told}
-use Rattle.rounds.proofs.Marking.{Marked, marked-none, marked-yes, marked-no, marked-below}
-
--- a place is among those below a bound exactly if its rank is
-pub below-rank : (n : ℕ) (ranks : List ℕ) (p : ℕ) → p < length ranks → has (below n ranks) p ≡ ltb (getD ranks p 0) n
-unfolding below
-below-rank n [] p h = absurd (omega arith)
-below-rank n (r ∷ ranks) zero h = refl
-below-rank n (r ∷ ranks) (suc p) h = below-rank n ranks p (omega arith)
+pub use Rattle.rounds.proofs.Marking.{below-rank}
+use Rattle.rounds.proofs.Marking.{Adds, Marked, marked-none, marked-more, marked-below, below-tabulate}
 
 -- ---- a round, row by row
 
@@ -49,12 +42,9 @@ module _ {k : ℕ} (small : k < none) {l : List ℕ} where
         rw (marked-below small (w .marked))
         (ap (λ t. byRows rows (below k l) p || t) (sym (or-false (gives (below k l) row p))) ∙ sym (any-append (λ x. gives (below k l) x p) rows (row ∷ [])))
 
-    -- one row more: something was marked, or nothing was
-    pub rounded-yes : {r : Bool} → Told r m n → r ≡ true → Rounded k (rows ++ row ∷ []) l n true
-    rounded-yes t y = record { marked = marked-yes small Now All both (w .marked) e t y }
-
-    pub rounded-no : {r : Bool} → Told r m n → r ≡ false → Rounded k (rows ++ row ∷ []) l n added
-    rounded-no t y = record { marked = marked-no small Now All both (w .marked) e t y }
+    -- one row more
+    pub rounded-more : {r now : Bool} → Told r m n → Adds r added now → Rounded k (rows ++ row ∷ []) l n now
+    rounded-more t y = record { marked = marked-more small Now All both (w .marked) e t y }
 
 pub rounded-all : {k : ℕ} {rows : List (List ℕ)} {l m : List ℕ} {added : Bool} → Rounded k rows l m added → (m ≡ ranksAfter k rows l) × Told added l m
 unfolding ranksAfter
@@ -68,10 +58,8 @@ module _ (places : ℕ) (rows : List (List ℕ)) (held : List Bool) where
   getD-ranksBy k p h = getD-tabulate places _ p 0 h
 
   below-ranksBy : (k : ℕ) → suc k ≤ none → below (suc k) (ranksBy places rows held k) ≡ after places rows held k
-  unfolding below ranksBy
-  below-ranksBy k small =
-      map-tabulate (λ r. ltb r (suc k)) places _
-      ∙ sym (tabulate-ext false places _ (after places rows held k) (reached-length places (byRows rows) held k) (λ i h. sym (rankBy-below places rows held k i small)))
+  unfolding ranksBy
+  below-ranksBy k small = below-tabulate (suc k) places _ _ (reached-length places (byRows rows) held k) (λ p h. rankBy-below places rows held k p small)
 
   -- one round more of ranks
   ranksAfter-is : (k : ℕ) → suc (suc k) ≤ none → ranksAfter (suc k) rows (ranksBy places rows held k) ≡ ranksBy places rows held (suc k)
@@ -120,22 +108,29 @@ module _ (places : ℕ) (rows : List (List ℕ)) (held : List Bool) where
   unfolding ranksBy rankBy startRanks
   startRanks-is = tabulate-same 0 places places _ _ refl (λ p h. rw (after-start places rows held p h))
 
-  -- ---- a round from the ranks l to the ranks m, as the answer told
+  -- ---- a round, k + 1, from the ranks l to the ranks m
 
-  module _ (k : ℕ) (l m : List ℕ) (small : suc (suc k) ≤ none) (before : l ≡ ranksBy places rows held k) (step : m ≡ ranksAfter (k + 1) rows l) where
+  pub record Turn (k : ℕ) (l m : List ℕ) : Type 0 where
+    pub small : suc (suc k) ≤ none
+    pub before : l ≡ ranksBy places rows held k
+    pub step : m ≡ ranksAfter (k + 1) rows l
+
+  module _ {k : ℕ} {l m : List ℕ} (t : Turn k l m) where
+    open Turn t using (small, before, step)
+
     pub round-ranks : m ≡ ranksBy places rows held (k + 1)
     round-ranks = step ∙ ap (ranksAfter (k + 1) rows) before ∙ rw (add-one k) (ranksAfter-is k small)
 
     -- a round that adds something is an early one,
     pub round-early : Told true l m → k < places
-    round-early t =
-        adds-early places (byRows rows) held k (λ e. t .other refl (round-ranks ∙ rw (add-one k) (stay-ranks k small e) ∙ sym before))
+    round-early told =
+        adds-early places (byRows rows) held k (λ e. told .other refl (round-ranks ∙ rw (add-one k) (stay-ranks k small e) ∙ sym before))
 
     -- and after one that adds nothing the ranks are the final ones
     pub round-last : k ≤ places → places < none → Told false l m → m ≡ ranksOf places rows held
-    round-last early few t =
-        let still : ranksBy places rows held (suc k) ≡ ranksBy places rows held k = rw (← add-one k) (sym round-ranks ∙ t .same refl ∙ before) in
-        t .same refl ∙ before ∙ ranks-final k early few (ranks-stay k small still)
+    round-last early few told =
+        let still : ranksBy places rows held (suc k) ≡ ranksBy places rows held k = rw (← add-one k) (sym round-ranks ∙ told .same refl ∙ before) in
+        told .same refl ∙ before ∙ ranks-final k early few (ranks-stay k small still)
 
   -- ---- the ranks themselves
 
@@ -148,7 +143,5 @@ module _ (places : ℕ) (rows : List (List ℕ)) (held : List Bool) where
   getD-ranksOf p h = getD-tabulate places _ p 0 h
 
   pub below-ranksOf : places < none → (k : ℕ) → k ≤ places → below (suc k) (ranksOf places rows held) ≡ after places rows held k
-  unfolding below ranksOf
-  below-ranksOf small k l =
-      map-tabulate (λ r. ltb r (suc k)) places _
-      ∙ sym (tabulate-ext false places _ (after places rows held k) (reached-length places (byRows rows) held k) (λ p h. sym (rank-below places rows held small k p l)))
+  unfolding ranksOf
+  below-ranksOf small k l = below-tabulate (suc k) places _ _ (reached-length places (byRows rows) held k) (λ p h. rank-below places rows held small k p l)

@@ -1,6 +1,6 @@
 -- Expanding the marked literals from the largest rank down to 1 leaves the premises that they reach.
 use Prim.Native.Nat.{ℕ, suc, _+_, _≤_, _<_}
-use mathlib.Core.Path.{_≡_, refl, sym, ap, subst, _∙_}
+use mathlib.Core.Path.{_≡_, refl, sym, ap, _∙_}
 use mathlib.Core.Logic.{_≢_, ⊎-elim}
 use mathlib.Core.Bool.{Bool, true, false, not, _&&_, _||_}
 use mathlib.Core.List.{List, [], List·Memᴰ as In}
@@ -21,7 +21,7 @@ use Rattle.rounds.specs.Ranks.{supportFrom, reachedFrom}
 use Rattle.rounds.specs.Reach.{opposed, leads, expandedTo, expanded, heldOnly}
 use Rattle.rounds.proofs.RankTables.{getD-ranksOf, length-ranksOf}
 use Rattle.rounds.proofs.Final.{supportFrom-is}
-use Rattle.rounds.proofs.Joining.{has-join}
+use Rattle.rounds.proofs.Joining.{has-join, leads-found}
 
 module _ (places : ℕ) (rows : List (List ℕ)) (held : List Bool) where
   -- a marked literal of a rank below b reaches h
@@ -41,9 +41,20 @@ module _ (places : ℕ) (rows : List (List ℕ)) (held : List Bool) where
     to : (h : ℕ) → some first h ≡ true → Low b now h
     back : (h : ℕ) → Low b now h → some first h ≡ true
 
-module _ (places : ℕ) (rows : List (List ℕ)) (held : List Bool) (small : places < none) (few : length rows ≤ none) (ranks : List ℕ) (is : ranks ≡ ranksOf places rows held) where
+-- the ranks are those of the literals
+pub record Ranked (places : ℕ) (rows : List (List ℕ)) (held : List Bool) (ranks : List ℕ) : Type 0 where
+  pub small : places < none
+  pub few : length rows ≤ none
+  pub is : ranks ≡ ranksOf places rows held
+
+module _ {places : ℕ} {rows : List (List ℕ)} {held : List Bool} {ranks : List ℕ} (final : Ranked places rows held ranks) where
+  open Ranked final using (small, few, is)
+
   rank-at : (p : ℕ) → p < places → getD ranks p 0 ≡ rankOf places rows held p
   rank-at p h = rw is (getD-ranksOf places rows held p h)
+
+  length-ranks : length ranks ≡ places
+  length-ranks = rw is (length-ranksOf places rows held)
 
   low-some : (b : ℕ) (m : List Bool) (h : ℕ) → Low places rows held b m h → some places rows held m h ≡ true
   low-some b m h w =
@@ -72,9 +83,9 @@ module _ (places : ℕ) (rows : List (List ℕ)) (held : List Bool) (small : pla
           let i : q < places = omega arith in
           let w = both-true (has m q) (reaches places rows held q h) (f .2) in
           let r = rank-at q i in
-          let long : length ranks ≡ places = rw is (length-ranksOf places rows held) in
           let low : rankOf places rows held q ≤ k =
-          ⊎-elim (λ x. (let y = most q (omega arith) (w .0) (omega (arith, x .0)) in omega arith)) (λ x. clash (w .1) (reach-none q h i (x .0))) (rankOf-is places rows held q small) in
+          ⊎-elim (λ x. (let y = most q (omega (arith, length-ranks)) (w .0) (omega (arith, x .0)) in omega arith))
+          (λ x. clash (w .1) (reach-none q h i (x .0))) (rankOf-is places rows held q small) in
           record { from-literal = q; inside = i; marked = w .0; ranked = omega arith; reached = w .1 }
 
   -- ---- one rank
@@ -90,9 +101,6 @@ module _ (places : ℕ) (rows : List (List ℕ)) (held : List Bool) (small : pla
     unfolding expandedTo
     marked-next x h = has-join m _ x (omega arith)
 
-    length-ranks : length ranks ≡ places
-    length-ranks = rw is (length-ranksOf places rows held)
-
     -- the row that gave a literal its rank, by the table of ranks and by the definition
     same-row : (p : ℕ) → p < places → getD rows (supportFrom rows ranks p) [] ≡ getD rows (supportOf places rows held p) []
     same-row p h = rw is (ap (λ r. getD rows r []) (supportFrom-is places rows held small p h))
@@ -107,13 +115,7 @@ module _ (places : ℕ) (rows : List (List ℕ)) (held : List Bool) (small : pla
 
     leads-from : (p y : ℕ) → p < places → leads rows ranks p y ≡ true
         → (x : ℕ) × In x (getD rows (supportOf places rows held p) []) × (x ≢ p) × (opp x ≡ y)
-    unfolding leads opposed
-    leads-from p y h e =
-        let f = any-found (λ q. not (eqb q p) && eqb (opp q) y) (getD rows (supportFrom rows ranks p) []) e in
-        let x = f .0 in
-        let t = both-true (not (eqb x p)) (eqb (opp x) y) (f .2) in
-        let j : In x (getD rows (supportOf places rows held p) []) = subst (λ (r : List ℕ). In x r) (same-row p h) (f .1) in
-        (x, j, eqb-false x p (not-true (eqb x p) (t .0)), eqb-true (opp x) y (t .1))
+    leads-from p y h e = rw (same-row p h) at (leads-found rows ranks p y e)
 
     -- what a literal of rank k reaches, one that it leads to reaches,
     down : 0 < k → (h : ℕ) → Low places rows held (k + 1) m h → Low places rows held k next h

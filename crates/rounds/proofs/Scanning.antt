@@ -1,28 +1,29 @@
 -- Going through a row of a sound table number by number: what is left of the row.
 use Prim.Native.Nat.{ℕ, _+_, _*_, _≤_, _<_}
-use mathlib.Core.Path.{_≡_, refl, sym, ap, _∙_}
+use mathlib.Core.Path.{_≡_, refl, ap, _∙_}
 use mathlib.Core.Bool.{true, false}
 use mathlib.Core.List.{List, [], _∷_, List·Memᴰ as In}
 use native.Mathlib.Numerals.{add-one}
 use native.Mathlib.Omega.{arith}
 use lib.IntN.{ℤ, pos, natAbs}
+use lib.Dec.{ltb}
 use lib.ListN.{length, getD, take, drop, length-drop, drop-of-length-le}
 use lib.Seq.{drop-cons, getD-take, getD-drop, length-take-le}
 use mir.Syntax.{w16}
 use mir.Val.{SFits, ofZ}
 use mir.Facts.{toZ-ofZ}
 use Rattle.meaning.specs.Literals.{opp, has}
-use Rattle.meaning.specs.Tests.{from}
+use Rattle.meaning.specs.Tests.{from, none}
 use Rattle.meaning.proofs.Tests.{all-of, from-in}
 use Rattle.meaning.proofs.Literals.{opp-in}
 use Rattle.literals.specs.Literal.{placeOf}
-use Rattle.literals.specs.Row.{width, numbersAt, rowSound, rowsSound, decode}
+use Rattle.literals.specs.Row.{width, numbersAt, rowSound, rowsSound, decode, rowsIn}
 use Rattle.literals.proofs.Signed.{back, zero-bits, bits-zero}
 use Rattle.literals.proofs.Places.{place-bound}
-use Rattle.literals.proofs.Decoding.{decode-zero, decode-literal, sound-at, sound-in, sound-small}
+use Rattle.literals.proofs.Decoding.{length-rows, decode-zero, decode-literal, sound-at, sound-in, sound-small}
 use borrow.Author.Tests.{lt-ltb, le-ltb}
 use Rattle.rounds.specs.Ranks.{Fit, below}
-use Rattle.rounds.proofs.Marking.{getD-below}
+use Rattle.rounds.proofs.Marking.{below-rank}
 
 -- the rows up to one of a sound table's are sound
 pub fit-row : (places used : ℕ) (table : List ℤ) → Fit places used table → (r : ℕ) → r < used → Fit places (r + 1) table
@@ -40,6 +41,13 @@ fit-row places used table f r h =
       },
     )
 
+-- there are few places, and few rows
+pub few-places : {places used : ℕ} {table : List ℤ} → Fit places used table → places ≤ 400
+few-places f = omega (arith, f .1, f .2 .symbols)
+
+pub few-rows : {places used : ℕ} {table : List ℤ} → Fit places used table → length (rowsIn used table) ≤ none
+few-rows {used} {table} f = omega (arith, length-rows used table, f .2 .rows)
+
 -- the numbers of row r from the jth on
 rest : List ℤ → ℕ → ℕ → List ℤ
 rest table r j = drop j (numbersAt table r)
@@ -52,34 +60,42 @@ pub left-all : (table : List ℤ) (r : ℕ) → left table r 0 ≡ decode (numbe
 unfolding left rest
 left-all table r = refl
 
--- the scan stands at number j of row r
-pub record Here (places : ℕ) (table : List ℤ) (r j : ℕ) : Type 0 where
-  pub fit : Fit places (r + 1) table
-  pub inside : j < width
+-- the number there
+abbrev numberAt : List ℤ → ℕ → ℕ → ℤ
+numberAt table r j = getD table (width * r + j) (pos 0)
 
-module _ (places : ℕ) (table : List ℤ) (r : ℕ) (f : Fit places (r + 1) table) where
+module _ {places : ℕ} {table : List ℤ} (r : ℕ) (f : Fit places (r + 1) table) where
   length-numbers : length (numbersAt table r) ≡ width
   unfolding numbersAt
   length-numbers = length-take-le 8 (drop (8 * r) table) (simp length-drop (omega (arith, f .2 .room)))
-
-  rest-cons : (j : ℕ) → j < width → rest table r j ≡ getD table (width * r + j) (pos 0) ∷ rest table r (j + 1)
-  unfolding rest numbersAt
-  rest-cons j h =
-      let short : j < length (take 8 (drop (8 * r) table)) = unfold numbersAt in omega (arith, length-numbers) in
-      rw (add-one, drop-cons (take 8 (drop (8 * r) table)) j (pos 0), getD-take, getD-drop)
 
   -- past its eighth number a row has nothing left
   pub left-last : (j : ℕ) → width ≤ j → left table r j ≡ []
   unfolding left rest decode
   left-last j h = rw (drop-of-length-le (numbersAt table r) {i = j} (omega (arith, length-numbers)))
 
+-- the scan reads number j of row r, one of its eight
+pub record Here (places : ℕ) (table : List ℤ) (r j : ℕ) : Type 0 where
+  pub fit : Fit places (r + 1) table
+  pub inside : j < width
+  pub fits : SFits w16 (numberAt table r j)
+
+-- and it is a literal, whose place is q
+pub record Literal (places : ℕ) (table : List ℤ) (r j q : ℕ) : Type 0 where
+  pub first : left table r j ≡ q ∷ left table r (j + 1)
+  pub inside : q < places
+  pub opposite : opp q < places
+
 module _ {places : ℕ} {table : List ℤ} {r j : ℕ} (here : Here places table r j) where
-  -- the number there
   abbrev number : ℤ
-  number = getD table (width * r + j) (pos 0)
+  number = numberAt table r j
 
   cons : rest table r j ≡ number ∷ rest table r (j + 1)
-  cons = rest-cons places table r (here .fit) j (here .inside)
+  unfolding rest numbersAt
+  cons =
+      let inside : j < 8 = here .inside in
+      let short : j < length (take 8 (drop (8 * r) table)) = unfold numbersAt in omega (arith, length-numbers r (here .fit)) in
+      rw (add-one, drop-cons (take 8 (drop (8 * r) table)) j (pos 0), getD-take, getD-drop)
 
   small : natAbs number ≤ here .fit .0
   unfolding numbersAt
@@ -88,43 +104,42 @@ module _ {places : ℕ} {table : List ℤ} {r j : ℕ} (here : Here places table
       let inside : j < 8 = here .inside in
       rw (getD-take, getD-drop) at (sound-small (here .fit .0) (numbersAt table r) row-sound j)
 
-  module _ (fits : SFits w16 (getD table (width * r + j) (pos 0))) where
-    -- the row ends there,
-    pub left-end : ofZ w16 (getD table (width * r + j) (pos 0)) ≡ 0 → left table r j ≡ []
+  -- at a 0 the row ends,
+  pub left-end : ofZ w16 (numberAt table r j) ≡ 0 → left table r j ≡ []
+  unfolding left
+  left-end z = rw cons (decode-zero number (rest table r (j + 1)) (zero-bits {l = number} (here .fits) z))
+
+  -- and any other number is a literal
+  module _ (more : ofZ w16 (numberAt table r j) ≡ 0 → ⊥) where
+    some : 1 ≤ natAbs number
+    some = let no : natAbs number ≡ 0 → ⊥ = λ z. more (bits-zero number z) in omega arith
+
+    pub place-allowed : (1 ≤ natAbs (back (numberAt table r j))) × (natAbs (back (numberAt table r j)) ≤ 200)
+    place-allowed = rw (toZ-ofZ (here .fits)) (some, omega (arith, small, here .fit .2 .symbols))
+
+    pub literal : (q : ℕ) → q ≡ placeOf (back (numberAt table r j)) → Literal places table r j q
     unfolding left
-    left-end z = rw cons (decode-zero number (rest table r (j + 1)) (zero-bits {l = number} fits z))
-
-    -- or a literal stands there, whose place q is
-    module _ (more : ofZ w16 (getD table (width * r + j) (pos 0)) ≡ 0 → ⊥) where
-      literal : 1 ≤ natAbs number
-      literal = let no : natAbs number ≡ 0 → ⊥ = λ z. more (bits-zero number z) in omega arith
-
-      pub place-allowed : (1 ≤ natAbs (back (getD table (width * r + j) (pos 0)))) × (natAbs (back (getD table (width * r + j) (pos 0))) ≤ 200)
-      place-allowed = rw (toZ-ofZ fits) (literal, omega (arith, small, here .fit .2 .symbols))
-
-      module _ (q : ℕ) (is : q ≡ placeOf (back (getD table (width * r + j) (pos 0)))) where
-        pub left-cons : left table r j ≡ q ∷ left table r (j + 1)
-        unfolding left
-        left-cons =
-            rw cons (decode-literal number (rest table r (j + 1)) (omega (arith, literal)) ∙ ap (λ x. x ∷ decode (rest table r (j + 1))) (sym (is ∙ ap placeOf (toZ-ofZ fits))))
-
-        pub place-in : q < places
-        place-in =
-            rw (is, toZ-ofZ fits, here .fit .1) (place-bound (here .fit .0) number literal small)
-
-        -- its opposite is one of the places too
-        pub opposite-in : (o : ℕ) → o ≡ opp q → o < places
-        opposite-in o e = rw e (opp-in q places (omega (arith, here .fit .1)) place-in)
+    literal q is =
+        let same : q ≡ placeOf number = is ∙ ap placeOf (toZ-ofZ (here .fits)) in
+        let low : q < places = rw (same, here .fit .1) (place-bound (here .fit .0) number some small) in
+        record {
+          first = rw (cons, same) (decode-literal number (rest table r (j + 1)) (omega (arith, some)));
+          inside = low;
+          opposite = opp-in q places (omega (arith, here .fit .1)) low;
+        }
 
 -- a literal of a sound row is one of the places
 pub row-in : (places r : ℕ) (table : List ℤ) → Fit places (r + 1) table → {p : ℕ} → In p (decode (numbersAt table r)) → p < places
 row-in places r table f m =
     let b = sound-in (f .0) (numbersAt table r) (sound-at (f .0) (r + 1) table (f .2) r (omega arith)) m in omega (arith, f .1)
 
--- the opposite of q has a rank below k, or has not
-module _ (ranks : List ℕ) (k q o : ℕ) (is : o ≡ opp q) (inside : o < length ranks) where
+-- the opposite of the literal has a rank below k, or has not
+module _ (ranks : List ℕ) (k : ℕ) {table : List ℤ} {r j q : ℕ} (l : Literal (length ranks) table r j q) {o : ℕ} (is : o ≡ opp q) where
+  known : has (below k ranks) (opp q) ≡ ltb (getD ranks o 0) k
+  known = rw is (below-rank k ranks (opp q) (l .opposite))
+
   pub known-yes : getD ranks o 0 < k → has (below k ranks) (opp q) ≡ true
-  known-yes h = rw (← is) (getD-below k ranks o inside ∙ lt-ltb (getD ranks o 0) k h)
+  known-yes h = known ∙ lt-ltb (getD ranks o 0) k h
 
   pub known-no : k ≤ getD ranks o 0 → has (below k ranks) (opp q) ≡ false
-  known-no h = rw (← is) (getD-below k ranks o inside ∙ le-ltb (getD ranks o 0) k h)
+  known-no h = known ∙ le-ltb (getD ranks o 0) k h

@@ -102,9 +102,6 @@ counted r =
 
 -- ---- the needs
 
-clause-count-requires : tie.Need-clause-count-requires
-clause-count-requires c κs = search needs
-
 array-borrow-prefix-clauses : tie.Need-array-borrow-prefix-clauses
 array-borrow-prefix-clauses c = room c
 
@@ -143,9 +140,6 @@ slice-aggregate-row-count c = sym (primes-in (c .before .before) .long)
 row-count-requires : tie.Need-row-count-requires
 row-count-requires c κs = let m = c .before .before in primes-in m .long ∙ counting (filling m) .clause-count .ensures
 
-sub-if2 : tie.Need-sub-if2
-sub-if2 c = search needs
-
 returns-2 : tie.Need-returns-2
 returns-2 c =
     let m = marking (c .before) in
@@ -167,9 +161,6 @@ append-primes-requires c κs =
     let p = start k .pre in
     ((p .0 .0, refl, p .0 .1, primes-in m .long ∙ k .clause-count .ensures), omega (arith, e .before .row-count .ensures, e .if2 .left, p .1))
 
-same-length : tie.Need-same-length
-same-length c = search needs
-
 returns-3 : tie.Need-returns-3
 returns-3 c =
     let e = c .before .before .before .before in
@@ -185,7 +176,7 @@ pub append-rule-spec : {M : Type 1} → statement M
 append-rule-spec =
     tie.close
     (tie.spec
-    clause-count-requires
+    (λ c κs. search needs)
     array-borrow-prefix-clauses
     slice-aggregate-fill-hits
     fill-hits-requires
@@ -198,10 +189,10 @@ append-rule-spec =
     array-share-prefix-clauses
     slice-aggregate-row-count
     row-count-requires
-    sub-if2
+    (λ c. search needs)
     returns-2
     array-share-prefix-clauses-2
     slice-aggregate-append-primes
     append-primes-requires
-    same-length
+    (λ c. search needs)
     returns-3)

@@ -16,24 +16,6 @@ runs-on d =
     let h = start d .pre in
     next-runs (a .run) (a .table .now) (a .input .now) (a .out .now) (h .0) (h .1) (h .2) (d .step .ensures .0) (d .step .ensures .1 .0) (d .step .ensures .1 .1) .1
 
-sub-step : tie.Need-sub-step
-sub-step c = search needs
-
-part-step-start : tie.Need-part-step-start
-part-step-start c = search needs
-
-part-step-end : tie.Need-part-step-end
-part-step-end c = search needs
-
-sub-step-2 : tie.Need-sub-step-2
-sub-step-2 c = search needs
-
-part-step-start-2 : tie.Need-part-step-start-2
-part-step-start-2 c = search needs
-
-part-step-end-2 : tie.Need-part-step-end-2
-part-step-end-2 c = search needs
-
 step-requires : tie.Need-step-requires
 step-requires c κs =
     let s = c .before .before .before .before .before in
@@ -43,20 +25,11 @@ step-requires c κs =
 add-t12 : tie.Need-add-t12
 add-t12 c = omega (arith, runs-on (c .before .before .before .before .before) .inside)
 
-add-t16 : tie.Need-add-t16
-add-t16 c = search needs
-
 add-t19 : tie.Need-add-t19
 add-t19 c =
     let d = c .before .before .before .before .before .before .before in
     let s = start d in
     omega (arith, d .step .ensures .1 .1, s .pre .2, s .good)
-
-same-length : tie.Need-same-length
-same-length c = search needs
-
-same-length-2 : tie.Need-same-length-2
-same-length-2 c = search needs
 
 returns : tie.Need-returns
 returns c =
@@ -72,16 +45,16 @@ pub advance-spec : {M : Type 1} → statement M
 advance-spec =
     tie.close
     (tie.spec
-    sub-step
-    part-step-start
-    part-step-end
-    sub-step-2
-    part-step-start-2
-    part-step-end-2
+    (λ c. search needs)
+    (λ c. search needs)
+    (λ c. search needs)
+    (λ c. search needs)
+    (λ c. search needs)
+    (λ c. search needs)
     step-requires
     add-t12
-    add-t16
+    (λ c. search needs)
     add-t19
-    same-length
-    same-length-2
+    (λ c. search needs)
+    (λ c. search needs)
     returns)

@@ -33,12 +33,6 @@ loop-holds c =
     let e = c .before .before .before .advance .ensures in
     (refl, omega arith, e .1 .1, e .1 .2, refl, refl)
 
-goes-on-requires : tie.Need-goes-on-requires Inv-loop μ-loop
-goes-on-requires c κs = search needs
-
-add-if2 : tie.Need-add-if2 Inv-loop μ-loop
-add-if2 c = omega arith
-
 advance-requires-2 : tie.Need-advance-requires-2 Inv-loop μ-loop
 advance-requires-2 c κs =
     let t = c .before .before in
@@ -107,8 +101,8 @@ fill-spec =
     μ-loop
     advance-requires
     loop-holds
-    goes-on-requires
-    add-if2
+    (λ c κs. search needs)
+    (λ c. omega arith)
     advance-requires-2
     loop-less
     loop-again

@@ -15,17 +15,8 @@ Inv-loop table₀ input out₀ run₀ table out run = Runs run input × (length 
 abbrev μ-loop : tie.MeasureT-loop
 μ-loop table₀ input out₀ run₀ table out run = length input - run .next
 
-start-requires : tie.Need-start-requires Inv-loop μ-loop
-start-requires c κs = search needs
-
 loop-holds : tie.Need-loop-holds Inv-loop μ-loop
 loop-holds c = (rw (c .start .ensures) (record { inside = omega arith; counted = omega arith }), refl, refl)
-
-goes-on-requires : tie.Need-goes-on-requires Inv-loop μ-loop
-goes-on-requires c κs = search needs
-
-slice-aggregate-fill : tie.Need-slice-aggregate-fill Inv-loop μ-loop
-slice-aggregate-fill c = search needs
 
 fill-requires : tie.Need-fill-requires Inv-loop μ-loop
 fill-requires c κs =
@@ -41,9 +32,6 @@ array-share-prefix-out c = omega (arith, c .before .before .fill .ensures .1 .2)
 slice-aggregate-write-all : tie.Need-slice-aggregate-write-all Inv-loop μ-loop
 slice-aggregate-write-all c = sym (length-take-le _ _ (c .before .before .before .fill .ensures .1 .2))
 
-write-all-requires : tie.Need-write-all-requires Inv-loop μ-loop
-write-all-requires c κs = search needs
-
 loop-less : tie.Need-loop-less Inv-loop μ-loop
 loop-less c =
     let e = c .before .before .before .before .fill .ensures in
@@ -58,24 +46,21 @@ loop-again c =
 same-length : tie.Need-same-length Inv-loop μ-loop
 same-length c = c .before .before .loop .inv .2
 
-returns : tie.Need-returns Inv-loop μ-loop
-returns c = search needs
-
 pub journal-spec : {M : Type 1} → statement M
 journal-spec =
     tie.close
     (tie.spec
     Inv-loop
     μ-loop
-    start-requires
+    (λ c κs. search needs)
     loop-holds
-    goes-on-requires
-    slice-aggregate-fill
+    (λ c κs. search needs)
+    (λ c. search needs)
     fill-requires
     array-share-prefix-out
     slice-aggregate-write-all
-    write-all-requires
+    (λ c κs. search needs)
     loop-less
     loop-again
     same-length
-    returns)
+    (λ c. search needs))

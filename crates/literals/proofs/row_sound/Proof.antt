@@ -40,43 +40,16 @@ in-range-is c = sym (c .in-range .ensures ∙ ap (inRange (c .before .before .ar
 symbol-is : (c : tie.After-symbol2 Inv-loop μ-loop) → c .symbol2 .result ≡ natAbs (here (c .before .before))
 symbol-is c = c .symbol2 .ensures ∙ back-abs {l = here (c .before .before)} (record { sfits = c .before .symbol-arg .given })
 
-mul-first : tie.Need-mul-first Inv-loop μ-loop
-mul-first c = omega arith
-
-shared-slice-copy-out-first : tie.Need-shared-slice-copy-out-first Inv-loop μ-loop
-shared-slice-copy-out-first c = omega arith
-
-in-range-requires : tie.Need-in-range-requires Inv-loop μ-loop
-in-range-requires c κs = search needs
-
 returns : tie.Need-returns Inv-loop μ-loop
 returns c =
     let s = c .before .before .before in
     sym (row-no _ _ _ (s .pre) (in-range-is (c .before) ∙ not-true _ (c .if1 .taken)))
-
-add-end : tie.Need-add-end Inv-loop μ-loop
-add-end c = omega arith
-
-symbol-requires : tie.Need-symbol-requires Inv-loop μ-loop
-symbol-requires c κs = search needs
-
-add-k : tie.Need-add-k Inv-loop μ-loop
-add-k c = omega arith
 
 loop-holds : tie.Need-loop-holds Inv-loop μ-loop
 loop-holds c =
     let i = c .before .before in
     let first-is = c .symbol .ensures ∙ back-abs {l = head (i .before .before)} (record { sfits = i .before .first .given }) in
     (omega arith, omega arith, row-first _ _ _ (i .before .before .pre) (in-range-is i ∙ not-false _ (c .before .if1 .left)) _ first-is)
-
-mul-symbol : tie.Need-mul-symbol Inv-loop μ-loop
-mul-symbol c = omega arith
-
-shared-slice-copy-out-symbol : tie.Need-shared-slice-copy-out-symbol Inv-loop μ-loop
-shared-slice-copy-out-symbol c = omega arith
-
-symbol-requires-2 : tie.Need-symbol-requires-2 Inv-loop μ-loop
-symbol-requires-2 c κs = search needs
 
 returns-2 : tie.Need-returns-2 Inv-loop μ-loop
 returns-2 c =
@@ -87,12 +60,6 @@ returns-2 c =
     (λ a. rising-low _ _ _ _ _ (t .loop-test .taken) (start t .pre) _ (symbol-is w) literal (a .taken))
     (λ a. rising-high _ _ _ _ _ (t .loop-test .taken) (start t .pre) _ (symbol-is w) literal (a .0 .left) (ltb-true _ _ (a .1 .taken)))
     (c .if3 .came))
-
-add-k-2 : tie.Need-add-k-2 Inv-loop μ-loop
-add-k-2 c = omega arith
-
-loop-less : tie.Need-loop-less Inv-loop μ-loop
-loop-less c = omega arith
 
 loop-again : tie.Need-loop-again Inv-loop μ-loop
 loop-again c =
@@ -115,19 +82,19 @@ row-sound-spec =
     (tie.spec
     Inv-loop
     μ-loop
-    mul-first
-    shared-slice-copy-out-first
-    in-range-requires
+    (λ c. omega arith)
+    (λ c. omega arith)
+    (λ c κs. search needs)
     returns
-    add-end
-    symbol-requires
-    add-k
+    (λ c. omega arith)
+    (λ c κs. search needs)
+    (λ c. omega arith)
     loop-holds
-    mul-symbol
-    shared-slice-copy-out-symbol
-    symbol-requires-2
+    (λ c. omega arith)
+    (λ c. omega arith)
+    (λ c κs. search needs)
     returns-2
-    add-k-2
-    loop-less
+    (λ c. omega arith)
+    (λ c. omega arith)
     loop-again
     returns-3)

@@ -27,24 +27,12 @@ loop-holds : tie.Need-loop-holds Inv-loop μ-loop
 unfolding rowsSound
 loop-holds c = (omega arith, rw sub-zero)
 
-mul-row-sound : tie.Need-mul-row-sound Inv-loop μ-loop
-mul-row-sound c = omega arith
-
-row-sound-requires : tie.Need-row-sound-requires Inv-loop μ-loop
-row-sound-requires c κs = omega arith
-
 returns : tie.Need-returns Inv-loop μ-loop
 unfolding numbersAt
 returns c =
     let t = c .before .before in
     let e = sym (c .before .row-sound .ensures) ∙ not-true _ (c .if1 .taken) in
     sym (t .before .loop .inv .1 ∙ all-no (sound (t .before .before)) _ _ (t .loop-test .taken) e)
-
-add-row : tie.Need-add-row Inv-loop μ-loop
-add-row c = omega arith
-
-loop-less : tie.Need-loop-less Inv-loop μ-loop
-loop-less c = omega arith
 
 loop-again : tie.Need-loop-again Inv-loop μ-loop
 unfolding numbersAt
@@ -63,10 +51,10 @@ rows-sound-spec =
     Inv-loop
     μ-loop
     loop-holds
-    mul-row-sound
-    row-sound-requires
+    (λ c. omega arith)
+    (λ c κs. omega arith)
     returns
-    add-row
-    loop-less
+    (λ c. omega arith)
+    (λ c. omega arith)
     loop-again
     returns-2)

@@ -5,18 +5,6 @@ use Rattle.panel.specs.Crossing.{numberIn}
 use Rattle.panel.proofs.tup_blame.Statement.{statement}
 use Rattle.panel.proofs.tup_blame.Tie as tie
 
-board-in-requires : tie.Need-board-in-requires
-board-in-requires c κs = search needs
-
-blame-requires : tie.Need-blame-requires
-blame-requires c κs = search needs
-
-number-of-requires : tie.Need-number-of-requires
-number-of-requires c κs = search needs
-
-same-length : tie.Need-same-length
-same-length c = search needs
-
 returns : tie.Need-returns
 returns c =
     let w = c .before .before .before in
@@ -25,4 +13,4 @@ returns c =
 
 pub tup-blame-spec : {M : Type 1} → statement M
 tup-blame-spec =
-    tie.close (tie.spec board-in-requires blame-requires number-of-requires same-length returns)
+    tie.close (tie.spec (λ c κs. search needs) (λ c κs. search needs) (λ c κs. search needs) (λ c. search needs) returns)

@@ -35,20 +35,8 @@ inside c =
     let used = row-used (s .args .table .now) (boardIn (s .args .given)) (s .args .l) (done c) in
     omega (arith, ap (λ (r : Reason). r .row) (numbers n), used .0, used .2)
 
-board-in-requires : tie.Need-board-in-requires
-board-in-requires c κs = search needs
-
-explain-numbers-requires : tie.Need-explain-numbers-requires
-explain-numbers-requires c κs = search needs
-
 enum-told : tie.Need-enum-told
 enum-told c = search needs
-
-cast-literal-count : tie.Need-cast-literal-count
-cast-literal-count c = search needs
-
-mul-literal-count : tie.Need-mul-literal-count
-mul-literal-count c = search needs
 
 literal-count-requires : tie.Need-literal-count-requires
 literal-count-requires c κs = inside (c .before)
@@ -57,12 +45,6 @@ cast-literals : tie.Need-cast-literals
 cast-literals c =
     let n = c .before .before .before .before in
     omega (arith, c .literal-count .ensures, count-few (n .before .before .args .table .now) (width * n .explain-numbers .result .row))
-
-enum-told-2 : tie.Need-enum-told-2
-enum-told-2 c = search needs
-
-number-of-requires : tie.Need-number-of-requires
-number-of-requires c κs = search needs
 
 -- the literals that are counted are those of the part
 count-is : (c : tie.After-literal-count) → let s = c .before .before .before .before .before .before in
@@ -88,13 +70,13 @@ pub tup-explain-spec : {M : Type 1} → statement M
 tup-explain-spec =
     tie.close
     (tie.spec
-    board-in-requires
-    explain-numbers-requires
+    (λ c κs. search needs)
+    (λ c κs. search needs)
     enum-told
-    cast-literal-count
-    mul-literal-count
+    (λ c. search needs)
+    (λ c. search needs)
     literal-count-requires
     cast-literals
-    enum-told-2
-    number-of-requires
+    (λ c. search needs)
+    (λ c κs. search needs)
     returns)

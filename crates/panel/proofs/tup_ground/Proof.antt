@@ -6,18 +6,6 @@ use Rattle.panel.specs.Crossing.{numberIn}
 use Rattle.panel.proofs.tup_ground.Statement.{statement}
 use Rattle.panel.proofs.tup_ground.Tie as tie
 
-board-in-requires : tie.Need-board-in-requires
-board-in-requires c κs = search needs
-
-ground-requires : tie.Need-ground-requires
-ground-requires c κs = search needs
-
-number-of-requires : tie.Need-number-of-requires
-number-of-requires c κs = search needs
-
-same-length : tie.Need-same-length
-same-length c = search needs
-
 returns : tie.Need-returns
 returns c =
     let w = c .before .before .before in
@@ -26,4 +14,4 @@ returns c =
 
 pub tup-ground-spec : {M : Type 1} → statement M
 tup-ground-spec =
-    tie.close (tie.spec board-in-requires ground-requires number-of-requires same-length returns)
+    tie.close (tie.spec (λ c κs. search needs) (λ c κs. search needs) (λ c κs. search needs) (λ c. search needs) returns)

@@ -6,12 +6,6 @@ use Rattle.panel.proofs.Narrow.{narrow-held}
 use Rattle.panel.proofs.tup_hold.Statement.{statement}
 use Rattle.panel.proofs.tup_hold.Tie as tie
 
-board-in-requires : tie.Need-board-in-requires
-board-in-requires c κs = search needs
-
-hold-requires : tie.Need-hold-requires
-hold-requires c κs = search needs
-
 change-out-requires : tie.Need-change-out-requires
 change-out-requires c κs = rw (c .hold .ensures, c .before .board-in .ensures) (narrow-held _ _ (record { symbols = omega arith; rows = omega arith }) _)
 
@@ -19,4 +13,4 @@ returns : tie.Need-returns
 returns c = rw (← c .before .before .board-in .ensures, ← toZ-ofZ (c .before .before .before .fits .l), ← c .before .hold .ensures) (c .change-out .ensures)
 
 pub tup-hold-spec : {M : Type 1} → statement M
-tup-hold-spec = tie.close (tie.spec board-in-requires hold-requires change-out-requires returns)
+tup-hold-spec = tie.close (tie.spec (λ c κs. search needs) (λ c κs. search needs) change-out-requires returns)

@@ -14,12 +14,6 @@ either : {A : Type 0} {x : A} (o : Outcome) → ifDone o x (λ _. x) ≡ x
 either Done = refl
 either (Refused why) = refl
 
-open-requires : tie.Need-open-requires
-open-requires c κs = search needs
-
-number-of-requires : tie.Need-number-of-requires
-number-of-requires c κs = search needs
-
 board-out-requires : tie.Need-board-out-requires
 board-out-requires c κs = rw (c .before .before .«open» .ensures) (narrow-opened _ (omega arith))
 
@@ -29,4 +23,4 @@ returns c =
     rw (← o .«open» .ensures, c .before .number-of .ensures, c .board-out .ensures, either (o .«open» .result .outcome))
 
 pub tup-open-spec : {M : Type 1} → statement M
-tup-open-spec = tie.close (tie.spec open-requires number-of-requires board-out-requires returns)
+tup-open-spec = tie.close (tie.spec (λ c κs. search needs) (λ c κs. search needs) board-out-requires returns)

@@ -5,21 +5,12 @@ use Rattle.panel.proofs.Narrow.{narrow-ruled}
 use Rattle.panel.proofs.tup_rule.Statement.{statement}
 use Rattle.panel.proofs.tup_rule.Tie as tie
 
-board-in-requires : tie.Need-board-in-requires
-board-in-requires c κs = search needs
-
-add-rule-requires : tie.Need-add-rule-requires
-add-rule-requires c κs = search needs
-
 addition-out-requires : tie.Need-addition-out-requires
 addition-out-requires c κs =
     let a = c .before in
     let given = a .before .before .before .before .good in
     rw (a .add-rule .ensures .0, a .before .before .board-in .ensures)
     (narrow-ruled _ _ (record { symbols = omega arith; rows = omega arith }) _)
-
-same-length : tie.Need-same-length
-same-length c = search needs
 
 returns : tie.Need-returns
 returns c =
@@ -29,4 +20,4 @@ returns c =
 pub tup-rule-spec : {M : Type 1} → statement M
 tup-rule-spec =
     tie.close
-    (tie.spec board-in-requires add-rule-requires addition-out-requires same-length returns)
+    (tie.spec (λ c κs. search needs) (λ c κs. search needs) addition-out-requires (λ c. search needs) returns)

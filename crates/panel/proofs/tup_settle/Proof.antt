@@ -5,24 +5,6 @@ use Rattle.panel.specs.Crossing.{numberIn}
 use Rattle.panel.proofs.tup_settle.Statement.{statement}
 use Rattle.panel.proofs.tup_settle.Tie as tie
 
-board-in-requires : tie.Need-board-in-requires
-board-in-requires c κs = search needs
-
-settle-requires : tie.Need-settle-requires
-settle-requires c κs = search needs
-
-number-of-requires : tie.Need-number-of-requires
-number-of-requires c κs = search needs
-
-same-length : tie.Need-same-length
-same-length c = search needs
-
-same-length-2 : tie.Need-same-length-2
-same-length-2 c = search needs
-
-same-length-3 : tie.Need-same-length-3
-same-length-3 c = search needs
-
 returns : tie.Need-returns
 returns c =
     let w = c .before .before .before .before .before .before .before in
@@ -34,10 +16,10 @@ pub tup-settle-spec : {M : Type 1} → statement M
 tup-settle-spec =
     tie.close
     (tie.spec
-    board-in-requires
-    settle-requires
-    number-of-requires
-    same-length
-    same-length-2
-    same-length-3
+    (λ c κs. search needs)
+    (λ c κs. search needs)
+    (λ c κs. search needs)
+    (λ c. search needs)
+    (λ c. search needs)
+    (λ c. search needs)
     returns)

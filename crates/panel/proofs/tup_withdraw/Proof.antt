@@ -6,12 +6,6 @@ use Rattle.panel.proofs.Narrow.{narrow-withdrawn}
 use Rattle.panel.proofs.tup_withdraw.Statement.{statement}
 use Rattle.panel.proofs.tup_withdraw.Tie as tie
 
-board-in-requires : tie.Need-board-in-requires
-board-in-requires c κs = search needs
-
-withdraw-requires : tie.Need-withdraw-requires
-withdraw-requires c κs = search needs
-
 change-out-requires : tie.Need-change-out-requires
 change-out-requires c κs = rw (c .withdraw .ensures, c .before .board-in .ensures) (narrow-withdrawn _ _ (record { symbols = omega arith; rows = omega arith }) _)
 
@@ -20,4 +14,4 @@ returns c = rw (← c .before .before .board-in .ensures, ← toZ-ofZ (c .before
 
 pub tup-withdraw-spec : {M : Type 1} → statement M
 tup-withdraw-spec =
-    tie.close (tie.spec board-in-requires withdraw-requires change-out-requires returns)
+    tie.close (tie.spec (λ c κs. search needs) (λ c κs. search needs) change-out-requires returns)

@@ -7,12 +7,6 @@ use lib.Seq.{length-take-le}
 use Rattle.rows_run.proofs.show_text.Statement.{statement}
 use Rattle.rows_run.proofs.show_text.Tie as tie
 
-spelt-requires : tie.Need-spelt-requires
-spelt-requires c κs = search needs
-
-array-share-prefix-truth : tie.Need-array-share-prefix-truth
-array-share-prefix-truth c = search needs
-
 slice-aggregate-show : tie.Need-slice-aggregate-show
 slice-aggregate-show c =
     let s = c .before .before .before .before in
@@ -24,10 +18,7 @@ show-requires c κs =
     let e = length-take-le (length (s .args .text .now)) (c .before .spelt .result) (omega (arith, s .pre .1, c .before .spelt .ensures)) in
     ((s .pre .0 .0, s .pre .0 .1, e ∙ s .pre .0 .2), (s .pre .1 .1, s .pre .1 .2))
 
-returns : tie.Need-returns
-returns c = search needs
-
 pub show-text-spec : {M : Type 1} → statement M
 show-text-spec =
     tie.close
-    (tie.spec spelt-requires array-share-prefix-truth slice-aggregate-show show-requires returns)
+    (tie.spec (λ c κs. search needs) (λ c. search needs) slice-aggregate-show show-requires (λ c. search needs))

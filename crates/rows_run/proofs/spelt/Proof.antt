@@ -12,37 +12,16 @@ Inv-loop text truth₀ i₀ truth i = (i ≤ length text) × (length truth ≡ 2
 abbrev μ-loop : tie.MeasureT-loop
 μ-loop text truth₀ i₀ truth i = length text - i
 
-loop-holds : tie.Need-loop-holds Inv-loop μ-loop
-loop-holds c = search needs
-
-shared-slice-read-truth : tie.Need-shared-slice-read-truth Inv-loop μ-loop
-shared-slice-read-truth c = search needs
-
-array-write-truth : tie.Need-array-write-truth Inv-loop μ-loop
-array-write-truth c = search needs
-
-add-i : tie.Need-add-i Inv-loop μ-loop
-add-i c = search needs
-
-loop-less : tie.Need-loop-less Inv-loop μ-loop
-loop-less c = search needs
-
-loop-again : tie.Need-loop-again Inv-loop μ-loop
-loop-again c = search needs
-
-returns : tie.Need-returns Inv-loop μ-loop
-returns c = search needs
-
 pub spelt-spec : {M : Type 1} → statement M
 spelt-spec =
     tie.close
     (tie.spec
     Inv-loop
     μ-loop
-    loop-holds
-    shared-slice-read-truth
-    array-write-truth
-    add-i
-    loop-less
-    loop-again
-    returns)
+    (λ c. search needs)
+    (λ c. search needs)
+    (λ c. search needs)
+    (λ c. search needs)
+    (λ c. search needs)
+    (λ c. search needs)
+    (λ c. search needs))

@@ -26,15 +26,6 @@ front c = ranks-front _ _ (at (c .before .before .before) .good) (c .ranks-on .e
 high : (c : tie.After-ranks-on) → let s = c .before .before .before .before .before .before in tooHigh (s .args .table .now) (s .args .board) ≡ c .ranks-on .result .high
 high c = ranks-high _ _ (c .ranks-on .ensures)
 
-place-on-requires : tie.Need-place-on-requires
-place-on-requires c κs = search needs
-
-enum-known-why : tie.Need-enum-known-why
-enum-known-why c = search needs
-
-enum-known-p : tie.Need-enum-known-p
-enum-known-p c = search needs
-
 mul-places : tie.Need-mul-places
 mul-places c = omega (arith, at (c .before .before) .good .sound .symbols)
 
@@ -87,9 +78,9 @@ pub ask-spec : {M : Type 1} → statement M
 ask-spec =
     tie.close
     (tie.spec
-    place-on-requires
-    enum-known-why
-    enum-known-p
+    (λ c κs. search needs)
+    (λ c. search needs)
+    (λ c. search needs)
     mul-places
     ranks-on-requires
     returns

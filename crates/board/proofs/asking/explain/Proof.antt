@@ -27,30 +27,6 @@ inside c =
     let row : n .explain-numbers .result .row ≡ reasoned (n .before .args .table .now) (n .before .args .board) (n .before .args .l) .row = ap (λ (r : Reason). r .row) is in
     (omega (arith, row, u .0, u .1), omega (arith, row, u .0, u .2))
 
-explain-numbers-requires : tie.Need-explain-numbers-requires
-explain-numbers-requires c κs = search needs
-
-enum-told : tie.Need-enum-told
-enum-told c = search needs
-
-sub-result : tie.Need-sub-result
-sub-result c = search needs
-
-part-result-start : tie.Need-part-result-start
-part-result-start c = search needs
-
-part-result-end : tie.Need-part-result-end
-part-result-end c = search needs
-
-enum-told-2 : tie.Need-enum-told-2
-enum-told-2 c = search needs
-
-cast-start : tie.Need-cast-start
-cast-start c = search needs
-
-mul-start : tie.Need-mul-start
-mul-start c = search needs
-
 literal-count-requires : tie.Need-literal-count-requires
 literal-count-requires c κs = inside (c .before) .1
 
@@ -59,15 +35,6 @@ few c = omega (arith, c .literal-count .ensures, count-few (c .before .before .b
 
 add-stop : tie.Need-add-stop
 add-stop c = omega (arith, few c, inside (c .before .before) .0)
-
-mul-result : tie.Need-mul-result
-mul-result c = search needs
-
-sub-result-2 : tie.Need-sub-result-2
-sub-result-2 c = search needs
-
-part-result-start-2 : tie.Need-part-result-start-2
-part-result-start-2 c = search needs
 
 part-result-end-2 : tie.Need-part-result-end-2
 part-result-end-2 c = omega (arith, few c, inside (c .before .before) .1)
@@ -90,19 +57,19 @@ pub explain-spec : {M : Type 1} → statement M
 explain-spec =
     tie.close
     (tie.spec
-    explain-numbers-requires
-    enum-told
-    sub-result
-    part-result-start
-    part-result-end
-    enum-told-2
-    cast-start
-    mul-start
+    (λ c κs. search needs)
+    (λ c. search needs)
+    (λ c. search needs)
+    (λ c. search needs)
+    (λ c. search needs)
+    (λ c. search needs)
+    (λ c. search needs)
+    (λ c. search needs)
     literal-count-requires
     add-stop
-    mul-result
-    sub-result-2
-    part-result-start-2
+    (λ c. search needs)
+    (λ c. search needs)
+    (λ c. search needs)
     part-result-end-2
     returns
     returns-2)

@@ -35,26 +35,11 @@ rank : (c : tie.After-ranks-on) → let w = c .before .before .before in let s =
     getD (c .ranks-on .result .list) (w .p .given .0 .0) 0 ≡ rankOf (2 * b .symbols) (rowsOn (s .args .table .now) b) (b .held) (w .p .given .0 .0)
 rank c = let w = c .before .before .before in front c .at (w .p .given .0 .0) (at w .low)
 
-place-on-requires : tie.Need-place-on-requires
-place-on-requires c κs = search needs
-
-enum-known-why : tie.Need-enum-known-why
-enum-known-why c = search needs
-
-unexplained-requires : tie.Need-unexplained-requires
-unexplained-requires c κs = search needs
-
-enum-known-p : tie.Need-enum-known-p
-enum-known-p c = search needs
-
 mul-places : tie.Need-mul-places
 mul-places c = omega (arith, at (c .before .before) .good .sound .symbols)
 
 ranks-on-requires : tie.Need-ranks-on-requires
 ranks-on-requires c κs = at (c .before .before) .is-good
-
-unexplained-requires-2 : tie.Need-unexplained-requires-2
-unexplained-requires-2 c κs = search needs
 
 returns : tie.Need-returns
 unfolding reasoned explainFaults
@@ -73,9 +58,6 @@ array-read-rank c =
     let p = at (c .before .before .before .before .before) in
     omega (arith, p .low, p .good .sound .symbols)
 
-unexplained-requires-3 : tie.Need-unexplained-requires-3
-unexplained-requires-3 c κs = search needs
-
 returns-2 : tie.Need-returns-2
 unfolding reasoned explainFaults
 returns-2 c =
@@ -84,9 +66,6 @@ returns-2 c =
     let w = r .before .before .before in
     let p = at w in
     rw (p .is-good, p .in-range, high r ∙ e .if1 .left, ← p .place, hidden _ _ _ (small w) (w .p .given .0 .0) (p .low) (inl (sym (rank r) ∙ c .before .if2 .taken))) (c .unexplained3 .ensures)
-
-unexplained-requires-4 : tie.Need-unexplained-requires-4
-unexplained-requires-4 c κs = search needs
 
 returns-3 : tie.Need-returns-3
 unfolding reasoned explainFaults
@@ -135,19 +114,19 @@ pub explain-numbers-spec : {M : Type 1} → statement M
 explain-numbers-spec =
     tie.close
     (tie.spec
-    place-on-requires
-    enum-known-why
-    unexplained-requires
-    enum-known-p
+    (λ c κs. search needs)
+    (λ c. search needs)
+    (λ c κs. search needs)
+    (λ c. search needs)
     mul-places
     ranks-on-requires
-    unexplained-requires-2
+    (λ c κs. search needs)
     returns
     mul-rank
     array-read-rank
-    unexplained-requires-3
+    (λ c κs. search needs)
     returns-2
-    unexplained-requires-4
+    (λ c κs. search needs)
     returns-3
     array-share-prefix-ranks
     slice-aggregate-support-row

@@ -30,34 +30,16 @@ other c = let a = c .before .before .before .before .before .before in rw (c .op
 first-clash-requires : tie.Need-first-clash-requires
 first-clash-requires c κs = c .before .pre .2
 
-cast-if1 : tie.Need-cast-if1
-cast-if1 c = search needs
-
 returns : tie.Need-returns
 returns c =
     let a = c .before .before .before in
     rw (clash-some (a .args .ranks .now) (a .pre .2) (λ e. c .if1 .taken (c .before .first-clash .ensures ∙ e)) .1)
-
-mul-if2 : tie.Need-mul-if2
-mul-if2 c = search needs
-
-shared-slice-read-if2 : tie.Need-shared-slice-read-if2
-shared-slice-read-if2 c = search needs
 
 returns-2 : tie.Need-returns-2
 returns-2 c =
     let e = c .before .before in
     let a = e .before .before .before in
     rw (clear e, below-rank none (a .args .ranks .now) (a .args .p) (a .pre .0) ∙ lt-ltb _ none (c .if2 .taken))
-
-opposite-requires : tie.Need-opposite-requires
-opposite-requires c κs = search needs
-
-mul-if3 : tie.Need-mul-if3
-mul-if3 c = search needs
-
-shared-slice-read-if3 : tie.Need-shared-slice-read-if3
-shared-slice-read-if3 c = search needs
 
 returns-3 : tie.Need-returns-3
 returns-3 c =
@@ -74,13 +56,13 @@ standing-by-spec =
     tie.close
     (tie.spec
     first-clash-requires
-    cast-if1
+    (λ c. search needs)
     returns
-    mul-if2
-    shared-slice-read-if2
+    (λ c. search needs)
+    (λ c. search needs)
     returns-2
-    opposite-requires
-    mul-if3
-    shared-slice-read-if3
+    (λ c κs. search needs)
+    (λ c. search needs)
+    (λ c. search needs)
     returns-3
     returns-4)

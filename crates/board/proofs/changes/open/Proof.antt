@@ -5,23 +5,11 @@ use Rattle.board.specs.Changes.{openFaults, opened}
 use Rattle.board.proofs.changes.open.Statement.{statement}
 use Rattle.board.proofs.changes.open.Tie as tie
 
-empty-requires : tie.Need-empty-requires
-empty-requires c κs = search needs
-
-refused-requires : tie.Need-refused-requires
-refused-requires c κs = search needs
-
 returns : tie.Need-returns
 unfolding opened openFaults
 returns c =
     let t = c .before .before in
     rw (lt-leb 1 (t .before .args .symbols) (t .if1 .taken)) (rw (c .before .empty .ensures) at (c .refused .ensures))
-
-empty-requires-2 : tie.Need-empty-requires-2
-empty-requires-2 c κs = search needs
-
-refused-requires-2 : tie.Need-refused-requires-2
-refused-requires-2 c κs = search needs
 
 returns-2 : tie.Need-returns-2
 unfolding opened openFaults
@@ -29,9 +17,6 @@ returns-2 c =
     let t = c .before .before in
     let S = t .before .before .args .symbols in
     rw (le-leb 1 S (t .before .if1 .left), lt-leb S 200 (t .if2 .taken)) (rw (c .before .empty2 .ensures) at (c .refused2 .ensures))
-
-empty-requires-3 : tie.Need-empty-requires-3
-empty-requires-3 c κs = search needs
 
 returns-3 : tie.Need-returns-3
 unfolding opened openFaults
@@ -44,11 +29,11 @@ pub open-spec : {M : Type 1} → statement M
 open-spec =
     tie.close
     (tie.spec
-    empty-requires
-    refused-requires
+    (λ c κs. search needs)
+    (λ c κs. search needs)
     returns
-    empty-requires-2
-    refused-requires-2
+    (λ c κs. search needs)
+    (λ c κs. search needs)
     returns-2
-    empty-requires-3
+    (λ c κs. search needs)
     returns-3)

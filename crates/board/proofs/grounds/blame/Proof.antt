@@ -54,9 +54,6 @@ clashes c =
     let g = f .before .before .before .before .before .before .before in
     rw (clash f) (conflict-some _ _ _ (small g) (λ e. c .if4 .left (clash f ∙ e)))
 
-good-requires : tie.Need-good-requires
-good-requires c κs = search needs
-
 returns : tie.Need-returns
 unfolding blameOutcome blameFaults
 returns c = blame-refused _ _ _ BadBoard (rw (sym (c .before .good2 .ensures) ∙ not-true _ (c .if1 .taken)))
@@ -87,9 +84,6 @@ first-clash-requires : tie.Need-first-clash-requires
 first-clash-requires c κs =
     let r = c .before .before .before in
     omega (arith, front r .long, good (r .before .before .before) .sound .symbols)
-
-cast-if4 : tie.Need-cast-if4
-cast-if4 c = search needs
 
 returns-4 : tie.Need-returns-4
 unfolding blameOutcome blameFaults
@@ -123,9 +117,6 @@ mark-from-requires c κs =
     let low = clashes z .0 in
     ((is-good (r .before .before .before), front r .is), (omega (arith, low), omega (arith, low), r .before .if2 .left))
 
-same-length : tie.Need-same-length
-same-length c = search needs
-
 returns-5 : tie.Need-returns-5
 unfolding blameOutcome blameFaults
 returns-5 c =
@@ -144,7 +135,7 @@ pub blame-spec : {M : Type 1} → statement M
 blame-spec =
     tie.close
     (tie.spec
-    good-requires
+    (λ c κs. search needs)
     returns
     mul-places
     returns-2
@@ -153,7 +144,7 @@ blame-spec =
     array-share-prefix-ranks
     slice-aggregate-first-clash
     first-clash-requires
-    cast-if4
+    (λ c. search needs)
     returns-4
     array-share-prefix-ranks-2
     slice-aggregate-mark-from
@@ -161,5 +152,5 @@ blame-spec =
     mul-mark-from-2
     add-mark-from
     mark-from-requires
-    same-length
+    (λ c. search needs)
     returns-5)

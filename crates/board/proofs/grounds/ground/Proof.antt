@@ -36,15 +36,6 @@ rank : (c : tie.After-ranks-on) → let w = c .before .before .before .before in
     getD (c .ranks-on .result .list) (w .p .given .0 .0) 0 ≡ rankOf (2 * b .symbols) (rowsOn (s .args .table .now) b) (b .held) (w .p .given .0 .0)
 rank c = let w = c .before .before .before .before in front c .at (w .p .given .0 .0) (at w .low)
 
-place-on-requires : tie.Need-place-on-requires
-place-on-requires c κs = search needs
-
-enum-known-why : tie.Need-enum-known-why
-enum-known-why c = search needs
-
-enum-known-p : tie.Need-enum-known-p
-enum-known-p c = search needs
-
 mul-places : tie.Need-mul-places
 mul-places c = omega (arith, at (c .before .before) .good .sound .symbols)
 
@@ -104,9 +95,6 @@ returns-4 c =
     let own = drop 2 (groundFaults (s .args .table .now) (s .args .board) (s .args .l) _) in
     ground-refused _ _ _ _ _ (placed-refused _ _ (s .fits .l) (w .before .before .place-on .ensures) (w .why .given .1) own)
 
-same-length : tie.Need-same-length
-same-length c = search needs
-
 returns-5 : tie.Need-returns-5
 unfolding groundOutcome groundFaults
 returns-5 c =
@@ -126,9 +114,9 @@ pub ground-spec : {M : Type 1} → statement M
 ground-spec =
     tie.close
     (tie.spec
-    place-on-requires
-    enum-known-why
-    enum-known-p
+    (λ c κs. search needs)
+    (λ c. search needs)
+    (λ c. search needs)
     mul-places
     returns
     ranks-on-requires
@@ -140,5 +128,5 @@ ground-spec =
     slice-aggregate-mark-from
     mark-from-requires
     returns-4
-    same-length
+    (λ c. search needs)
     returns-5)

@@ -41,9 +41,6 @@ front : (c : tie.After-reach) → let s = c .before .before .before .before .bef
     take n (c .reach .last .1 .1 .1 .1 .0 ++ drop n (marks s)) ≡ c .reach .last .1 .1 .1 .1 .0
 front c = let s = c .before .before .before .before .before .before .before in take-at (c .reach .last .1 .1 .1 .1 .0) (drop (2 * s .args .board .symbols) (marks s)) (2 * s .args .board .symbols) (back c)
 
-mul-places : tie.Need-mul-places
-mul-places c = search needs
-
 array-write-reached : tie.Need-array-write-reached
 array-write-reached c = let s = c .before .before .before .before in omega (arith, s .pre .1 .0, good s .sound .symbols)
 
@@ -82,9 +79,6 @@ write-marks-requires c κs =
     let s = r .before .before .before .before .before .before .before in
     omega (arith, ap length (front r), back r, s .pre .1 .2)
 
-same-length : tie.Need-same-length
-same-length c = search needs
-
 returns : tie.Need-returns
 returns c =
     let w = c .before .before in
@@ -100,7 +94,7 @@ pub mark-from-spec : {M : Type 1} → statement M
 mark-from-spec =
     tie.close
     (tie.spec
-    mul-places
+    (λ c. search needs)
     array-write-reached
     array-write-reached-2
     slice-aggregate-reach
@@ -110,5 +104,5 @@ mark-from-spec =
     array-share-prefix-reached
     slice-aggregate-write-marks
     write-marks-requires
-    same-length
+    (λ c. search needs)
     returns)

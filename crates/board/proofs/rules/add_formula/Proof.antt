@@ -62,9 +62,6 @@ symbols-of-requires c κs =
     let s = c .before in
     (good s .sound .symbols, ap isGood (sym (whole-is (s .args .board .symbols) (s .args .bytes .now) (s .pre .1))) ∙ s .pre .1)
 
-refused-requires : tie.Need-refused-requires
-refused-requires c κs = search needs
-
 returns : tie.Need-returns
 unfolding ruleFaults read
 returns c =
@@ -88,30 +85,12 @@ append-requires c κs =
     let l = list e in
     ((good s .sound .symbols, good s .lent, s .pre .1), (omega (arith, l .long, l .most), l .is))
 
-enum-told : tie.Need-enum-told
-enum-told c = search needs
-
-refused-requires-2 : tie.Need-refused-requires-2
-refused-requires-2 c κs = search needs
-
-enum-told-2 : tie.Need-enum-told-2
-enum-told-2 c = search needs
-
-refused-requires-3 : tie.Need-refused-requires-3
-refused-requires-3 c κs = search needs
-
-enum-known-added : tie.Need-enum-known-added
-enum-known-added c = search needs
-
 add-next : tie.Need-add-next
 add-next c =
     let a = c .before .before .before .before .before in
     let s = a .before .before .before .before .before .before .before .before in
     let r = because (rule s) (s .args .board .rows) (rowsLent (s .args .table .now)) (told a ∙ c .before .before .added .given .1) in
     omega (arith, r .2, leb-true (s .args .board .rows + length (rowsOf (rule s))) (rowsLent (s .args .table .now)) (r .1))
-
-same-length : tie.Need-same-length
-same-length c = search needs
 
 returns-2 : tie.Need-returns-2
 unfolding ruleFaults read rule
@@ -126,9 +105,6 @@ returns-2 c =
     let all = rule-refused table b (s .args .bytes .now) NoAssignment (rw (s .pre .0, s .pre .1, few e, r)) in
     (c .refused2 .ensures ∙ all .0, after a ∙ sym (told-unsatisfiable (rule s) (b .rows) (rowsLent table) table r .1) ∙ all .1)
 
-same-length-2 : tie.Need-same-length-2
-same-length-2 c = search needs
-
 returns-3 : tie.Need-returns-3
 unfolding ruleFaults read rule
 returns-3 c =
@@ -141,9 +117,6 @@ returns-3 c =
     let r = because (rule s) (b .rows) (rowsLent table) (told a ∙ t .enum-told2 .given .1) in
     let all = rule-refused table b (s .args .bytes .now) TableFull (rw (s .pre .0, s .pre .1, few e, r .0, r .1)) in
     (c .refused3 .ensures ∙ all .0, after a ∙ sym (told-full (rule s) (b .rows) (rowsLent table) table (r .0) (leb-false _ _ (r .1)) .1) ∙ all .1)
-
-same-length-3 : tie.Need-same-length-3
-same-length-3 c = search needs
 
 returns-4 : tie.Need-returns-4
 unfolding ruleFaults read rule
@@ -163,20 +136,20 @@ add-formula-spec =
     tie.close
     (tie.spec
     symbols-of-requires
-    refused-requires
+    (λ c κs. search needs)
     returns
     array-share-prefix-list
     slice-aggregate-append
     append-requires
-    enum-told
-    refused-requires-2
-    enum-told-2
-    refused-requires-3
-    enum-known-added
+    (λ c. search needs)
+    (λ c κs. search needs)
+    (λ c. search needs)
+    (λ c κs. search needs)
+    (λ c. search needs)
     add-next
-    same-length
+    (λ c. search needs)
     returns-2
-    same-length-2
+    (λ c. search needs)
     returns-3
-    same-length-3
+    (λ c. search needs)
     returns-4)

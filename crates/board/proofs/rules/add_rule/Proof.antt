@@ -15,15 +15,6 @@ use Rattle.board.proofs.rules.add_rule.Tie as tie
 good : (c : tie.Else1) → let s = c .before .before .before .before in goodBoard (s .args .table .now) (s .args .board) ≡ true
 good c = sym (c .before .good2 .ensures) ∙ not-false _ (c .if1 .left)
 
-good-requires : tie.Need-good-requires
-good-requires c κs = search needs
-
-refused-requires : tie.Need-refused-requires
-refused-requires c κs = search needs
-
-same-length : tie.Need-same-length
-same-length c = search needs
-
 returns : tie.Need-returns
 unfolding ruleFaults
 returns c =
@@ -32,27 +23,12 @@ returns c =
     let all = rule-refused (s .args .table .now) (s .args .board) (s .args .bytes .now) BadBoard (rw (sym (g .good2 .ensures) ∙ not-true _ (c .before .if1 .taken))) in
     (c .refused .ensures ∙ all .0, all .1)
 
-read-whole-requires : tie.Need-read-whole-requires
-read-whole-requires c κs = search needs
-
-enum-known-why : tie.Need-enum-known-why
-enum-known-why c = search needs
-
-refused-requires-2 : tie.Need-refused-requires-2
-refused-requires-2 c κs = search needs
-
-enum-told : tie.Need-enum-told
-enum-told c = search needs
-
 add-formula-requires : tie.Need-add-formula-requires
 add-formula-requires c κs =
     let t = c .before in
     let r = t .before .before in
     let s = r .before .before .before .before .before in
     (good (r .before), read-good (wholeOf (s .args .board .symbols) (s .args .bytes .now)) (sym (r .read-whole .ensures) ∙ t .enum-told .given .1))
-
-same-length-2 : tie.Need-same-length-2
-same-length-2 c = search needs
 
 returns-2 : tie.Need-returns-2
 unfolding ruleFaults
@@ -65,26 +41,20 @@ returns-2 c =
     let all = rule-refused (s .args .table .now) b (s .args .bytes .now) (w .why .given .0 .0) (rw (good (r .before), bad .0, bad .1)) in
     (c .refused2 .ensures ∙ all .0, all .1)
 
-same-length-3 : tie.Need-same-length-3
-same-length-3 c = search needs
-
-returns-3 : tie.Need-returns-3
-returns-3 c = search needs
-
 pub add-rule-spec : {M : Type 1} → statement M
 add-rule-spec =
     tie.close
     (tie.spec
-    good-requires
-    refused-requires
-    same-length
+    (λ c κs. search needs)
+    (λ c κs. search needs)
+    (λ c. search needs)
     returns
-    read-whole-requires
-    enum-known-why
-    refused-requires-2
-    enum-told
+    (λ c κs. search needs)
+    (λ c. search needs)
+    (λ c κs. search needs)
+    (λ c. search needs)
     add-formula-requires
-    same-length-2
+    (λ c. search needs)
     returns-2
-    same-length-3
-    returns-3)
+    (λ c. search needs)
+    (λ c. search needs))

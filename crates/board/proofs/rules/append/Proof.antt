@@ -56,9 +56,6 @@ fill-truth-requires c κs =
     let read = ap isGood (sym (whole-is (s .args .symbols) (s .args .bytes .now) (s .pre .0 .2))) ∙ s .pre .0 .2 in
     (s .pre .0 .0, (read, (s .pre .1 .0, part (c .before) ∙ values-is (c .before))))
 
-rows-lent-requires : tie.Need-rows-lent-requires
-rows-lent-requires c κs = search needs
-
 array-share-prefix-truth : tie.Need-array-share-prefix-truth
 array-share-prefix-truth c =
     let f = c .before .before .before .before in
@@ -76,9 +73,6 @@ append-rule-requires c κs =
       (s .pre .1 .0, rw (s .pre .1 .1) (symbols-positive (s .args .symbols) _), ap length (front f) ∙ long f ∙ values-is (f .before .before)),
       (omega (arith, lent, s .pre .0 .1), omega (arith, lent), omega (arith, lent)),
     )
-
-same-length : tie.Need-same-length
-same-length c = search needs
 
 returns : tie.Need-returns
 returns c =
@@ -104,9 +98,9 @@ append-spec =
     array-borrow-prefix-truth
     slice-aggregate-fill-truth
     fill-truth-requires
-    rows-lent-requires
+    (λ c κs. search needs)
     array-share-prefix-truth
     slice-aggregate-append-rule
     append-rule-requires
-    same-length
+    (λ c. search needs)
     returns)

@@ -36,9 +36,6 @@ front c = ranks-front _ _ (good (c .before .before .before .before)) (c .ranks-o
 high : (c : tie.After-ranks-on) → let s = c .before .before .before .before .before .before .before .before .before in tooHigh (s .args .table .now) (s .args .board) ≡ c .ranks-on .result .high
 high c = ranks-high _ _ (c .ranks-on .ensures)
 
-good-requires : tie.Need-good-requires
-good-requires c κs = search needs
-
 returns : tie.Need-returns
 unfolding settleOutcome settleFaults
 returns c = settle-refused _ _ _ _ _ BadBoard (rw (sym (c .before .good2 .ensures) ∙ not-true _ (c .if1 .taken)))
@@ -80,15 +77,6 @@ write-tables-requires c κs =
     let e = r .before in
     (f .fit, (f .long, long e .0, omega (arith, f .long, long e .1), omega (arith, f .long, long e .2)))
 
-same-length : tie.Need-same-length
-same-length c = search needs
-
-same-length-2 : tie.Need-same-length-2
-same-length-2 c = search needs
-
-same-length-3 : tie.Need-same-length-3
-same-length-3 c = search needs
-
 returns-4 : tie.Need-returns-4
 unfolding settleOutcome settleFaults
 returns-4 c =
@@ -108,7 +96,7 @@ pub settle-spec : {M : Type 1} → statement M
 settle-spec =
     tie.close
     (tie.spec
-    good-requires
+    (λ c κs. search needs)
     returns
     mul-places
     returns-2
@@ -117,7 +105,7 @@ settle-spec =
     array-share-prefix-own
     slice-aggregate-write-tables
     write-tables-requires
-    same-length
-    same-length-2
-    same-length-3
+    (λ c. search needs)
+    (λ c. search needs)
+    (λ c. search needs)
     returns-4)

@@ -16,9 +16,6 @@ labels-part s = length-take-le (s .args .symbols) (s .args .labels .now) (s .pre
 supports-part : (s : tie.Start) → length (take (length (s .args .own .now)) (s .args .supports .now)) ≡ length (s .args .own .now)
 supports-part s = length-take-le (length (s .args .own .now)) (s .args .supports .now) (s .pre .1 .3)
 
-slice-relend-prefix-write-labels : tie.Need-slice-relend-prefix-write-labels
-slice-relend-prefix-write-labels c = search needs
-
 slice-aggregate-write-labels : tie.Need-slice-aggregate-write-labels
 slice-aggregate-write-labels c = sym (labels-part (c .before .before .before .before .before))
 
@@ -27,12 +24,6 @@ write-labels-requires c κs =
     let s = c .before .before .before .before .before in
     omega (arith, labels-part s, s .pre .1 .0)
 
-copy-requires : tie.Need-copy-requires
-copy-requires c κs = search needs
-
-slice-relend-prefix-write-supports : tie.Need-slice-relend-prefix-write-supports
-slice-relend-prefix-write-supports c = search needs
-
 slice-aggregate-write-supports : tie.Need-slice-aggregate-write-supports
 slice-aggregate-write-supports c = sym (supports-part (c .before .before .before .before .before .before .before .before .before .before .before .before .before))
 
@@ -40,15 +31,6 @@ write-supports-requires : tie.Need-write-supports-requires
 write-supports-requires c κs =
     let s = c .before .before .before .before .before .before .before .before .before .before .before .before .before in
     (s .pre .0, supports-part s)
-
-same-length : tie.Need-same-length
-same-length c = search needs
-
-same-length-2 : tie.Need-same-length-2
-same-length-2 c = search needs
-
-same-length-3 : tie.Need-same-length-3
-same-length-3 c = search needs
 
 returns : tie.Need-returns
 returns c =
@@ -64,14 +46,14 @@ pub write-tables-spec : {M : Type 1} → statement M
 write-tables-spec =
     tie.close
     (tie.spec
-    slice-relend-prefix-write-labels
+    (λ c. search needs)
     slice-aggregate-write-labels
     write-labels-requires
-    copy-requires
-    slice-relend-prefix-write-supports
+    (λ c κs. search needs)
+    (λ c. search needs)
     slice-aggregate-write-supports
     write-supports-requires
-    same-length
-    same-length-2
-    same-length-3
+    (λ c. search needs)
+    (λ c. search needs)
+    (λ c. search needs)
     returns)

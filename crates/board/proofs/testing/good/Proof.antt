@@ -20,9 +20,6 @@ returns c = sym (no-low _ _ (c .if1 .taken))
 returns-2 : tie.Need-returns-2
 returns-2 c = sym (no-high _ _ (c .before .if1 .left) (c .if2 .taken))
 
-rows-lent-requires : tie.Need-rows-lent-requires
-rows-lent-requires c κs = search needs
-
 returns-3 : tie.Need-returns-3
 returns-3 c =
     let w = c .before in
@@ -36,12 +33,6 @@ returns-4 c =
     let e = c .before .before in
     let i = e .before .before in
     sym (no-sound _ _ (i .before .if1 .left) (i .if2 .left) (lent e) (sym (c .before .rows-sound .ensures) ∙ not-true _ (c .if4 .taken)))
-
-mul-held-beyond : tie.Need-mul-held-beyond
-mul-held-beyond c = search needs
-
-held-beyond-requires : tie.Need-held-beyond-requires
-held-beyond-requires c κs = search needs
 
 returns-5 : tie.Need-returns-5
 returns-5 c =
@@ -57,10 +48,10 @@ good-spec =
     (tie.spec
     returns
     returns-2
-    rows-lent-requires
+    (λ c κs. search needs)
     returns-3
     rows-sound-requires
     returns-4
-    mul-held-beyond
-    held-beyond-requires
+    (λ c. search needs)
+    (λ c κs. search needs)
     returns-5)

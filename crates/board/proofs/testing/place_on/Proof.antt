@@ -20,15 +20,9 @@ good c = sym (c .before .good2 .ensures) ∙ not-false _ (c .if1 .left)
 in-range : (c : tie.Else2) → inRange (c .before .before .before .before .args .board .symbols) (c .before .before .before .before .args .l) ≡ true
 in-range c = range-is (c .before .before .before .before .fits .l) _ _ (c .before .in-range .ensures) ∙ not-false _ (c .if2 .left)
 
-good-requires : tie.Need-good-requires
-good-requires c κs = search needs
-
 returns : tie.Need-returns
 unfolding placed
 returns c = rw (sym (c .before .good2 .ensures) ∙ not-true _ (c .if1 .taken))
-
-in-range-requires : tie.Need-in-range-requires
-in-range-requires c κs = search needs
 
 returns-2 : tie.Need-returns-2
 unfolding placed
@@ -54,4 +48,4 @@ returns-3 c =
 pub place-on-spec : {M : Type 1} → statement M
 place-on-spec =
     tie.close
-    (tie.spec good-requires returns in-range-requires returns-2 place-requires returns-3)
+    (tie.spec (λ c κs. search needs) returns (λ c κs. search needs) returns-2 place-requires returns-3)

@@ -1,201 +1,187 @@
 -- `naming::mark` meets its contract. The measure is the depth left.
-use Prim.Native.Nat.{ℕ, _<_}
+use Prim.Native.Nat.{ℕ, _+_, _-_, _<_, _≤_}
+use mathlib.Core.Path.{_≡_, sym, _∙_}
 use borrow.Author.Needs.{needs}
 use native.Mathlib.Omega.{arith}
 use lib.ListN.{length}
-use Rattle.formula.proofs.Marking.{leaves-symbol, leaves-not, leaves-two, leaves-unknown}
-use Rattle.formula.proofs.Parts.{onward-length}
-use Rattle.formula.proofs.Walk.{deep, long, number-there, not-well, first-well, second-well, first-within, both-within}
-use borrow.Fn.Kinds.{In}
+use borrow.Fn.Kinds.{In, Out}
 use borrow.Fn.PlainCycle.{Measures, is, falls, and}
+use Rattle.formula.specs.declared.reading.Kind.{Kind}
+use Rattle.formula.specs.declared.reading.Kind.the-variants.{Symbol, Not, Two}
+use Rattle.formula.proofs.Marking.{leaves-symbol, leaves-not, leaves-two}
+use Rattle.formula.proofs.Parts.{onward-length}
+use Rattle.formula.proofs.Walk.{Walk, deep, long, number-there, no-unknown, not-well, first-well, second-well, first-within, both-within}
 use Rattle.formula.proofs.naming.mark.Reads as mark
-use Rattle.formula.proofs.naming.mark.Kinds as mark-kinds
-use Rattle.formula.proofs.naming.+mark.Lts-mark as mark-lts
-use Rattle.formula.proofs.reading.kind_of.Reads as kind-of-reads
+use Rattle.formula.proofs.naming.mark.Kinds as kinds
+use Rattle.formula.proofs.naming.+mark.Lts-mark as lts
+use Rattle.formula.proofs.reading.kind_of.Reads as kind-of
 use Rattle.formula.proofs.naming.+mark.{statement}
 use Rattle.formula.proofs.naming.+mark.Tie.{close}
 
-abbrev μ-mark : Measures 2 mark-kinds.ps ℕ
-μ-mark κs a = a .1 .0
+abbrev μ : Measures 2 kinds.ps ℕ
+μ κs a = a .1 .0
 
-abbrev mark-at : ℕ → In 2 mark-kinds.ps
-mark-at t = and 2 mark-kinds.ps (is 2 mark-kinds.ps μ-mark t) mark.Pre
+abbrev at : ℕ → In 2 kinds.ps
+at t = and 2 kinds.ps (is 2 kinds.ps μ t) mark.Pre
 
-abbrev mark-below : ℕ → In 2 mark-kinds.ps
-mark-below t = and 2 mark-kinds.ps (falls 2 mark-kinds.ps _<_ μ-mark t) mark.Pre
+abbrev below : ℕ → In 2 kinds.ps
+below t = and 2 kinds.ps (falls 2 kinds.ps _<_ μ t) mark.Pre
 
--- what the calls in `mark` are handed and give
-abbrev calls : ℕ → mark-lts.Claims
-calls t = (
-  kind-of-reads.Asked,
-  kind-of-reads.Learnt,
-  mark-below t,
-  mark.Post,
-)
+-- what the calls are handed and give
+abbrev calls : ℕ → lts.Claims
+calls t = (kind-of.Asked, kind-of.Learnt, below t, mark.Post)
 
--- the place where `mark` begins
-abbrev Begun : ℕ → Type 0
-Begun t = mark-lts.Start (calls t) (mark-at t) mark.Post
+module _ (t : ℕ) where
+  -- a point of `mark`, or a need at one, where the depth is t
+  abbrev Here : (lts.Claims → In 2 kinds.ps → Out 2 kinds.ps kinds.r → Type 0) → Type 0
+  Here point = point (calls t) (at t) mark.Post
 
-begun-deep : (t : ℕ) (s : Begun t) → 0 < s .args .depth
-begun-deep t s = deep (s .args .depth) (s .args .bytes .now) (s .pre .1)
+  some-depth : (s : Here lts.Start) → 0 < s .args .depth
+  some-depth s = deep (s .args .depth) (s .args .bytes .now) (s .pre .1)
 
-begun-long : (t : ℕ) (s : Begun t) → 0 < length (s .args .bytes .now)
-begun-long t s = long (s .args .depth) (s .args .bytes .now) (s .pre .1)
+  some-byte : (s : Here lts.Start) → 0 < length (s .args .bytes .now)
+  some-byte s = long (s .args .depth) (s .args .bytes .now) (s .pre .1)
 
-mark-sub-body : (t : ℕ) → mark-lts.Need-sub-body (calls t) (mark-at t) mark.Post
-mark-sub-body t c = begun-long t (c .before)
+  less : (s : Here lts.Start) → s .args .depth - 1 < t
+  less s = omega (arith, some-depth s, s .pre .0)
 
-mark-part-body-start : (t : ℕ) → mark-lts.Need-part-body-start (calls t) (mark-at t) mark.Post
-mark-part-body-start t c = begun-long t (c .before)
+  -- ---- the kind is known
 
-mark-part-body-end : (t : ℕ) → mark-lts.Need-part-body-end (calls t) (mark-at t) mark.Post
-mark-part-body-end t c = search needs
+  abbrev start : Here lts.After-kind-of → Here lts.Start
+  start k = k .before .before .before .before
 
-mark-shared-slice-read-kind-of : (t : ℕ) → mark-lts.Need-shared-slice-read-kind-of (calls t) (mark-at t) mark.Post
-mark-shared-slice-read-kind-of t c = begun-long t (c .before .before .before)
+  abbrev WalkAt : Here lts.After-kind-of → Kind → Type 0
+  WalkAt k kind = Walk (start k .args .depth) (start k .args .bytes .now) kind
 
-mark-kind-of-requires : (t : ℕ) → mark-lts.Need-kind-of-requires (calls t) (mark-at t) mark.Post
-mark-kind-of-requires t c κs = tt
+  walk : (k : Here lts.After-kind-of) {kind : Kind} → k .kind-of .result ≡ kind → WalkAt k kind
+  walk k e = record { well = start k .pre .1; says = sym (k .kind-of .ensures) ∙ e }
 
-mark-enum-told : (t : ℕ) → mark-lts.Need-enum-told (calls t) (mark-at t) mark.Post
-mark-enum-told t c = search needs
+  symbol : (c : Here lts.After-enum-told) → WalkAt (c .before .before) Symbol
+  symbol c = walk (c .before .before) (c .enum-told .given .1)
 
-mark-shared-slice-read-symbol : (t : ℕ) → mark-lts.Need-shared-slice-read-symbol (calls t) (mark-at t) mark.Post
-mark-shared-slice-read-symbol t c =
-    let s = c .before .before .before .before .before .before .before in
-    let kind = c .before .before .before .kind-of in
-    number-there (s .args .depth) (s .args .bytes .now) (s .pre .1) (kind .result) (kind .ensures) (c .before .enum-told .given .1)
+  negation : (c : Here lts.After-enum-told2) → WalkAt (c .before .before) Not
+  negation c = walk (c .before .before) (c .enum-told2 .given .1)
 
-mark-cast-symbol : (t : ℕ) → mark-lts.Need-cast-symbol (calls t) (mark-at t) mark.Post
-mark-cast-symbol t c = omega (arith, c .shared-slice-known3 .given 0)
+  join : (c : Here lts.After-enum-told3) → WalkAt (c .before .before) (Two (c .enum-told3 .given .0 .0))
+  join c = walk (c .before .before) (c .enum-told3 .given .1)
 
-mark-element-write-marks : (t : ℕ) → mark-lts.Need-element-write-marks (calls t) (mark-at t) mark.Post
-mark-element-write-marks t c = omega (arith, c .shared-slice-known3 .given 0)
+  -- ---- the first of two operands is marked
 
-mark-enum-told-2 : (t : ℕ) → mark-lts.Need-enum-told-2 (calls t) (mark-at t) mark.Post
-mark-enum-told-2 t c = search needs
+  abbrev begun : Here lts.After-mark2 → Here lts.Start
+  begun f = start (f .before .before .before .before)
 
-mark-sub-mark : (t : ℕ) → mark-lts.Need-sub-mark (calls t) (mark-at t) mark.Post
-mark-sub-mark t c = begun-deep t (c .before .before .before .before .before .before)
+  first-used : (f : Here lts.After-mark2) → 1 + f .mark2 .result ≤ length (begun f .args .bytes .now)
+  first-used f = first-within (join (f .before .before)) (f .mark2 .ensures .0)
 
-mark-mark-requires : (t : ℕ) → mark-lts.Need-mark-requires (calls t) (mark-at t) mark.Post
-mark-mark-requires t c κs =
-    let s = c .before .before .before .before .before .before .before in
-    let kind = c .before .before .before .kind-of in
-    (omega (arith, begun-deep t s, s .pre .0), not-well (s .args .depth) (s .args .bytes .now) (s .pre .1) (kind .result) (kind .ensures) (c .before .enum-told2 .given .1))
+  -- ---- the needs
 
-mark-add-result : (t : ℕ) → mark-lts.Need-add-result (calls t) (mark-at t) mark.Post
-mark-add-result t c =
-    let s = c .before .before .before .before .before .before .before .before in
-    omega (arith, first-within (s .args .depth) (s .args .bytes .now) (s .pre .1) (c .mark .result) (c .mark .ensures .0), s .good .0 .1)
+  sub-body : Here lts.Need-sub-body
+  sub-body c = some-byte (c .before)
 
-mark-enum-told-3 : (t : ℕ) → mark-lts.Need-enum-told-3 (calls t) (mark-at t) mark.Post
-mark-enum-told-3 t c = search needs
+  part-body-start : Here lts.Need-part-body-start
+  part-body-start c = sub-body c
 
-mark-sub-mark-2 : (t : ℕ) → mark-lts.Need-sub-mark-2 (calls t) (mark-at t) mark.Post
-mark-sub-mark-2 t c = begun-deep t (c .before .before .before .before .before .before)
+  shared-slice-read-kind-of : Here lts.Need-shared-slice-read-kind-of
+  shared-slice-read-kind-of c = some-byte (c .before .before .before)
 
-mark-mark-requires-2 : (t : ℕ) → mark-lts.Need-mark-requires-2 (calls t) (mark-at t) mark.Post
-mark-mark-requires-2 t c κs =
-    let s = c .before .before .before .before .before .before .before in
-    let kind = c .before .before .before .kind-of in
-    let two = c .before .enum-told3 .given in
-    (omega (arith, begun-deep t s, s .pre .0), first-well (s .args .depth) (s .args .bytes .now) (s .pre .1) (kind .result) (kind .ensures) (two .0 .0) (two .1))
+  kind-of-requires : Here lts.Need-kind-of-requires
+  kind-of-requires c κs = tt
 
-mark-sub-mark-3 : (t : ℕ) → mark-lts.Need-sub-mark-3 (calls t) (mark-at t) mark.Post
-mark-sub-mark-3 t c =
-    let s = c .before .before .before .before .before .before .before .before in
-    omega (arith, first-within (s .args .depth) (s .args .bytes .now) (s .pre .1) (c .mark2 .result) (c .mark2 .ensures .0), onward-length 1 (s .args .bytes .now))
+  shared-slice-read-symbol : Here lts.Need-shared-slice-read-symbol
+  shared-slice-read-symbol c = number-there (symbol (c .before))
 
-mark-part-mark-start : (t : ℕ) → mark-lts.Need-part-mark-start (calls t) (mark-at t) mark.Post
-mark-part-mark-start t c =
-    let s = c .before .before .before .before .before .before .before .before in
-    omega (arith, first-within (s .args .depth) (s .args .bytes .now) (s .pre .1) (c .mark2 .result) (c .mark2 .ensures .0), onward-length 1 (s .args .bytes .now))
+  cast-symbol : Here lts.Need-cast-symbol
+  cast-symbol c = omega (arith, c .shared-slice-known3 .given 0)
 
-mark-part-mark-end : (t : ℕ) → mark-lts.Need-part-mark-end (calls t) (mark-at t) mark.Post
-mark-part-mark-end t c = search needs
+  element-write-marks : Here lts.Need-element-write-marks
+  element-write-marks c = omega (arith, c .shared-slice-known3 .given 0)
 
-mark-sub-mark-4 : (t : ℕ) → mark-lts.Need-sub-mark-4 (calls t) (mark-at t) mark.Post
-mark-sub-mark-4 t c = begun-deep t (c .before .before .before .before .before .before .before .before .before)
+  sub-mark : Here lts.Need-sub-mark
+  sub-mark c = some-depth (start (c .before .before))
 
-mark-mark-requires-3 : (t : ℕ) → mark-lts.Need-mark-requires-3 (calls t) (mark-at t) mark.Post
-mark-mark-requires-3 t c κs =
-    let s = c .before .before .before .before .before .before .before .before .before .before in
-    let kind = c .before .before .before .before .before .before .kind-of in
-    let two = c .before .before .before .before .enum-told3 .given in
-    let first = c .before .before .mark2 in
-    (omega (arith, begun-deep t s, s .pre .0), second-well (s .args .depth) (s .args .bytes .now) (s .pre .1) (kind .result) (kind .ensures) (two .0 .0) (two .1) (first .result) (first .ensures .0))
+  mark-requires : Here lts.Need-mark-requires
+  mark-requires c κs = (less (start (c .before .before .before)), not-well (negation (c .before)))
 
-mark-add-result-2 : (t : ℕ) → mark-lts.Need-add-result-2 (calls t) (mark-at t) mark.Post
-mark-add-result-2 t c =
-    let s = c .before .before .before .before .before .before .before .before .before .before .before in
-    omega (arith, first-within (s .args .depth) (s .args .bytes .now) (s .pre .1) (c .before .before .before .mark2 .result) (c .before .before .before .mark2 .ensures .0), s .good .0 .1)
+  add-result : Here lts.Need-add-result
+  add-result c =
+      let n = c .before .before in
+      omega (arith, first-within (negation n) (c .mark .ensures .0), start (n .before .before) .good .0 .1)
 
-mark-add-result-3 : (t : ℕ) → mark-lts.Need-add-result-3 (calls t) (mark-at t) mark.Post
-mark-add-result-3 t c =
-    let s = c .before .before .before .before .before .before .before .before .before .before .before in
-    let first = c .before .before .before .mark2 in
-    omega (arith, both-within (s .args .depth) (s .args .bytes .now) (s .pre .1) (first .result) (first .ensures .0) (c .mark3 .result) (c .mark3 .ensures .0), s .good .0 .1)
+  sub-mark-2 : Here lts.Need-sub-mark-2
+  sub-mark-2 c = some-depth (start (c .before .before))
 
-mark-enum-told-4 : (t : ℕ) → mark-lts.Need-enum-told-4 (calls t) (mark-at t) mark.Post
-mark-enum-told-4 t c = search needs
+  mark-requires-2 : Here lts.Need-mark-requires-2
+  mark-requires-2 c κs = (less (start (c .before .before .before)), first-well (join (c .before)))
 
-mark-returns : (t : ℕ) → mark-lts.Need-returns (calls t) (mark-at t) mark.Post
-mark-returns t c =
-    let s = c .before .before .before .before .before .before .before in
-    let kind = c .before .before .before .kind-of in
-    leaves-symbol (s .args .depth) (s .args .bytes .now) (s .pre .1) (kind .result) (kind .ensures) (s .args .marks .now) (c .before .enum-told .given .1)
+  sub-mark-3 : Here lts.Need-sub-mark-3
+  sub-mark-3 c = omega (arith, first-used c, onward-length 1 (begun c .args .bytes .now))
 
-mark-returns-2 : (t : ℕ) → mark-lts.Need-returns-2 (calls t) (mark-at t) mark.Post
-mark-returns-2 t c =
-    let s = c .before .before .before .before .before .before .before .before in
-    let kind = c .before .before .before .before .kind-of in
-    leaves-not (s .args .depth) (s .args .bytes .now) (s .pre .1) (kind .result) (kind .ensures) (s .args .marks .now) (c .mark .result) (c .mark .last .1 .1 .0) (c .mark .ensures) (c .before .before .enum-told2 .given .1)
+  part-mark-start : Here lts.Need-part-mark-start
+  part-mark-start c = sub-mark-3 c
 
-mark-returns-3 : (t : ℕ) → mark-lts.Need-returns-3 (calls t) (mark-at t) mark.Post
-mark-returns-3 t c =
-    let s = c .before .before .before .before .before .before .before .before .before .before .before in
-    let kind = c .before .before .before .before .before .before .before .kind-of in
-    let two = c .before .before .before .before .before .enum-told3 .given in
-    let first = c .before .before .before .mark2 in
-    leaves-two (s .args .depth) (s .args .bytes .now) (s .pre .1) (kind .result) (kind .ensures) (s .args .marks .now) (first .result) (first .last .1 .1 .0) (first .ensures) (two .0 .0) (two .1) (c .mark3 .result) (c .mark3 .last .1 .1 .0) (c .mark3 .ensures)
+  sub-mark-4 : Here lts.Need-sub-mark-4
+  sub-mark-4 c = some-depth (begun (c .before))
 
-mark-returns-4 : (t : ℕ) → mark-lts.Need-returns-4 (calls t) (mark-at t) mark.Post
-mark-returns-4 t c =
-    let s = c .before .before .before .before .before .before in
-    let kind = c .before .before .kind-of in
-    leaves-unknown (s .args .depth) (s .args .bytes .now) (s .pre .1) (kind .result) (kind .ensures) (s .args .marks .now) (c .enum-told4 .given .1)
+  mark-requires-3 : Here lts.Need-mark-requires-3
+  mark-requires-3 c κs =
+      let f = c .before .before in
+      (less (begun f), second-well (join (f .before .before)) (f .mark2 .ensures .0))
+
+  add-result-2 : Here lts.Need-add-result-2
+  add-result-2 c =
+      let f = c .before .before .before in
+      omega (arith, first-used f, begun f .good .0 .1)
+
+  add-result-3 : Here lts.Need-add-result-3
+  add-result-3 c =
+      let f = c .before .before .before in
+      omega (arith, both-within (join (f .before .before)) (f .mark2 .ensures .0) (c .mark3 .ensures .0), begun f .good .0 .1)
+
+  returns : Here lts.Need-returns
+  returns c = leaves-symbol (start (c .before .before .before) .args .marks .now) (symbol (c .before))
+
+  returns-2 : Here lts.Need-returns-2
+  returns-2 c =
+      let n = c .before .before in
+      leaves-not (start (n .before .before) .args .marks .now) (c .mark .ensures) (negation n)
+
+  returns-3 : Here lts.Need-returns-3
+  returns-3 c =
+      let f = c .before .before .before in
+      leaves-two (begun f .args .marks .now) (f .mark2 .ensures) (join (f .before .before)) (c .mark3 .ensures)
+
+  returns-4 : Here lts.Need-returns-4
+  returns-4 c = no-unknown (walk (c .before .before) (c .enum-told4 .given .1))
 
 pub +mark-spec : {M : Type 1} → statement M
-+mark-spec = close μ-mark λ t. mark-lts.spec (calls t)
-    (mark-at t)
++mark-spec = close μ λ t. lts.spec (calls t)
+    (at t)
     mark.Post
-    (mark-sub-body t)
-    (mark-part-body-start t)
-    (mark-part-body-end t)
-    (mark-shared-slice-read-kind-of t)
-    (mark-kind-of-requires t)
-    (mark-enum-told t)
-    (mark-shared-slice-read-symbol t)
-    (mark-cast-symbol t)
-    (mark-element-write-marks t)
-    (mark-enum-told-2 t)
-    (mark-sub-mark t)
-    (mark-mark-requires t)
-    (mark-add-result t)
-    (mark-enum-told-3 t)
-    (mark-sub-mark-2 t)
-    (mark-mark-requires-2 t)
-    (mark-sub-mark-3 t)
-    (mark-part-mark-start t)
-    (mark-part-mark-end t)
-    (mark-sub-mark-4 t)
-    (mark-mark-requires-3 t)
-    (mark-add-result-2 t)
-    (mark-add-result-3 t)
-    (mark-enum-told-4 t)
-    (mark-returns t)
-    (mark-returns-2 t)
-    (mark-returns-3 t)
-    (mark-returns-4 t)
+    (sub-body t)
+    (part-body-start t)
+    (λ c. search needs)
+    (shared-slice-read-kind-of t)
+    (kind-of-requires t)
+    (λ c. search needs)
+    (shared-slice-read-symbol t)
+    (cast-symbol t)
+    (element-write-marks t)
+    (λ c. search needs)
+    (sub-mark t)
+    (mark-requires t)
+    (add-result t)
+    (λ c. search needs)
+    (sub-mark-2 t)
+    (mark-requires-2 t)
+    (sub-mark-3 t)
+    (part-mark-start t)
+    (λ c. search needs)
+    (sub-mark-4 t)
+    (mark-requires-3 t)
+    (add-result-2 t)
+    (add-result-3 t)
+    (λ c. search needs)
+    (returns t)
+    (returns-2 t)
+    (returns-3 t)
+    (returns-4 t)

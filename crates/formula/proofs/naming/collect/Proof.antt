@@ -19,26 +19,17 @@ abbrev μ-loop : tie.MeasureT-loop
 loop-holds : tie.Need-loop-holds Inv-loop μ-loop
 loop-holds c = (omega arith, gathered-none (c .args .marks .now))
 
-element-copy-out-if1 : tie.Need-element-copy-out-if1 Inv-loop μ-loop
-element-copy-out-if1 c = search needs
-
 returns : tie.Need-returns Inv-loop μ-loop
 returns c =
     let s = c .before .before .before .before in
     let l = s .loop in
     gathered-full (s .before .args .marks .now) (l .list) (l .count) (l .symbol) (l .inv .1) (s .before .args .symbols) (c .before .if1 .taken) (c .if2 .taken) (c .before .before .before .loop-test .taken)
 
-cast-list : tie.Need-cast-list Inv-loop μ-loop
-cast-list c = search needs
-
 array-write-list : tie.Need-array-write-list Inv-loop μ-loop
 array-write-list c = omega (arith, c .before .before .before .before .loop .inv .1 .few)
 
 add-count : tie.Need-add-count Inv-loop μ-loop
 add-count c = omega (arith, c .before .before .before .before .loop .inv .1 .few)
-
-add-symbol : tie.Need-add-symbol Inv-loop μ-loop
-add-symbol c = search needs
 
 -- what a turn leaves gathered
 gathered : (c : tie.Joined1 Inv-loop μ-loop)
@@ -52,9 +43,6 @@ gathered c =
     (λ w. subst₂ (λ (l : List ℕ) (n : ℕ). Gathered marks l n (s .symbol + 1)) (sym (w .1)) (sym (w .2))
     (gathered-same marks (s .list) (s .count) (s .symbol) (s .inv .1) (w .0 .left)))
     (c .if1 .came)
-
-loop-less : tie.Need-loop-less Inv-loop μ-loop
-loop-less c = search needs
 
 loop-again : tie.Need-loop-again Inv-loop μ-loop
 loop-again c = (omega arith, gathered (c .before))
@@ -76,13 +64,13 @@ collect-spec =
     Inv-loop
     μ-loop
     loop-holds
-    element-copy-out-if1
+    (λ c. search needs)
     returns
-    cast-list
+    (λ c. search needs)
     array-write-list
     add-count
-    add-symbol
-    loop-less
+    (λ c. search needs)
+    (λ c. search needs)
     loop-again
     returns-2
     returns-3)

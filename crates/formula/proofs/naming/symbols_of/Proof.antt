@@ -11,9 +11,6 @@ use Rattle.formula.proofs.naming.symbols_of.Tie as tie
 mark-requires : tie.Need-mark-requires
 mark-requires c κs = let s = c .before .before in wide-well (s .args .symbols) (s .pre .0) levels (s .args .bytes .now) (s .pre .1)
 
-collect-requires : tie.Need-collect-requires
-collect-requires c κs = search needs
-
 returns : tie.Need-returns
 returns c =
     let s = c .before .before .before .before .before in
@@ -24,4 +21,4 @@ returns c =
     ∙ ap (namesOf (s .args .symbols)) (sym (wide (s .args .symbols) (s .pre .0) levels bytes (s .pre .1)))
 
 pub symbols-of-spec : {M : Type 1} → statement M
-symbols-of-spec = tie.close (tie.spec mark-requires collect-requires returns)
+symbols-of-spec = tie.close (tie.spec mark-requires (λ c κs. search needs) returns)

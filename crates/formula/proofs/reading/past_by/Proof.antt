@@ -4,14 +4,8 @@ use native.Mathlib.Omega.{arith}
 use Rattle.formula.proofs.reading.past_by.Statement.{statement}
 use Rattle.formula.proofs.reading.past_by.Tie as tie
 
-enum-known-answer : tie.Need-enum-known-answer
-enum-known-answer c = search needs
-
 add-t7 : tie.Need-add-t7
 add-t7 c = omega (arith, rw (c .before .answer .given .1) at (c .before .before .before .pre))
-
-enum-known-answer-2 : tie.Need-enum-known-answer-2
-enum-known-answer-2 c = search needs
 
 add-t8 : tie.Need-add-t8
 add-t8 c = omega (arith, rw (c .before .answer2 .given .1) at (c .before .before .before .pre))
@@ -23,4 +17,4 @@ returns-2 : tie.Need-returns-2
 returns-2 c = rw (c .before .answer2 .given .1)
 
 pub past-by-spec : {M : Type 1} → statement M
-past-by-spec = tie.close (tie.spec enum-known-answer add-t7 enum-known-answer-2 add-t8 returns returns-2)
+past-by-spec = tie.close (tie.spec (λ c. search needs) add-t7 (λ c. search needs) add-t8 returns returns-2)

@@ -10,9 +10,6 @@ use Rattle.formula.proofs.reading.read_symbol.Tie as tie
 returns : tie.Need-returns
 returns c = sym (ap readOf (symbol-none (c .before .args .symbols) (c .before .args .body .now) (c .if1 .taken)))
 
-shared-slice-read-number : tie.Need-shared-slice-read-number
-shared-slice-read-number c = search needs
-
 cast-number : tie.Need-cast-number
 cast-number c = omega (arith, c .shared-slice-known .given 0)
 
@@ -33,4 +30,4 @@ returns-4 c =
 
 pub read-symbol-spec : {M : Type 1} → statement M
 read-symbol-spec =
-    tie.close (tie.spec returns shared-slice-read-number cast-number returns-2 returns-3 returns-4)
+    tie.close (tie.spec returns (λ c. search needs) cast-number returns-2 returns-3 returns-4)

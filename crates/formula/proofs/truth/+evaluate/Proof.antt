@@ -1,227 +1,209 @@
 -- `truth::evaluate` meets its contract. The measure is the depth left.
-use Prim.Native.Nat.{ℕ, _<_, _+_}
-use mathlib.Core.Path.{ap, _∙_}
+use Prim.Native.Nat.{ℕ, _+_, _-_, _<_, _≤_}
+use mathlib.Core.Path.{_≡_, sym, ap, _∙_}
 use mathlib.Core.Bool.{Bool}
 use borrow.Author.Needs.{needs}
 use native.Mathlib.Omega.{arith}
 use lib.ListN.{length}
-use Rattle.meaning.specs.Formulae.{look}
-use Rattle.formula.specs.Answers.{bits}
-use Rattle.formula.specs.declared.truth.Valued.{Valued}
-use Rattle.formula.proofs.Values.{means-symbol, means-not, means-two, means-unknown}
-use Rattle.formula.proofs.Parts.{onward-length}
-use Rattle.formula.proofs.Walk.{deep, long, number-there, not-well, first-well, second-well, first-within, both-within}
-use borrow.Fn.Kinds.{In}
+use borrow.Fn.Kinds.{In, Out}
 use borrow.Fn.PlainCycle.{Measures, is, falls, and}
+use Rattle.meaning.specs.Formulae.{look}
+use Rattle.formula.specs.Answers.{bits, usedOf}
+use Rattle.formula.specs.declared.reading.Kind.{Kind}
+use Rattle.formula.specs.declared.reading.Kind.the-variants.{Symbol, Not, Two}
+use Rattle.formula.specs.declared.truth.Valued.{Valued}
+use Rattle.formula.proofs.Values.{means-symbol, means-not, means-two}
+use Rattle.formula.proofs.Parts.{onward-length}
+use Rattle.formula.proofs.Parsing.{first}
+use Rattle.formula.proofs.Walk.{Walk, deep, long, number-there, no-unknown, not-well, first-well, second-well, first-within, both-within}
 use Rattle.formula.proofs.truth.evaluate.Reads as evaluate
-use Rattle.formula.proofs.truth.evaluate.Kinds as evaluate-kinds
-use Rattle.formula.proofs.truth.+evaluate.Lts-evaluate as evaluate-lts
-use Rattle.formula.proofs.truth.join_values.Reads as join-values-reads
-use Rattle.formula.proofs.reading.kind_of.Reads as kind-of-reads
-use Rattle.formula.proofs.truth.given.Reads as given-reads
+use Rattle.formula.proofs.truth.evaluate.Kinds as kinds
+use Rattle.formula.proofs.truth.+evaluate.Lts-evaluate as lts
+use Rattle.formula.proofs.truth.join_values.Reads as join-values
+use Rattle.formula.proofs.reading.kind_of.Reads as kind-of
+use Rattle.formula.proofs.truth.given.Reads as given
 use Rattle.formula.proofs.truth.+evaluate.{statement}
 use Rattle.formula.proofs.truth.+evaluate.Tie.{close}
 
-abbrev μ-evaluate : Measures 2 evaluate-kinds.ps ℕ
-μ-evaluate κs a = a .1 .0
+abbrev μ : Measures 2 kinds.ps ℕ
+μ κs a = a .1 .0
 
-abbrev evaluate-at : ℕ → In 2 evaluate-kinds.ps
-evaluate-at t = and 2 evaluate-kinds.ps (is 2 evaluate-kinds.ps μ-evaluate t) evaluate.Pre
+abbrev at : ℕ → In 2 kinds.ps
+at t = and 2 kinds.ps (is 2 kinds.ps μ t) evaluate.Pre
 
-abbrev evaluate-below : ℕ → In 2 evaluate-kinds.ps
-evaluate-below t = and 2 evaluate-kinds.ps (falls 2 evaluate-kinds.ps _<_ μ-evaluate t) evaluate.Pre
+abbrev below : ℕ → In 2 kinds.ps
+below t = and 2 kinds.ps (falls 2 kinds.ps _<_ μ t) evaluate.Pre
 
--- what the calls in `evaluate` are handed and give
-abbrev calls : ℕ → evaluate-lts.Claims
-calls t = (
-  kind-of-reads.Asked,
-  kind-of-reads.Learnt,
-  given-reads.Asked,
-  given-reads.Learnt,
-  evaluate-below t,
-  evaluate.Post,
-  join-values-reads.Asked,
-  join-values-reads.Learnt,
-)
-
--- the place where `evaluate` begins
-abbrev Begun : ℕ → Type 0
-Begun t = evaluate-lts.Start (calls t) (evaluate-at t) evaluate.Post
+-- what the calls are handed and give
+abbrev calls : ℕ → lts.Claims
+calls t = (kind-of.Asked, kind-of.Learnt, given.Asked, given.Learnt, below t, evaluate.Post, join-values.Asked, join-values.Learnt)
 
 abbrev used : Valued → ℕ
 used v = v .used
 
--- the assignment that `evaluate` is given
-abbrev assigned : (t : ℕ) → Begun t → ℕ → Bool
-assigned t s = look (s .args .names .now) (bits (length (s .args .names .now)) (s .args .assignment))
+module _ (t : ℕ) where
+  -- a point of `evaluate`, or a need at one, where the depth is t
+  abbrev Here : (lts.Claims → In 2 kinds.ps → Out 2 kinds.ps kinds.r → Type 0) → Type 0
+  Here point = point (calls t) (at t) evaluate.Post
 
-begun-deep : (t : ℕ) (s : Begun t) → 0 < s .args .depth
-begun-deep t s = deep (s .args .depth) (s .args .bytes .now) (s .pre .1 .0)
+  -- the assignment that `evaluate` is given
+  abbrev assigned : Here lts.Start → ℕ → Bool
+  assigned s = look (s .args .names .now) (bits (length (s .args .names .now)) (s .args .assignment))
 
-begun-long : (t : ℕ) (s : Begun t) → 0 < length (s .args .bytes .now)
-begun-long t s = long (s .args .depth) (s .args .bytes .now) (s .pre .1 .0)
+  some-depth : (s : Here lts.Start) → 0 < s .args .depth
+  some-depth s = deep (s .args .depth) (s .args .bytes .now) (s .pre .1 .0)
 
-evaluate-sub-body : (t : ℕ) → evaluate-lts.Need-sub-body (calls t) (evaluate-at t) evaluate.Post
-evaluate-sub-body t c = begun-long t (c .before .before)
+  some-byte : (s : Here lts.Start) → 0 < length (s .args .bytes .now)
+  some-byte s = long (s .args .depth) (s .args .bytes .now) (s .pre .1 .0)
 
-evaluate-part-body-start : (t : ℕ) → evaluate-lts.Need-part-body-start (calls t) (evaluate-at t) evaluate.Post
-evaluate-part-body-start t c = begun-long t (c .before .before)
+  less : (s : Here lts.Start) → s .args .depth - 1 < t
+  less s = omega (arith, some-depth s, s .pre .0)
 
-evaluate-part-body-end : (t : ℕ) → evaluate-lts.Need-part-body-end (calls t) (evaluate-at t) evaluate.Post
-evaluate-part-body-end t c = search needs
+  -- ---- the kind is known
 
-evaluate-shared-slice-read-kind-of : (t : ℕ) → evaluate-lts.Need-shared-slice-read-kind-of (calls t) (evaluate-at t) evaluate.Post
-evaluate-shared-slice-read-kind-of t c = begun-long t (c .before .before .before .before)
+  abbrev start : Here lts.After-kind-of → Here lts.Start
+  start k = k .before .before .before .before .before
 
-evaluate-kind-of-requires : (t : ℕ) → evaluate-lts.Need-kind-of-requires (calls t) (evaluate-at t) evaluate.Post
-evaluate-kind-of-requires t c κs = tt
+  abbrev WalkAt : Here lts.After-kind-of → Kind → Type 0
+  WalkAt k kind = Walk (start k .args .depth) (start k .args .bytes .now) kind
 
-evaluate-enum-told : (t : ℕ) → evaluate-lts.Need-enum-told (calls t) (evaluate-at t) evaluate.Post
-evaluate-enum-told t c = search needs
+  walk : (k : Here lts.After-kind-of) {kind : Kind} → k .kind-of .result ≡ kind → WalkAt k kind
+  walk k e = record { well = start k .pre .1 .0; says = sym (k .kind-of .ensures) ∙ e }
 
-evaluate-shared-slice-read-given : (t : ℕ) → evaluate-lts.Need-shared-slice-read-given (calls t) (evaluate-at t) evaluate.Post
-evaluate-shared-slice-read-given t c =
-    let s = c .before .before .before .before .before .before .before .before in
-    let kind = c .before .before .before .kind-of in
-    number-there (s .args .depth) (s .args .bytes .now) (s .pre .1 .0) (kind .result) (kind .ensures) (c .before .enum-told .given .1)
+  symbol : (c : Here lts.After-enum-told) → WalkAt (c .before .before) Symbol
+  symbol c = walk (c .before .before) (c .enum-told .given .1)
 
-evaluate-given-requires : (t : ℕ) → evaluate-lts.Need-given-requires (calls t) (evaluate-at t) evaluate.Post
-evaluate-given-requires t c κs = c .before .before .before .before .before .before .before .before .pre .1 .1
+  negation : (c : Here lts.After-enum-told2) → WalkAt (c .before .before) Not
+  negation c = walk (c .before .before) (c .enum-told2 .given .1)
 
-evaluate-enum-told-2 : (t : ℕ) → evaluate-lts.Need-enum-told-2 (calls t) (evaluate-at t) evaluate.Post
-evaluate-enum-told-2 t c = search needs
+  join : (c : Here lts.After-join) → WalkAt (c .before .before) (Two (c .join .given .0 .0))
+  join c = walk (c .before .before) (c .join .given .1)
 
-evaluate-sub-evaluate : (t : ℕ) → evaluate-lts.Need-sub-evaluate (calls t) (evaluate-at t) evaluate.Post
-evaluate-sub-evaluate t c = begun-deep t (c .before .before .before .before .before .before .before)
+  -- ---- the first of two operands has its value
 
-evaluate-evaluate-requires : (t : ℕ) → evaluate-lts.Need-evaluate-requires (calls t) (evaluate-at t) evaluate.Post
-evaluate-evaluate-requires t c κs =
-    let s = c .before .before .before .before .before .before .before in
-    let kind = c .before .before .kind-of in
-    (omega (arith, begun-deep t s, s .pre .0), (not-well (s .args .depth) (s .args .bytes .now) (s .pre .1 .0) (kind .result) (kind .ensures) (c .enum-told2 .given .1), s .pre .1 .1))
+  abbrev begun : Here lts.After-evaluate2 → Here lts.Start
+  begun f = start (f .before .before .before .before)
 
-evaluate-add-t21 : (t : ℕ) → evaluate-lts.Need-add-t21 (calls t) (evaluate-at t) evaluate.Post
-evaluate-add-t21 t c =
-    let s = c .before .before .before .before .before .before .before .before .before .before in
-    omega (arith, first-within (s .args .depth) (s .args .bytes .now) (s .pre .1 .0) (c .before .before .evaluate .result .used) (ap used (c .before .before .evaluate .ensures)), s .good .0 .1)
+  took : (f : Here lts.After-evaluate2) → f .evaluate2 .result .used ≡ usedOf (first 255 (begun f .args .depth) (begun f .args .bytes .now))
+  took f = ap used (f .evaluate2 .ensures)
 
-evaluate-enum-known-join : (t : ℕ) → evaluate-lts.Need-enum-known-join (calls t) (evaluate-at t) evaluate.Post
-evaluate-enum-known-join t c = search needs
+  first-used : (f : Here lts.After-evaluate2) → 1 + f .evaluate2 .result .used ≤ length (begun f .args .bytes .now)
+  first-used f = first-within (join (f .before .before)) (took f)
 
-evaluate-sub-evaluate-2 : (t : ℕ) → evaluate-lts.Need-sub-evaluate-2 (calls t) (evaluate-at t) evaluate.Post
-evaluate-sub-evaluate-2 t c = begun-deep t (c .before .before .before .before .before .before .before .before)
+  -- ---- the needs
 
-evaluate-evaluate-requires-2 : (t : ℕ) → evaluate-lts.Need-evaluate-requires-2 (calls t) (evaluate-at t) evaluate.Post
-evaluate-evaluate-requires-2 t c κs =
-    let s = c .before .before .before .before .before .before .before .before in
-    let kind = c .before .before .before .kind-of in
-    let two = c .before .join .given in
-    (omega (arith, begun-deep t s, s .pre .0), (first-well (s .args .depth) (s .args .bytes .now) (s .pre .1 .0) (kind .result) (kind .ensures) (two .0 .0) (two .1), s .pre .1 .1))
+  sub-body : Here lts.Need-sub-body
+  sub-body c = some-byte (c .before .before)
 
-evaluate-sub-evaluate-3 : (t : ℕ) → evaluate-lts.Need-sub-evaluate-3 (calls t) (evaluate-at t) evaluate.Post
-evaluate-sub-evaluate-3 t c =
-    let s = c .before .before .before .before .before .before .before .before .before in
-    omega (arith, first-within (s .args .depth) (s .args .bytes .now) (s .pre .1 .0) (c .evaluate2 .result .used) (ap used (c .evaluate2 .ensures)), onward-length 1 (s .args .bytes .now))
+  part-body-start : Here lts.Need-part-body-start
+  part-body-start c = sub-body c
 
-evaluate-part-evaluate-start : (t : ℕ) → evaluate-lts.Need-part-evaluate-start (calls t) (evaluate-at t) evaluate.Post
-evaluate-part-evaluate-start t c =
-    let s = c .before .before .before .before .before .before .before .before .before in
-    omega (arith, first-within (s .args .depth) (s .args .bytes .now) (s .pre .1 .0) (c .evaluate2 .result .used) (ap used (c .evaluate2 .ensures)), onward-length 1 (s .args .bytes .now))
+  shared-slice-read-kind-of : Here lts.Need-shared-slice-read-kind-of
+  shared-slice-read-kind-of c = some-byte (c .before .before .before .before)
 
-evaluate-part-evaluate-end : (t : ℕ) → evaluate-lts.Need-part-evaluate-end (calls t) (evaluate-at t) evaluate.Post
-evaluate-part-evaluate-end t c = search needs
+  kind-of-requires : Here lts.Need-kind-of-requires
+  kind-of-requires c κs = tt
 
-evaluate-sub-evaluate-4 : (t : ℕ) → evaluate-lts.Need-sub-evaluate-4 (calls t) (evaluate-at t) evaluate.Post
-evaluate-sub-evaluate-4 t c = begun-deep t (c .before .before .before .before .before .before .before .before .before .before)
+  shared-slice-read-given : Here lts.Need-shared-slice-read-given
+  shared-slice-read-given c = number-there (symbol (c .before))
 
-evaluate-evaluate-requires-3 : (t : ℕ) → evaluate-lts.Need-evaluate-requires-3 (calls t) (evaluate-at t) evaluate.Post
-evaluate-evaluate-requires-3 t c κs =
-    let s = c .before .before .before .before .before .before .before .before .before .before in
-    let kind = c .before .before .before .before .before .kind-of in
-    let two = c .before .before .before .join .given in
-    let first = c .before .evaluate2 in
-    (omega (arith, begun-deep t s, s .pre .0), (second-well (s .args .depth) (s .args .bytes .now) (s .pre .1 .0) (kind .result) (kind .ensures) (two .0 .0) (two .1) (first .result .used) (ap used (first .ensures)), s .pre .1 .1))
+  given-requires : Here lts.Need-given-requires
+  given-requires c κs = start (c .before .before .before) .pre .1 .1
 
-evaluate-join-values-requires : (t : ℕ) → evaluate-lts.Need-join-values-requires (calls t) (evaluate-at t) evaluate.Post
-evaluate-join-values-requires t c κs = tt
+  sub-evaluate : Here lts.Need-sub-evaluate
+  sub-evaluate c = some-depth (start (c .before .before))
 
-evaluate-add-t23 : (t : ℕ) → evaluate-lts.Need-add-t23 (calls t) (evaluate-at t) evaluate.Post
-evaluate-add-t23 t c =
-    let s = c .before .before .before .before .before .before .before .before .before .before .before .before in
-    omega (arith, first-within (s .args .depth) (s .args .bytes .now) (s .pre .1 .0) (c .before .before .before .evaluate2 .result .used) (ap used (c .before .before .before .evaluate2 .ensures)), s .good .0 .1)
+  evaluate-requires : Here lts.Need-evaluate-requires
+  evaluate-requires c κs = let s = start (c .before .before) in (less s, (not-well (negation c), s .pre .1 .1))
 
-evaluate-add-t27 : (t : ℕ) → evaluate-lts.Need-add-t27 (calls t) (evaluate-at t) evaluate.Post
-evaluate-add-t27 t c =
-    let s = c .before .before .before .before .before .before .before .before .before .before .before .before .before in
-    let first = c .before .before .before .before .evaluate2 in
-    let second = c .before .before .evaluate3 in
-    omega (
-      arith,
-      both-within (s .args .depth) (s .args .bytes .now) (s .pre .1 .0) (first .result .used) (ap used (first .ensures)) (second .result .used) (ap used (second .ensures)),
-      s .good .0 .1,
-    )
+  add-t21 : Here lts.Need-add-t21
+  add-t21 c =
+      let v = c .before .before in
+      omega (arith, first-within (negation (v .before)) (ap used (v .evaluate .ensures)), start (v .before .before .before) .good .0 .1)
 
-evaluate-enum-told-3 : (t : ℕ) → evaluate-lts.Need-enum-told-3 (calls t) (evaluate-at t) evaluate.Post
-evaluate-enum-told-3 t c = search needs
+  sub-evaluate-2 : Here lts.Need-sub-evaluate-2
+  sub-evaluate-2 c = some-depth (start (c .before .before .before))
 
-evaluate-returns : (t : ℕ) → evaluate-lts.Need-returns (calls t) (evaluate-at t) evaluate.Post
-evaluate-returns t c =
-    let s = c .before .before .before .before .before .before .before .before .before in
-    let kind = c .before .before .before .before .kind-of in
-    ap (λ (b : Bool). record { holds = b; used = 2 }) (c .given .ensures)
-    ∙ means-symbol (assigned t s) (s .args .depth) (s .args .bytes .now) (s .pre .1 .0) (kind .result) (kind .ensures) (c .before .before .enum-told .given .1)
+  evaluate-requires-2 : Here lts.Need-evaluate-requires-2
+  evaluate-requires-2 c κs = let s = start (c .before .before .before) in (less s, (first-well (join (c .before)), s .pre .1 .1))
 
-evaluate-returns-2 : (t : ℕ) → evaluate-lts.Need-returns-2 (calls t) (evaluate-at t) evaluate.Post
-evaluate-returns-2 t c =
-    let s = c .before .before .before .before .before .before .before .before .before .before in
-    let kind = c .before .before .before .before .before .kind-of in
-    means-not (assigned t s) (s .args .depth) (s .args .bytes .now) (s .pre .1 .0) (kind .result) (kind .ensures) (c .before .before .evaluate .result) (c .before .before .evaluate .ensures) (c .before .before .before .enum-told2 .given .1)
+  sub-evaluate-3 : Here lts.Need-sub-evaluate-3
+  sub-evaluate-3 c = omega (arith, first-used c, onward-length 1 (begun c .args .bytes .now))
 
-evaluate-returns-3 : (t : ℕ) → evaluate-lts.Need-returns-3 (calls t) (evaluate-at t) evaluate.Post
-evaluate-returns-3 t c =
-    let s = c .before .before .before .before .before .before .before .before .before .before .before .before .before in
-    let kind = c .before .before .before .before .before .before .before .before .kind-of in
-    let two = c .before .before .before .before .before .before .join .given in
-    let first = c .before .before .before .before .evaluate2 in
-    let second = c .before .before .evaluate3 in
-    ap (λ (b : Bool). record { holds = b; used = 1 + first .result .used + second .result .used }) (c .before .join-values .ensures)
-    ∙ means-two (assigned t s) (s .args .depth) (s .args .bytes .now) (s .pre .1 .0) (kind .result) (kind .ensures) (first .result) (first .ensures) (two .0 .0) (two .1) (second .result) (second .ensures)
+  part-evaluate-start : Here lts.Need-part-evaluate-start
+  part-evaluate-start c = sub-evaluate-3 c
 
-evaluate-returns-4 : (t : ℕ) → evaluate-lts.Need-returns-4 (calls t) (evaluate-at t) evaluate.Post
-evaluate-returns-4 t c =
-    let s = c .before .before .before .before .before .before .before in
-    let kind = c .before .before .kind-of in
-    means-unknown (assigned t s) (s .args .depth) (s .args .bytes .now) (s .pre .1 .0) (kind .result) (kind .ensures) (c .enum-told3 .given .1)
+  sub-evaluate-4 : Here lts.Need-sub-evaluate-4
+  sub-evaluate-4 c = some-depth (begun (c .before))
+
+  evaluate-requires-3 : Here lts.Need-evaluate-requires-3
+  evaluate-requires-3 c κs =
+      let f = c .before in
+      (less (begun f), (second-well (join (f .before .before)) (took f), begun f .pre .1 .1))
+
+  join-values-requires : Here lts.Need-join-values-requires
+  join-values-requires c κs = tt
+
+  add-t23 : Here lts.Need-add-t23
+  add-t23 c =
+      let f = c .before .before .before in
+      omega (arith, first-used f, begun f .good .0 .1)
+
+  add-t27 : Here lts.Need-add-t27
+  add-t27 c =
+      let g = c .before .before in
+      let f = g .before .before in
+      omega (arith, both-within (join (f .before .before)) (took f) (ap used (g .evaluate3 .ensures)), begun f .good .0 .1)
+
+  returns : Here lts.Need-returns
+  returns c =
+      let k = c .before .before in
+      ap (λ (b : Bool). record { holds = b; used = 2 }) (c .given .ensures) ∙ means-symbol (assigned (start (k .before .before))) (symbol k)
+
+  returns-2 : Here lts.Need-returns-2
+  returns-2 c =
+      let v = c .before .before in
+      means-not (assigned (start (v .before .before .before))) (negation (v .before)) (v .evaluate .ensures)
+
+  returns-3 : Here lts.Need-returns-3
+  returns-3 c =
+      let g = c .before .before in
+      let f = g .before .before in
+      ap (λ (b : Bool). record { holds = b; used = 1 + f .evaluate2 .result .used + g .evaluate3 .result .used }) (c .before .join-values .ensures)
+      ∙ means-two (assigned (begun f)) (join (f .before .before)) (f .evaluate2 .ensures) (g .evaluate3 .ensures)
+
+  returns-4 : Here lts.Need-returns-4
+  returns-4 c = no-unknown (walk (c .before .before) (c .enum-told3 .given .1))
 
 pub +evaluate-spec : {M : Type 1} → statement M
-+evaluate-spec = close μ-evaluate λ t. evaluate-lts.spec (calls t)
-    (evaluate-at t)
++evaluate-spec = close μ λ t. lts.spec (calls t)
+    (at t)
     evaluate.Post
-    (evaluate-sub-body t)
-    (evaluate-part-body-start t)
-    (evaluate-part-body-end t)
-    (evaluate-shared-slice-read-kind-of t)
-    (evaluate-kind-of-requires t)
-    (evaluate-enum-told t)
-    (evaluate-shared-slice-read-given t)
-    (evaluate-given-requires t)
-    (evaluate-enum-told-2 t)
-    (evaluate-sub-evaluate t)
-    (evaluate-evaluate-requires t)
-    (evaluate-add-t21 t)
-    (evaluate-enum-known-join t)
-    (evaluate-sub-evaluate-2 t)
-    (evaluate-evaluate-requires-2 t)
-    (evaluate-sub-evaluate-3 t)
-    (evaluate-part-evaluate-start t)
-    (evaluate-part-evaluate-end t)
-    (evaluate-sub-evaluate-4 t)
-    (evaluate-evaluate-requires-3 t)
-    (evaluate-join-values-requires t)
-    (evaluate-add-t23 t)
-    (evaluate-add-t27 t)
-    (evaluate-enum-told-3 t)
-    (evaluate-returns t)
-    (evaluate-returns-2 t)
-    (evaluate-returns-3 t)
-    (evaluate-returns-4 t)
+    (sub-body t)
+    (part-body-start t)
+    (λ c. search needs)
+    (shared-slice-read-kind-of t)
+    (kind-of-requires t)
+    (λ c. search needs)
+    (shared-slice-read-given t)
+    (given-requires t)
+    (λ c. search needs)
+    (sub-evaluate t)
+    (evaluate-requires t)
+    (add-t21 t)
+    (λ c. search needs)
+    (sub-evaluate-2 t)
+    (evaluate-requires-2 t)
+    (sub-evaluate-3 t)
+    (part-evaluate-start t)
+    (λ c. search needs)
+    (sub-evaluate-4 t)
+    (evaluate-requires-3 t)
+    (join-values-requires t)
+    (add-t23 t)
+    (add-t27 t)
+    (λ c. search needs)
+    (returns t)
+    (returns-2 t)
+    (returns-3 t)
+    (returns-4 t)

@@ -8,12 +8,9 @@ use Rattle.formula.specs.Answers.{bitAt}
 use Rattle.formula.proofs.truth.bit_at.Statement.{statement}
 use Rattle.formula.proofs.truth.bit_at.Tie as tie
 
-shr-result : tie.Need-shr-result
-shr-result c = search needs
-
 returns : tie.Need-returns
 unfolding bitAt
 returns c = ap (λ (n : ℕ). eqb n 1) (and-mask (c .args .assignment / 2 ^ c .args .place) 1)
 
 pub bit-at-spec : {M : Type 1} → statement M
-bit-at-spec = tie.close (tie.spec shr-result returns)
+bit-at-spec = tie.close (tie.spec (λ c. search needs) returns)

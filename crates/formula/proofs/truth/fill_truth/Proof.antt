@@ -31,15 +31,6 @@ evaluate-requires c κs =
     let s = c .before .before .before .before .before in
     (wide-well (s .args .symbols) (s .pre .0) levels (s .args .bytes .now) (s .pre .1 .0), s .pre .1 .1 .0)
 
-slice-write-table : tie.Need-slice-write-table Inv-loop μ-loop
-slice-write-table c = search needs
-
-add-assignment : tie.Need-add-assignment Inv-loop μ-loop
-add-assignment c = search needs
-
-loop-less : tie.Need-loop-less Inv-loop μ-loop
-loop-less c = omega arith
-
 loop-again : tie.Need-loop-again Inv-loop μ-loop
 loop-again c =
     let a = c .before .before .before .before .before .before .args in
@@ -72,9 +63,9 @@ fill-truth-spec =
     μ-loop
     loop-holds
     evaluate-requires
-    slice-write-table
-    add-assignment
-    loop-less
+    (λ c. search needs)
+    (λ c. search needs)
+    (λ c. omega arith)
     loop-again
     same-length
     returns)

@@ -63,12 +63,6 @@ module _ (t : ℕ) where
   slice-aggregate-fill-hits : Here lts.Need-slice-aggregate-fill-hits
   slice-aggregate-fill-hits c = sym (length-take-le _ (truth (c .before)) (omega arith))
 
-  sub-fill-hits : Here lts.Need-sub-fill-hits
-  sub-fill-hits c = omega arith
-
-  slice-relend-prefix-fill-hits : Here lts.Need-slice-relend-prefix-fill-hits
-  slice-relend-prefix-fill-hits c = omega arith
-
   slice-aggregate-fill-hits-2 : Here lts.Need-slice-aggregate-fill-hits-2
   slice-aggregate-fill-hits-2 c = sym (length-take-le _ (hits (c .before .before)) (omega arith))
 
@@ -76,30 +70,6 @@ module _ (t : ℕ) where
   fill-hits-requires c κs =
       let l = long (c .before .before) in
       (omega arith, (simp length-take (omega arith), simp length-take (omega arith)))
-
-  sub-fill-hits-2 : Here lts.Need-sub-fill-hits-2
-  sub-fill-hits-2 c = omega arith
-
-  part-fill-hits-start : Here lts.Need-part-fill-hits-start
-  part-fill-hits-start c = omega arith
-
-  part-fill-hits-end : Here lts.Need-part-fill-hits-end
-  part-fill-hits-end c = omega arith
-
-  sub-fill-hits-3 : Here lts.Need-sub-fill-hits-3
-  sub-fill-hits-3 c = omega arith
-
-  mul-fill-hits : Here lts.Need-mul-fill-hits
-  mul-fill-hits c = omega arith
-
-  sub-fill-hits-4 : Here lts.Need-sub-fill-hits-4
-  sub-fill-hits-4 c = omega arith
-
-  part-fill-hits-start-2 : Here lts.Need-part-fill-hits-start-2
-  part-fill-hits-start-2 c = omega arith
-
-  part-fill-hits-end-2 : Here lts.Need-part-fill-hits-end-2
-  part-fill-hits-end-2 c = omega arith
 
   fill-hits-requires-2 : Here lts.Need-fill-hits-requires-2
   fill-hits-requires-2 c κs =
@@ -126,9 +96,6 @@ module _ (t : ℕ) where
       let s = c .before .before .before .before in
       fill-one (s .args .n) (s .args .truth .now) (s .args .hits .now) (c .before .if1 .taken) (s .pre .1 .1)
 
-  same-length-2 : Here lts.Need-same-length-2
-  same-length-2 c = omega arith
-
   returns-2 : Here lts.Need-returns-2
   returns-2 c =
       let g = c .before .before .before .before .before .before in
@@ -149,21 +116,21 @@ pub +fill-hits-spec : {M : Type 1} → statement M
     (shared-slice-read-hits t)
     (slice-write-hits t)
     (slice-aggregate-fill-hits t)
-    (sub-fill-hits t)
-    (slice-relend-prefix-fill-hits t)
+    (λ c. omega arith)
+    (λ c. omega arith)
     (slice-aggregate-fill-hits-2 t)
     (fill-hits-requires t)
-    (sub-fill-hits-2 t)
-    (part-fill-hits-start t)
-    (part-fill-hits-end t)
-    (sub-fill-hits-3 t)
-    (mul-fill-hits t)
-    (sub-fill-hits-4 t)
-    (part-fill-hits-start-2 t)
-    (part-fill-hits-end-2 t)
+    (λ c. omega arith)
+    (λ c. omega arith)
+    (λ c. omega arith)
+    (λ c. omega arith)
+    (λ c. omega arith)
+    (λ c. omega arith)
+    (λ c. omega arith)
+    (λ c. omega arith)
     (fill-hits-requires-2 t)
     (join-thirds-requires t)
     (same-length t)
     (returns t)
-    (same-length-2 t)
+    (λ c. omega arith)
     (returns-2 t)

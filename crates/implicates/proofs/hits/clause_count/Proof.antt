@@ -19,12 +19,6 @@ loop-holds c = (omega arith, refl)
 mul-count : tie.Need-mul-count Inv-loop μ-loop
 mul-count c = omega (arith, clauses-more (c .before .loop .k) 8 (omega arith))
 
-add-k : tie.Need-add-k Inv-loop μ-loop
-add-k c = omega arith
-
-loop-less : tie.Need-loop-less Inv-loop μ-loop
-loop-less c = omega arith
-
 loop-again : tie.Need-loop-again Inv-loop μ-loop
 loop-again c = rw add-one (omega arith, omega arith)
 
@@ -32,4 +26,4 @@ returns : tie.Need-returns Inv-loop μ-loop
 returns c = let e : c .before .loop .k ≡ c .before .before .args .n = omega arith in c .before .loop .inv .1 ∙ ap (λ (x : ℕ). 3 ^ x) e
 
 pub clause-count-spec : {M : Type 1} → statement M
-clause-count-spec = tie.close (tie.spec Inv-loop μ-loop loop-holds mul-count add-k loop-less loop-again returns)
+clause-count-spec = tie.close (tie.spec Inv-loop μ-loop loop-holds mul-count (λ c. omega arith) (λ c. omega arith) loop-again returns)

@@ -5,16 +5,10 @@ use Rattle.implicates.proofs.Lone.{not-prime, maybe-prime}
 use Rattle.implicates.proofs.hits.is_prime.Statement.{statement}
 use Rattle.implicates.proofs.hits.is_prime.Tie as tie
 
-shared-slice-read-if1 : tie.Need-shared-slice-read-if1
-shared-slice-read-if1 c = search needs
-
 returns : tie.Need-returns
 returns c =
     let a = c .before .before .before in
     not-prime (a .args .hits .now) (a .args .n) (a .args .c) (a .pre .0) (c .if1 .taken)
-
-one-less-hit-requires : tie.Need-one-less-hit-requires
-one-less-hit-requires c κs = search needs
 
 returns-2 : tie.Need-returns-2
 returns-2 c =
@@ -22,4 +16,4 @@ returns-2 c =
     c .one-less-hit .ensures ∙ maybe-prime (a .args .hits .now) (a .args .n) (a .args .c) (a .pre .0) (c .before .if1 .left)
 
 pub is-prime-spec : {M : Type 1} → statement M
-is-prime-spec = tie.close (tie.spec shared-slice-read-if1 returns one-less-hit-requires returns-2)
+is-prime-spec = tie.close (tie.spec (λ c. search needs) returns (λ c κs. search needs) returns-2)

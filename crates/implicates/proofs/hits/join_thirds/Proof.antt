@@ -19,30 +19,6 @@ abbrev μ-loop : tie.MeasureT-loop
 loop-holds : tie.Need-loop-holds Inv-loop μ-loop
 loop-holds c = (omega arith, refl, paste-zero (c .args .hits .now) (2 * c .args .third) (lastThird (c .args .hits .now) (c .args .third)))
 
-slice-read-hits : tie.Need-slice-read-hits Inv-loop μ-loop
-slice-read-hits c = omega arith
-
-add-hits : tie.Need-add-hits Inv-loop μ-loop
-add-hits c = omega arith
-
-slice-read-hits-2 : tie.Need-slice-read-hits-2 Inv-loop μ-loop
-slice-read-hits-2 c = omega arith
-
-mul-hits : tie.Need-mul-hits Inv-loop μ-loop
-mul-hits c = omega arith
-
-add-hits-2 : tie.Need-add-hits-2 Inv-loop μ-loop
-add-hits-2 c = omega arith
-
-slice-write-hits : tie.Need-slice-write-hits Inv-loop μ-loop
-slice-write-hits c = omega arith
-
-add-i : tie.Need-add-i Inv-loop μ-loop
-add-i c = omega arith
-
-loop-less : tie.Need-loop-less Inv-loop μ-loop
-loop-less c = omega arith
-
 loop-again : tie.Need-loop-again Inv-loop μ-loop
 loop-again c =
     let a = c .before .before .before .before in
@@ -67,14 +43,14 @@ join-thirds-spec =
     Inv-loop
     μ-loop
     loop-holds
-    slice-read-hits
-    add-hits
-    slice-read-hits-2
-    mul-hits
-    add-hits-2
-    slice-write-hits
-    add-i
-    loop-less
+    (λ c. omega arith)
+    (λ c. omega arith)
+    (λ c. omega arith)
+    (λ c. omega arith)
+    (λ c. omega arith)
+    (λ c. omega arith)
+    (λ c. omega arith)
+    (λ c. omega arith)
     loop-again
     same-length
     returns)

@@ -25,18 +25,6 @@ abbrev μ-loop : tie.MeasureT-loop
 loop-holds : tie.Need-loop-holds Inv-loop μ-loop
 loop-holds c = (omega arith, refl, λ i h. absurd (not-suc-le-zero h), λ i h. refl)
 
-is-prime-requires : tie.Need-is-prime-requires Inv-loop μ-loop
-is-prime-requires c κs = omega arith
-
-slice-write-hits : tie.Need-slice-write-hits Inv-loop μ-loop
-slice-write-hits c = omega arith
-
-add-c : tie.Need-add-c Inv-loop μ-loop
-add-c c = omega arith
-
-loop-less : tie.Need-loop-less Inv-loop μ-loop
-loop-less c = omega arith
-
 loop-again : tie.Need-loop-again Inv-loop μ-loop
 loop-again c =
     let l = c .before .before .before in
@@ -65,10 +53,10 @@ mark-primes-spec =
     Inv-loop
     μ-loop
     loop-holds
-    is-prime-requires
-    slice-write-hits
-    add-c
-    loop-less
+    (λ c κs. omega arith)
+    (λ c. omega arith)
+    (λ c. omega arith)
+    (λ c. omega arith)
     loop-again
     same-length
     returns)

@@ -42,9 +42,6 @@ loop-holds c =
       ap (lone (λ u. marked (c .args .hits .now) (take n (clauseAt n (c .args .c)) ++ u))) (drop-first n (c .args .c) (c .pre .0)),
     )
 
-sub-if2 : tie.Need-sub-if2 Inv-loop μ-loop
-sub-if2 c = omega arith
-
 mul-if2 : tie.Need-mul-if2 Inv-loop μ-loop
 mul-if2 c = omega (arith, below (c .before))
 
@@ -65,12 +62,6 @@ mul-weight c =
     let n = c .before .before .before .args .n in
     let l = c .before .before .loop in
     omega (arith, next-weight (turn (c .before)) (l .inv .2), clauses-more (n - (l .k - 1)) n (omega arith))
-
-sub-k : tie.Need-sub-k Inv-loop μ-loop
-sub-k c = omega arith
-
-loop-less : tie.Need-loop-less Inv-loop μ-loop
-loop-less c = omega arith
 
 loop-again : tie.Need-loop-again Inv-loop μ-loop
 loop-again c =
@@ -100,13 +91,13 @@ one-less-hit-spec =
     Inv-loop
     μ-loop
     loop-holds
-    sub-if2
+    (λ c. omega arith)
     mul-if2
     add-if2
     shared-slice-read-if2
     returns
     mul-weight
-    sub-k
-    loop-less
+    (λ c. omega arith)
+    (λ c. omega arith)
     loop-again
     returns-2)

@@ -41,17 +41,11 @@ picked-it c =
     let s = start (e .before) in
     chosen-one (test s) (s .args .k) (clause s) (sym (c .before .literal-count .ensures) ∙ c .if2 .left) (tested s ∙ not-false _ (e .if1 .left))
 
-shared-slice-read-if1 : tie.Need-shared-slice-read-if1
-shared-slice-read-if1 c = search needs
-
 returns : tie.Need-returns
 returns c =
     let s = start (c .before) in
     let w : After s _ _ = skipped (chosen-failed (test s) (s .args .k) (clause s) (tested s ∙ not-true _ (c .if1 .taken))) in
     (w .rows, w .count)
-
-literal-count-requires : tie.Need-literal-count-requires
-literal-count-requires c κs = search needs
 
 returns-2 : tie.Need-returns-2
 returns-2 c =
@@ -59,32 +53,8 @@ returns-2 c =
     let w : After s _ _ = skipped (chosen-other (test s) (s .args .k) (clause s) (λ e. c .if2 .taken (c .before .literal-count .ensures ∙ e))) in
     (w .rows, w .count)
 
-mul-at : tie.Need-mul-at
-mul-at c = search needs
-
-add-write-row : tie.Need-add-write-row
-add-write-row c = search needs
-
-mul-write-row : tie.Need-mul-write-row
-mul-write-row c = search needs
-
-sub-write-row : tie.Need-sub-write-row
-sub-write-row c = search needs
-
-part-write-row-start : tie.Need-part-write-row-start
-part-write-row-start c = search needs
-
 part-write-row-end : tie.Need-part-write-row-end
 part-write-row-end c = omega (arith, start (c .before .before .before) .pre .1, ap length (picked-it c))
-
-write-row-requires : tie.Need-write-row-requires
-write-row-requires c κs = search needs
-
-add-result : tie.Need-add-result
-add-result c = search needs
-
-same-length : tie.Need-same-length
-same-length c = search needs
 
 returns-3 : tie.Need-returns-3
 returns-3 c =
@@ -96,17 +66,17 @@ pub append-one-spec : {M : Type 1} → statement M
 append-one-spec =
     tie.close
     (tie.spec
-    shared-slice-read-if1
+    (λ c. search needs)
     returns
-    literal-count-requires
+    (λ c κs. search needs)
     returns-2
-    mul-at
-    add-write-row
-    mul-write-row
-    sub-write-row
-    part-write-row-start
+    (λ c. search needs)
+    (λ c. search needs)
+    (λ c. search needs)
+    (λ c. search needs)
+    (λ c. search needs)
     part-write-row-end
-    write-row-requires
-    add-result
-    same-length
+    (λ c κs. search needs)
+    (λ c. search needs)
+    (λ c. search needs)
     returns-3)

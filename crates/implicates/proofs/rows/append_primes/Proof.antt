@@ -37,12 +37,6 @@ append-size-requires c κs =
     let l = c .before .before in
     (start l .pre .0, next-room _ (l .loop .inv .1) refl (room l (suc (l .loop .k)) (omega arith)))
 
-add-k : tie.Need-add-k Inv-loop μ-loop
-add-k c = omega arith
-
-loop-less : tie.Need-loop-less Inv-loop μ-loop
-loop-less c = omega arith
-
 loop-again : tie.Need-loop-again Inv-loop μ-loop
 loop-again c =
     let l = c .before .before .before .before in
@@ -68,8 +62,8 @@ append-primes-spec =
     μ-loop
     loop-holds
     append-size-requires
-    add-k
-    loop-less
+    (λ c. omega arith)
+    (λ c. omega arith)
     loop-again
     same-length
     returns)

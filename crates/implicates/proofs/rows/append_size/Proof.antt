@@ -38,12 +38,6 @@ append-one-requires c κs =
     let more = upTo-more (marked (s .args .primes .now)) (s .args .n) (s .args .k) (l .loop .c) (omega arith) in
     ((s .pre .0 .0, s .pre .0 .1, s .pre .0 .2, omega arith, omega arith), next-room _ (l .loop .inv .1) more (room l (l .loop .c + 1)))
 
-add-c : tie.Need-add-c Inv-loop μ-loop
-add-c c = omega arith
-
-loop-less : tie.Need-loop-less Inv-loop μ-loop
-loop-less c = omega arith
-
 loop-again : tie.Need-loop-again Inv-loop μ-loop
 loop-again c =
     let l = c .before .before .before .before in
@@ -72,8 +66,8 @@ append-size-spec =
     μ-loop
     loop-holds
     append-one-requires
-    add-c
-    loop-less
+    (λ c. omega arith)
+    (λ c. omega arith)
     loop-again
     same-length
     returns)

@@ -43,9 +43,6 @@ minus-at (suc s) h =
     let half : (2 * (suc s - 1) + 1) / 2 ≡ s = omega arith in
     rw (ne-eqb ((2 * (suc s - 1) + 1) % 2) 0 (λ e. omega (arith, e)), half)
 
-cast-s : tie.Need-cast-s
-cast-s c = search needs
-
 sub-result : tie.Need-sub-result
 sub-result c =
     let s = c .before .args .symbol in
@@ -63,4 +60,4 @@ returns-2 c =
     small s (omega arith) ∙ plus-at s (c .before .pre) ∙ ap (λ (b : Bool). literalAt (place s (not b))) (sym (c .if1 .left))
 
 pub literal-spec : {M : Type 1} → statement M
-literal-spec = tie.close (tie.spec cast-s sub-result returns returns-2)
+literal-spec = tie.close (tie.spec (λ c. search needs) sub-result returns returns-2)

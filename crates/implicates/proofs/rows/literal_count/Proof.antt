@@ -31,12 +31,6 @@ add-count c =
     let v = clauseAt (a .n) (a .c) in
     omega (arith, l .inv .2, size-le (drop (l .k) v), length-drop (l .k) v, length-clauseAt (a .n) (a .c))
 
-sub-k : tie.Need-sub-k Inv-loop μ-loop
-sub-k c = omega arith
-
-loop-less : tie.Need-loop-less Inv-loop μ-loop
-loop-less c = omega arith
-
 loop-again : tie.Need-loop-again Inv-loop μ-loop
 loop-again c =
     let s = c .before .before .before in
@@ -61,4 +55,4 @@ returns c =
 
 pub literal-count-spec : {M : Type 1} → statement M
 literal-count-spec =
-    tie.close (tie.spec Inv-loop μ-loop loop-holds add-count sub-k loop-less loop-again returns)
+    tie.close (tie.spec Inv-loop μ-loop loop-holds add-count (λ c. omega arith) (λ c. omega arith) loop-again returns)

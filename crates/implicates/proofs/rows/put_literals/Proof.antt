@@ -57,14 +57,8 @@ loop-holds c =
       s .pre .0 ∙ put-first (s .args .symbols .now) n (s .args .c) (s .pre .2) (s .pre .1) (s .pre .4),
     )
 
-sub-k : tie.Need-sub-k Inv-loop μ-loop
-sub-k c = omega arith
-
 sub-at : tie.Need-sub-at Inv-loop μ-loop
 sub-at c = omega (arith, c .before .before .loop .inv .2, count-literal (turn (c .before)) (c .if1 .taken))
-
-shared-slice-read-literal : tie.Need-shared-slice-read-literal Inv-loop μ-loop
-shared-slice-read-literal c = omega arith
 
 literal-requires : tie.Need-literal-requires Inv-loop μ-loop
 literal-requires c κs =
@@ -79,9 +73,6 @@ slice-set-from-row c =
     let i = c .before .before in
     let l = i .before .before in
     omega (arith, row-long l, at-low l, l .loop .inv .2, count-literal (turn (i .before)) (i .if1 .taken))
-
-loop-less : tie.Need-loop-less Inv-loop μ-loop
-loop-less c = omega arith
 
 loop-again : tie.Need-loop-again Inv-loop μ-loop
 loop-again c =
@@ -117,13 +108,13 @@ put-literals-spec =
     Inv-loop
     μ-loop
     loop-holds
-    sub-k
+    (λ c. omega arith)
     sub-at
-    shared-slice-read-literal
+    (λ c. omega arith)
     literal-requires
     mul-t15
     slice-set-from-row
-    loop-less
+    (λ c. omega arith)
     loop-again
     same-length
     returns)

@@ -7,19 +7,10 @@ use lib.IntN.{pos}
 use Rattle.implicates.proofs.rows.write_row.Statement.{statement}
 use Rattle.implicates.proofs.rows.write_row.Tie as tie
 
-clear-requires : tie.Need-clear-requires
-clear-requires c κs = search needs
-
 put-literals-requires : tie.Need-put-literals-requires
 put-literals-requires c κs =
     let a = c .before .before .before .before .before in
     (c .before .before .clear .ensures ∙ ap (λ (j : ℕ). replicate j (pos 0)) (a .pre .0), a .pre .1, a .pre .2, a .pre .3, a .pre .4, a .pre .5)
 
-same-length : tie.Need-same-length
-same-length c = search needs
-
-returns : tie.Need-returns
-returns c = search needs
-
 pub write-row-spec : {M : Type 1} → statement M
-write-row-spec = tie.close (tie.spec clear-requires put-literals-requires same-length returns)
+write-row-spec = tie.close (tie.spec (λ c κs. search needs) put-literals-requires (λ c. search needs) (λ c. search needs))

@@ -7,15 +7,6 @@ use Rattle.lines.proofs.Reading.{length-good, length-bad}
 use Rattle.lines.proofs.commands.formula_length.Statement.{statement}
 use Rattle.lines.proofs.commands.formula_length.Tie as tie
 
-read-requires : tie.Need-read-requires
-read-requires c κs = search needs
-
-enum-known-count : tie.Need-enum-known-count
-enum-known-count c = search needs
-
-enum-told : tie.Need-enum-told
-enum-told c = search needs
-
 returns : tie.Need-returns
 unfolding formulaLength
 returns c =
@@ -30,4 +21,4 @@ returns-2 c =
 
 pub formula-length-spec : {M : Type 1} → statement M
 formula-length-spec =
-    tie.close (tie.spec read-requires enum-known-count enum-told returns returns-2)
+    tie.close (tie.spec (λ c κs. search needs) (λ c. search needs) (λ c. search needs) returns returns-2)

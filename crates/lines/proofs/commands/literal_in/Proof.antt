@@ -7,14 +7,8 @@ use Rattle.lines.proofs.Reading.{cut-fits, cut-is, literal-high, litera
 use Rattle.lines.proofs.commands.literal_in.Statement.{statement}
 use Rattle.lines.proofs.commands.literal_in.Tie as tie
 
-shared-slice-read-n : tie.Need-shared-slice-read-n
-shared-slice-read-n c = search needs
-
 cast-n : tie.Need-cast-n
 cast-n c = omega (arith, c .shared-slice-known .given 0)
-
-shared-slice-read-n-2 : tie.Need-shared-slice-read-n-2
-shared-slice-read-n-2 c = search needs
 
 cast-n-2 : tie.Need-cast-n-2
 cast-n-2 c = omega (arith, c .shared-slice-known2 .given 1)
@@ -24,9 +18,6 @@ mul-n c = omega (arith, c .shared-slice-known2 .given 1)
 
 add-n : tie.Need-add-n
 add-n c = omega (arith, c .before .shared-slice-known .given 0, c .shared-slice-known2 .given 1)
-
-cast-result : tie.Need-cast-result
-cast-result c = search needs
 
 returns : tie.Need-returns
 returns c = literal-low (c .before .before .before .args .body .now) (c .if1 .taken)
@@ -53,13 +44,13 @@ pub literal-in-spec : {M : Type 1} → statement M
 literal-in-spec =
     tie.close
     (tie.spec
-    shared-slice-read-n
+    (λ c. search needs)
     cast-n
-    shared-slice-read-n-2
+    (λ c. search needs)
     cast-n-2
     mul-n
     add-n
-    cast-result
+    (λ c. search needs)
     returns
     cast-result-2
     sub-result

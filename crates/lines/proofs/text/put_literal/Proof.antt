@@ -7,14 +7,8 @@ use Rattle.lines.proofs.Pieces.{literal-neg, literal-pos, put-one, put-
 use Rattle.lines.proofs.text.put_literal.Statement.{statement}
 use Rattle.lines.proofs.text.put_literal.Tie as tie
 
-symbol-requires : tie.Need-symbol-requires
-symbol-requires c κs = search needs
-
 slice-write-out : tie.Need-slice-write-out
 slice-write-out c = omega (arith, c .before .before .before .pre, ap length (literal-neg (c .before .before .before .fits .l) _ (c .before .symbol .ensures) (c .if1 .taken)))
-
-add-put-natural : tie.Need-add-put-natural
-add-put-natural c = search needs
 
 put-natural-requires : tie.Need-put-natural-requires
 put-natural-requires c κs =
@@ -35,9 +29,6 @@ put-natural-requires-2 c κs =
     let s = c .before .before .before .before in
     omega (arith, s .pre, ap length (literal-pos (s .fits .l) _ (c .before .before .symbol .ensures) (c .before .if1 .left)))
 
-same-length-2 : tie.Need-same-length-2
-same-length-2 c = search needs
-
 returns-2 : tie.Need-returns-2
 returns-2 c =
     let p = c .before .before in
@@ -48,12 +39,12 @@ pub put-literal-spec : {M : Type 1} → statement M
 put-literal-spec =
     tie.close
     (tie.spec
-    symbol-requires
+    (λ c κs. search needs)
     slice-write-out
-    add-put-natural
+    (λ c. search needs)
     put-natural-requires
     same-length
     returns
     put-natural-requires-2
-    same-length-2
+    (λ c. search needs)
     returns-2)

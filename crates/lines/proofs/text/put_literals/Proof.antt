@@ -30,29 +30,11 @@ here c = getD (start c .args .part .now) (c .before .loop .k) (pos 0)
 loop-holds : tie.Need-loop-holds Inv-loop μ-loop
 loop-holds c = (omega arith, refl, rw (list-none (c .before .args .part .now)) (put-none _ _), omega arith)
 
-slice-write-out : tie.Need-slice-write-out Inv-loop μ-loop
-slice-write-out c = omega arith
-
-add-put-literal : tie.Need-add-put-literal Inv-loop μ-loop
-add-put-literal c = omega arith
-
-mul-put-literal : tie.Need-mul-put-literal Inv-loop μ-loop
-mul-put-literal c = omega arith
-
-shared-slice-copy-out-put-literal : tie.Need-shared-slice-copy-out-put-literal Inv-loop μ-loop
-shared-slice-copy-out-put-literal c = omega arith
-
 put-literal-requires : tie.Need-put-literal-requires Inv-loop μ-loop
 put-literal-requires c κs =
     let t = c .before .before in
     let f : SFits w16 (here t) = record { sfits = c .put-literal-arg2 .given } in
     rw (toZ-ofZ f, length-set) (omega (arith, literal-most f))
-
-add-k : tie.Need-add-k Inv-loop μ-loop
-add-k c = omega arith
-
-loop-less : tie.Need-loop-less Inv-loop μ-loop
-loop-less c = omega arith
 
 loop-again : tie.Need-loop-again Inv-loop μ-loop
 loop-again c =
@@ -62,9 +44,6 @@ loop-again c =
     let f : SFits w16 (here t) = record { sfits = p .before .put-literal-arg2 .given } in
     let e = rw (toZ-ofZ f) at (p .put-literal .ensures) in
     (omega arith, p .put-literal .kept .0 ∙ simp length-set (l .inv .1), list-put (start t .args .part .now) (l .k) (t .loop-test .taken) (l .inv .2) e, omega (arith, e .ends, literal-most f))
-
-same-length : tie.Need-same-length Inv-loop μ-loop
-same-length c = omega arith
 
 returns : tie.Need-returns Inv-loop μ-loop
 returns c =
@@ -78,13 +57,13 @@ put-literals-spec =
     Inv-loop
     μ-loop
     loop-holds
-    slice-write-out
-    add-put-literal
-    mul-put-literal
-    shared-slice-copy-out-put-literal
+    (λ c. omega arith)
+    (λ c. omega arith)
+    (λ c. omega arith)
+    (λ c. omega arith)
     put-literal-requires
-    add-k
-    loop-less
+    (λ c. omega arith)
+    (λ c. omega arith)
     loop-again
-    same-length
+    (λ c. omega arith)
     returns)

@@ -5,17 +5,11 @@ use Rattle.lines.proofs.Pieces.{natural-most, put-length, put-put}
 use Rattle.lines.proofs.text.put_named.Statement.{statement}
 use Rattle.lines.proofs.text.put_named.Tie as tie
 
-put-word-requires : tie.Need-put-word-requires
-put-word-requires c κs = omega arith
-
 put-natural-requires : tie.Need-put-natural-requires
 put-natural-requires c κs =
     let s = c .before .before .before .before .before .before .before in
     let p = c .before .before .before .put-word .ensures in
     omega (arith, s .pre, p .ends, put-length p, natural-most 19 (s .args .n) (omega (arith, s .fits .n)))
-
-same-length : tie.Need-same-length
-same-length c = search needs
 
 returns : tie.Need-returns
 returns c =
@@ -25,4 +19,4 @@ returns c =
     (put-put _ _ p q, omega (arith, p .ends, q .ends, natural-most 19 (s .args .n) (omega (arith, s .fits .n))))
 
 pub put-named-spec : {M : Type 1} → statement M
-put-named-spec = tie.close (tie.spec put-word-requires put-natural-requires same-length returns)
+put-named-spec = tie.close (tie.spec (λ c κs. omega arith) put-natural-requires (λ c. search needs) returns)

@@ -3,36 +3,6 @@ use borrow.Author.Needs.{needs}
 use Rattle.panel.proofs.crossing.answer_out.Statement.{statement}
 use Rattle.panel.proofs.crossing.answer_out.Tie as tie
 
-enum-told : tie.Need-enum-told
-enum-told c = search needs
-
-standing-requires : tie.Need-standing-requires
-standing-requires c κs = search needs
-
-enum-told-2 : tie.Need-enum-told-2
-enum-told-2 c = search needs
-
-standing-requires-2 : tie.Need-standing-requires-2
-standing-requires-2 c κs = search needs
-
-enum-told-3 : tie.Need-enum-told-3
-enum-told-3 c = search needs
-
-standing-requires-3 : tie.Need-standing-requires-3
-standing-requires-3 c κs = search needs
-
-enum-told-4 : tie.Need-enum-told-4
-enum-told-4 c = search needs
-
-standing-requires-4 : tie.Need-standing-requires-4
-standing-requires-4 c κs = search needs
-
-enum-known-answer : tie.Need-enum-known-answer
-enum-known-answer c = search needs
-
-number-requires : tie.Need-number-requires
-number-requires c κs = search needs
-
 returns : tie.Need-returns
 returns c = rw (c .before .enum-told .given .1) (c .standing .ensures)
 
@@ -52,16 +22,16 @@ pub answer-out-spec : {M : Type 1} → statement M
 answer-out-spec =
     tie.close
     (tie.spec
-    enum-told
-    standing-requires
-    enum-told-2
-    standing-requires-2
-    enum-told-3
-    standing-requires-3
-    enum-told-4
-    standing-requires-4
-    enum-known-answer
-    number-requires
+    (λ c. search needs)
+    (λ c κs. search needs)
+    (λ c. search needs)
+    (λ c κs. search needs)
+    (λ c. search needs)
+    (λ c κs. search needs)
+    (λ c. search needs)
+    (λ c κs. search needs)
+    (λ c. search needs)
+    (λ c κs. search needs)
     returns
     returns-2
     returns-3

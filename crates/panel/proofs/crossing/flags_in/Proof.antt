@@ -16,18 +16,6 @@ abbrev μ-loop : tie.MeasureT-loop
 loop-holds : tie.Need-loop-holds Inv-loop μ-loop
 loop-holds c = record { within = omega arith; long = omega arith; is = refl }
 
-array-read-held : tie.Need-array-read-held Inv-loop μ-loop
-array-read-held c = omega arith
-
-array-write-held : tie.Need-array-write-held Inv-loop μ-loop
-array-write-held c = omega arith
-
-add-k : tie.Need-add-k Inv-loop μ-loop
-add-k c = omega arith
-
-loop-less : tie.Need-loop-less Inv-loop μ-loop
-loop-less c = omega arith
-
 loop-again : tie.Need-loop-again Inv-loop μ-loop
 loop-again c = let l = c .before .loop in made-more flagOf _ 0 (l .held) (l .k) (l .inv) (omega arith) refl
 
@@ -41,9 +29,9 @@ flags-in-spec =
     Inv-loop
     μ-loop
     loop-holds
-    array-read-held
-    array-write-held
-    add-k
-    loop-less
+    (λ c. omega arith)
+    (λ c. omega arith)
+    (λ c. omega arith)
+    (λ c. omega arith)
     loop-again
     returns)

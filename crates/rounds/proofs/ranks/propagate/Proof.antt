@@ -2,17 +2,17 @@
 -- of places less k: a round that adds something is among the first, as many as there are places. So no rank is above that number.
 use borrow.Author.Needs.{needs}
 use borrow.Author.Tests.{le-ltb}
-use Prim.Native.Nat.{ℕ, suc, _≤_, _<_, _-_, _+_}
+use Prim.Native.Nat.{ℕ, _≤_, _<_, _-_, _+_}
 use native.Mathlib.Omega.{arith}
 use mathlib.Core.Path.{_≡_, refl, sym, ap, _∙_}
 use mathlib.Core.Bool.{Bool, true}
 use mathlib.Core.List.{List}
 use lib.ListN.{length}
-use Rattle.meaning.specs.Tests.{none}
 use Rattle.meaning.proofs.Ranks.{rank-above-never}
 use Rattle.literals.specs.Row.{rowsIn}
 use Rattle.rounds.specs.Ranks.{Fit, ranksBy}
-use Rattle.rounds.proofs.RankTables.{startRanks-is, round-ranks, round-early, round-last}
+use Rattle.rounds.proofs.Scanning.{few-places}
+use Rattle.rounds.proofs.RankTables.{startRanks-is, Turn, round-ranks, round-early, round-last}
 use Rattle.rounds.proofs.ranks.propagate.Statement.{statement}
 use Rattle.rounds.proofs.ranks.propagate.Tie as tie
 
@@ -46,17 +46,18 @@ kept l =
     (omega (arith, i .0, same), i .1 ∙ same, i .2 ∙ ap (λ n. ranksBy n (rows l) (held l) (l .loop .k)) same)
 
 small : (l : tie.At-loop Inv-loop μ-loop) → places l ≤ 400
-small l = let f = start l .pre .0 in omega (arith, f .1, f .2 .symbols)
+small l = few-places (start l .pre .0)
 
-few : (l : tie.At-loop Inv-loop μ-loop) → suc (suc (l .loop .k)) ≤ none
-few l = omega (arith, kept l .0, small l)
-
--- a round that adds something is an early one
-early : (c : tie.After-round Inv-loop μ-loop) → c .round .result ≡ true → c .before .before .loop .k < places (c .before .before)
-early c y =
+-- one round more
+turn : (c : tie.After-round Inv-loop μ-loop)
+    → let l = c .before .before in Turn (places l) (rows l) (held l) (l .loop .k) (l .loop .ranks) (c .round .last .1 .1 .0)
+turn c =
     let l = c .before .before in
-    let i = kept l in
-    round-early (places l) (rows l) (held l) (l .loop .k) _ _ (few l) (i .2) (c .round .ensures .0) (rw y at (c .round .ensures .1))
+    record { small = omega (arith, kept l .0, small l); before = kept l .2; step = c .round .ensures .0 }
+
+-- one that adds something is an early one
+early : (c : tie.After-round Inv-loop μ-loop) → c .round .result ≡ true → c .before .before .loop .k < places (c .before .before)
+early c y = round-early _ _ _ (turn c) (rw y at (c .round .ensures .1))
 
 start-ranks-requires : tie.Need-start-ranks-requires Inv-loop μ-loop
 start-ranks-requires c κs = c .before .before .before .pre .1
@@ -95,12 +96,10 @@ loop-again : tie.Need-loop-again Inv-loop μ-loop
 loop-again c =
     let r = c .before .before .before in
     let l = r .before .before in
-    let same = l .before .before .before .start-ranks .kept .1 .0 in
-    let i = kept l in (
+    let same = l .before .before .before .start-ranks .kept .1 .0 in (
       omega (arith, early r (c .if1 .taken), same),
       r .round .kept .1 .1 .0 ∙ l .loop .inv .1,
-      round-ranks (places l) (rows l) (held l) (l .loop .k) _ _ (few l) (i .2) (r .round .ensures .0)
-          ∙ ap (λ n. ranksBy n (rows l) (held l) (l .loop .k + 1)) (sym same),
+      round-ranks _ _ _ (turn r) ∙ ap (λ n. ranksBy n (rows l) (held l) (l .loop .k + 1)) (sym same),
     )
 
 cast-result : tie.Need-cast-result Inv-loop μ-loop
@@ -118,8 +117,9 @@ returns c =
     let r = c .before .before .before in
     let l = r .before .before in
     let i = kept l in (
-      round-last (places l) (rows l) (held l) (l .loop .k) _ _ (few l) (i .2) (r .round .ensures .0) (i .0) (omega (arith, small l)) (rw (c .if1 .left) at (r .round .ensures .1)),
-      le-ltb (length (r .round .last .1 .1 .0)) (l .loop .k) (omega (arith, i .0, r .round .kept .1 .1 .0 ∙ i .1)) ∙ sym (rank-above-never (places l) (rows l) (held l)),
+      round-last _ _ _ (turn r) (i .0) (omega (arith, small l)) (rw (c .if1 .left) at (r .round .ensures .1)),
+      le-ltb (length (r .round .last .1 .1 .0)) (l .loop .k) (omega (arith, i .0, r .round .kept .1 .1 .0 ∙ i .1))
+          ∙ sym (rank-above-never (places l) (rows l) (held l)),
     )
 
 pub propagate-spec : {M : Type 1} → statement M

@@ -4,13 +4,13 @@ use Prim.Native.Nat.{_≤_, _-_, _+_}
 use native.Mathlib.Omega.{arith}
 use native.Mathlib.Numerals.{add-one}
 use mathlib.Core.Path.{_≡_, refl, _∙_}
-use mathlib.Core.Logic.{⊎-elim}
+use mathlib.Core.Logic.{inl, inr, ⊎-elim}
 use lib.ListN.{length}
-use Rattle.literals.specs.Row.{numbersAt, decode, rowsIn}
+use Rattle.literals.specs.Row.{rowsIn}
 use Rattle.literals.proofs.Decoding.{rows-snoc}
 use Rattle.rounds.specs.Ranks.{Fit}
 use Rattle.rounds.proofs.Scanning.{fit-row}
-use Rattle.rounds.proofs.RankTables.{Rounded, rounded-none, rounded-yes, rounded-no, rounded-all}
+use Rattle.rounds.proofs.RankTables.{Rounded, rounded-none, rounded-more, rounded-all}
 use Rattle.rounds.proofs.ranks.round.Statement.{statement}
 use Rattle.rounds.proofs.ranks.round.Tie as tie
 
@@ -36,30 +36,17 @@ mark-row-requires c κs =
     rw (l .loop .inv .1) (fit-row _ (a .args .rows) _ (a .pre .0) (l .loop .row) (omega arith)) in
     (s, a .pre .1)
 
-add-row : tie.Need-add-row Inv-loop μ-loop
-add-row c = omega arith
-
-loop-less : tie.Need-loop-less Inv-loop μ-loop
-loop-less c = omega arith
-
 loop-again : tie.Need-loop-again Inv-loop μ-loop
 loop-again c =
     let m = c .before .before .before in
     let l = m .before .before .before in
-    let table = start l .args .table .now in
-    let small = start l .pre .1 in
     let e = m .mark-row .ensures in (
       omega arith,
       m .mark-row .kept .1 .1 .0 ∙ l .loop .inv .1,
-      rw (add-one (l .loop .row), rows-snoc (l .loop .row) table)
-          (⊎-elim
-          (λ y. rw (y .1) (rounded-yes small (decode (numbersAt table (l .loop .row))) (l .loop .inv .2) (e .0) (e .1) (y .0 .taken)))
-          (λ y. rw (y .1) (rounded-no small (decode (numbersAt table (l .loop .row))) (l .loop .inv .2) (e .0) (e .1) (y .0 .left)))
-          (c .if1 .came)),
+      rw (add-one (l .loop .row), rows-snoc (l .loop .row) (start l .args .table .now))
+          (rounded-more (start l .pre .1) _ (l .loop .inv .2) (e .0) (e .1)
+          (⊎-elim (λ y. inl (y .0 .taken, y .1)) (λ y. inr (y .0 .left, y .1)) (c .if1 .came))),
     )
-
-same-length : tie.Need-same-length Inv-loop μ-loop
-same-length c = omega arith
 
 returns : tie.Need-returns Inv-loop μ-loop
 returns c =
@@ -75,8 +62,8 @@ round-spec =
     μ-loop
     loop-holds
     mark-row-requires
-    add-row
-    loop-less
+    (λ c. omega arith)
+    (λ c. omega arith)
     loop-again
-    same-length
+    (λ c. omega arith)
     returns)

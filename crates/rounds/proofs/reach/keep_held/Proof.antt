@@ -4,57 +4,40 @@ use borrow.Author.Needs.{needs}
 use borrow.Author.Tests.{not-true, not-false}
 use Prim.Native.Nat.{_≤_, _-_}
 use native.Mathlib.Omega.{arith}
-use mathlib.Core.Path.{_≡_, ap, _∙_}
-use mathlib.Core.Bool.{false}
+use mathlib.Core.Path.{refl, sym, ap, _∙_}
+use mathlib.Core.Bool.{false, _&&_, and-true, and-false}
 use mathlib.Core.Logic.{⊎-elim}
-use lib.ListN.{length, length-set}
-use Rattle.rounds.proofs.Joining.{Kept, kept-none, kept-held, kept-not, kept-all}
+use lib.ListN.{length}
+use Rattle.meaning.specs.Literals.{has}
+use Rattle.rounds.specs.Reach.{heldOnly}
+use Rattle.rounds.proofs.Filling.{Filled, filled-none, filled-put, filled-left, filled-all}
 use Rattle.rounds.proofs.reach.keep_held.Statement.{statement}
 use Rattle.rounds.proofs.reach.keep_held.Tie as tie
 
 abbrev Inv-loop : tie.InvT-loop
-Inv-loop held marks₀ p₀ marks p = (p ≤ length marks) × Kept held marks₀ p marks
+Inv-loop held marks₀ p₀ marks p =
+    (p ≤ length marks₀) × Filled false (λ i. has marks₀ i && has held i) marks₀ p marks
 
 abbrev μ-loop : tie.MeasureT-loop
-μ-loop held marks₀ p₀ marks p = length marks - p
-
-length-now : (c : tie.Joined1 Inv-loop μ-loop) → length (c .if1 .marks) ≡ length (c .before .before .before .loop .marks)
-length-now c =
-    let l = c .before .before .before .loop in
-    ⊎-elim (λ w. ap length (w .1) ∙ length-set (l .marks) (l .p) false) (λ w. ap length (w .1)) (c .if1 .came)
+μ-loop held marks₀ p₀ marks p = length marks₀ - p
 
 loop-holds : tie.Need-loop-holds Inv-loop μ-loop
-loop-holds c = (search needs, kept-none _ _)
-
-shared-slice-read-if1 : tie.Need-shared-slice-read-if1 Inv-loop μ-loop
-shared-slice-read-if1 c = omega (arith, c .before .before .loop .inv .1 .same-length)
-
-slice-write-marks : tie.Need-slice-write-marks Inv-loop μ-loop
-slice-write-marks c = omega arith
-
-add-p : tie.Need-add-p Inv-loop μ-loop
-add-p c = omega arith
-
-loop-less : tie.Need-loop-less Inv-loop μ-loop
-loop-less c = omega (arith, length-now c)
+loop-holds c = (search needs, filled-none)
 
 loop-again : tie.Need-loop-again Inv-loop μ-loop
 loop-again c =
-    let l = c .before .before .before in (
-      omega (arith, length-now c),
+    let l = c .before .before .before in
+    let mark = has (l .before .args .marks .now) (l .loop .p) in (
+      omega arith,
       ⊎-elim
-          (λ w. rw (w .1) (kept-not _ _ (l .loop .inv .1) (omega arith) (not-true _ (w .0 .taken))))
-          (λ w. rw (w .1) (kept-held _ _ (l .loop .inv .1) (not-false _ (w .0 .left))))
+          (λ w. rw (w .1) (filled-put (l .loop .inv .1) false (omega arith) (sym (ap (λ t. mark && t) (not-true _ (w .0 .taken)) ∙ and-false mark))))
+          (λ w. rw (w .1) (filled-left (l .loop .inv .1) (sym (ap (λ t. mark && t) (not-false _ (w .0 .left)) ∙ and-true mark))))
           (c .if1 .came),
     )
 
-same-length : tie.Need-same-length Inv-loop μ-loop
-same-length c = omega arith
-
 returns : tie.Need-returns Inv-loop μ-loop
-returns c =
-    let l = c .before in
-    kept-all _ _ (l .loop .p) (l .loop .marks) (omega (arith, l .loop .inv .1 .same-length, c .loop-test .left)) (l .loop .inv .1)
+unfolding heldOnly
+returns c = let l = c .before in filled-all (l .loop .inv .1) _ refl (omega arith)
 
 pub keep-held-spec : {M : Type 1} → statement M
 keep-held-spec =
@@ -63,10 +46,10 @@ keep-held-spec =
     Inv-loop
     μ-loop
     loop-holds
-    shared-slice-read-if1
-    slice-write-marks
-    add-p
-    loop-less
+    (λ c. omega arith)
+    (λ c. omega arith)
+    (λ c. omega arith)
+    (λ c. omega arith)
     loop-again
-    same-length
+    (λ c. omega arith)
     returns)

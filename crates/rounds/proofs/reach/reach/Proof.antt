@@ -1,14 +1,13 @@
 -- `rounds::reach::reach` meets its contract. The loop's invariant: the premises that the literals marked first reach are those that the
 -- literals now marked with a rank of k or below reach. The measure is k.
-use Prim.Native.Nat.{ℕ, _≤_, _<_, _-_, _+_}
+use Prim.Native.Nat.{ℕ, _-_, _+_}
 use native.Mathlib.Omega.{arith}
 use mathlib.Core.Path.{_≡_, sym, _∙_}
 use mathlib.Core.List.{List}
 use lib.ListN.{length}
-use Rattle.meaning.specs.Tests.{none}
 use Rattle.literals.specs.Row.{rowsIn}
-use Rattle.literals.proofs.Decoding.{length-rows}
-use Rattle.rounds.proofs.Reaching.{Left, left-start, left-more, left-last}
+use Rattle.rounds.proofs.Scanning.{few-places, few-rows}
+use Rattle.rounds.proofs.Reaching.{Left, Ranked, left-start, left-more, left-last}
 use Rattle.rounds.proofs.reach.reach.Statement.{statement}
 use Rattle.rounds.proofs.reach.reach.Tie as tie
 
@@ -31,11 +30,10 @@ places s = length (start s .args .ranks .now)
 abbrev rows : tie.After-slice-known Inv-loop μ-loop → List (List ℕ)
 rows s = rowsIn (start s .args .rows) (start s .args .table .now)
 
-small : (s : tie.After-slice-known Inv-loop μ-loop) → places s < none
-small s = let f = start s .pre .0 in omega (arith, f .1, f .2 .symbols)
-
-few : (s : tie.After-slice-known Inv-loop μ-loop) → length (rows s) ≤ none
-few s = omega (arith, length-rows (start s .args .rows) (start s .args .table .now), start s .pre .0 .2 .rows)
+final : (s : tie.After-slice-known Inv-loop μ-loop) → Ranked (places s) (rows s) (start s .args .held .now) (start s .args .ranks .now)
+final s =
+    let p = start s .pre in
+    record { small = omega (arith, few-places (p .0)); few = few-rows (p .0); is = p .1 .1 }
 
 largest-requires : tie.Need-largest-requires Inv-loop μ-loop
 largest-requires c κs = start (c .before) .pre .1 .0 .1
@@ -44,18 +42,12 @@ loop-holds : tie.Need-loop-holds Inv-loop μ-loop
 loop-holds c =
     let s = c .before .before in
     let a = start s .args in
-    (start s .pre .1 .0 .1, left-start (places s) (rows s) (a .held .now) (small s) (few s) (a .ranks .now) (start s .pre .1 .1) (a .marks .now) (c .largest .result) (c .largest .ensures))
+    (start s .pre .1 .0 .1, left-start (final s) (a .marks .now) (c .largest .result) (c .largest .ensures))
 
 expand-rank-requires : tie.Need-expand-rank-requires Inv-loop μ-loop
 expand-rank-requires c κs =
     let l = c .before .before in
     (start (begun l) .pre .0, l .loop .inv .0)
-
-sub-k : tie.Need-sub-k Inv-loop μ-loop
-sub-k c = omega arith
-
-loop-less : tie.Need-loop-less Inv-loop μ-loop
-loop-less c = omega arith
 
 loop-again : tie.Need-loop-again Inv-loop μ-loop
 loop-again c =
@@ -67,7 +59,7 @@ loop-again c =
     let less : k - 1 + 1 ≡ k = omega arith in (
       e .expand-rank .kept .1 .1 .1 .1 .0 ∙ l .loop .inv .0,
       rw (less, e .expand-rank .ensures)
-          (left-more (places s) (rows s) (a .held .now) (small s) (few s) (a .ranks .now) (start s .pre .1 .1) (l .loop .marks) k (l .loop .inv .0) (omega arith) (l .loop .inv .1)),
+          (left-more (final s) (l .loop .marks) k (l .loop .inv .0) (omega arith) (l .loop .inv .1)),
     )
 
 keep-held-requires : tie.Need-keep-held-requires Inv-loop μ-loop
@@ -89,7 +81,7 @@ returns c =
     let a = start s .args in
     let done : l .loop .k ≡ 0 = omega (arith, h .before .before .loop-test .left) in
     h .keep-held .ensures
-    ∙ left-last (places s) (rows s) (a .held .now) (small s) (few s) (a .ranks .now) (start s .pre .1 .1) (a .marks .now) (l .loop .marks) (l .loop .inv .0) (rw done at (l .loop .inv .1))
+    ∙ left-last (final s) (a .marks .now) (l .loop .marks) (l .loop .inv .0) (rw done at (l .loop .inv .1))
 
 pub reach-spec : {M : Type 1} → statement M
 reach-spec =
@@ -100,8 +92,8 @@ reach-spec =
     largest-requires
     loop-holds
     expand-rank-requires
-    sub-k
-    loop-less
+    (λ c. omega arith)
+    (λ c. omega arith)
     loop-again
     keep-held-requires
     same-length

@@ -1,0 +1,24 @@
+-- `lines::saying::say_change` meets its contract: by the outcome.
+use borrow.Author.Needs.{needs}
+use Rattle.lines.proofs.saying.say_change.Statement.{statement}
+use Rattle.lines.proofs.saying.say_change.Tie as tie
+
+returns : tie.Need-returns
+returns c = rw (c .before .before .before .before .before .enum-told .given .1) (c .before .before .accept .ensures)
+
+returns-2 : tie.Need-returns-2
+returns-2 c = rw (c .before .before .before .before .before .outcome .given .1) (c .before .before .refuse .ensures)
+
+pub say-change-spec : {M : Type 1} → statement M
+say-change-spec =
+    tie.close
+    (tie.spec
+    (λ c. search needs)
+    (λ c. search needs)
+    (λ c κs. search needs)
+    (λ c. search needs)
+    (λ c κs. search needs)
+    (λ c. search needs)
+    returns
+    (λ c. search needs)
+    returns-2)
