@@ -4,13 +4,12 @@ use mathlib.Core.Bool.{Bool, true, false}
 use mathlib.Core.List.{List, [], _∷_, _++_, append-nil}
 use Prim.Native.Nat.{ℕ, zero, suc, _+_, _-_, _<_, _≤_}
 use native.Mathlib.Omega.{arith}
-use native.Mathlib.Nat.{add-zero, add-suc, suc-add, zero-add}
+use native.Mathlib.Nat.{add-zero}
 use native.Mathlib.Numerals.{add-one}
 use lib.ListN.{length, set, replicate, getD, length-append}
 use lib.Seq.{set-append-seam, append-snoc}
 use borrow.Author.Tests.{le-leb, lt-leb}
 use Rattle.meaning.specs.Tests.{keep, from}
-use Rattle.meaning.proofs.Tests.{keep-append}
 use Rattle.formula.specs.Answers.{padded, named}
 
 -- ---- eight places
@@ -33,89 +32,83 @@ padded-more l n h =
     ∙ sym (append-snoc l n (replicate (8 - suc (length l)) 0))
     ∙ ap (λ (k : ℕ). (l ++ (n ∷ [])) ++ replicate (8 - k) 0) (sym longer)
 
--- ---- the numbers that pass, one number more
+-- ---- the numbers that pass
 
-from-append : (k m n : ℕ) → from k (m + n) ≡ from k m ++ from (k + m) n
-from-append k zero n = rw (zero-add, add-zero)
-from-append k (suc m) n = rw (suc-add, add-suc) (ap (λ (l : List ℕ). k ∷ l) (rw (← suc-add) (from-append (suc k) m n)))
+-- the first m do not
+keep-past : (test : ℕ → Bool) (m k n : ℕ) → ((i : ℕ) → i < m → test (k + i) ≡ false) → keep test (from k n) ≡ keep test (from (k + m) (n - m))
+keep-past test zero k n h = let all : n - 0 ≡ n = omega arith in rw (add-zero, all)
+keep-past test (suc m) k zero h = let none : 0 - suc m ≡ 0 = omega arith in rw none
+keep-past test (suc m) k (suc n) h =
+    let further : k + suc m ≡ suc k + m = omega arith in
+    let fewer : suc n - suc m ≡ n - m = omega arith in
+    let no : test k ≡ false = rw add-zero at (h 0 (omega arith)) in
+    rw (further, fewer, no) (keep-past test m (suc k) n (λ i b. (let e : suc k + i ≡ k + suc i = omega arith in rw e (h (suc i) (omega arith)))))
 
-module _ (test : ℕ → Bool) where
-  -- the numbers from 1 up to n that pass, where n is not one of them
-  abbrev pub passed : ℕ → List ℕ
-  passed n = keep test (from 1 (n - 1))
-
-  passed-split : (n m : ℕ) → 1 ≤ n → passed (n + m) ≡ passed n ++ keep test (from n m)
-  passed-split n m h =
-      let split : n + m - 1 ≡ (n - 1) + m = omega arith in
-      let next : 1 + (n - 1) ≡ n = omega arith in
-      ap (λ (k : ℕ). keep test (from 1 k)) split
-      ∙ ap (keep test) (from-append 1 (n - 1) m ∙ ap (λ (k : ℕ). from 1 (n - 1) ++ from k m) next)
-      ∙ keep-append test (from 1 (n - 1)) (from n m)
-
-  passed-more : (n : ℕ) → 1 ≤ n → test n ≡ true → passed (n + 1) ≡ passed n ++ (n ∷ [])
-  passed-more n h e = passed-split n 1 h ∙ rw e
-
-  passed-same : (n : ℕ) → 1 ≤ n → test n ≡ false → passed (n + 1) ≡ passed n
-  passed-same n h e = passed-split n 1 h ∙ rw e (append-nil (passed n))
-
-  -- a ninth number passes: more than eight do up to any later end
-  passed-many : (n S : ℕ) → 1 ≤ n → length (passed n) ≡ 8 → test n ≡ true → n ≤ S → 8 < length (keep test (from 1 S))
-  passed-many n S one e p h =
-      let split : S ≡ n + suc (S - n) - 1 = omega arith in
-      let some : 1 ≤ length (keep test (from n (suc (S - n)))) = rw p (omega arith) in
-      omega (
-        arith,
-        e,
-        ap (λ (k : ℕ). length (keep test (from 1 k))) split,
-        ap length (passed-split n (suc (S - n)) one),
-        length-append (passed n) (keep test (from n (suc (S - n)))),
-      )
+-- the first does
+keep-next : (test : ℕ → Bool) (k S : ℕ) → k ≤ S → test k ≡ true → keep test (from k (S + 1 - k)) ≡ k ∷ keep test (from (k + 1) (S + 1 - (k + 1)))
+keep-next test k S h e =
+    let one-more : S + 1 - k ≡ suc (S + 1 - (k + 1)) = omega arith in
+    rw (one-more, e) (ap (λ (j : ℕ). k ∷ keep test (from j (S + 1 - (k + 1)))) (sym (add-one k)))
 
 -- ---- the loop's state
 
 abbrev pub marksAt : List Bool → ℕ → Bool
 marksAt marks s = getD marks s false
 
--- the numbers below `symbol` are gathered
-pub record Gathered (marks : List Bool) (list : List ℕ) (count symbol : ℕ) : Type 0 where
+-- of the marked numbers up to S those that are gathered, and those from `symbol` on
+pub record Gathered (marks : List Bool) (S : ℕ) (list : List ℕ) (count symbol : ℕ) : Type 0 where
   pub some : 1 ≤ symbol
   pub few : count ≤ 8
-  pub counted : count ≡ length (passed (marksAt marks) symbol)
-  pub stored : list ≡ padded (passed (marksAt marks) symbol)
+  done : List ℕ
+  counted : count ≡ length done
+  stored : list ≡ padded done
+  whole : keep (marksAt marks) (from 1 S) ≡ done ++ keep (marksAt marks) (from symbol (S + 1 - symbol))
 
-pub gathered-none : (marks : List Bool) → Gathered marks (replicate 8 0) 0 1
+pub gathered-none : (marks : List Bool) (S : ℕ) → Gathered marks S (replicate 8 0) 0 1
 unfolding padded
-gathered-none marks = record { some = omega arith; few = omega arith; counted = refl; stored = refl }
+gathered-none marks S =
+    let all : S + 1 - 1 ≡ S = omega arith in
+    record { some = omega arith; few = omega arith; done = []; counted = refl; stored = refl; whole = rw all }
 
-module _ (marks : List Bool) (list : List ℕ) (count symbol : ℕ) (g : Gathered marks list count symbol) where
-  pub gathered-more : getD marks symbol false ≡ true → count < 8 → Gathered marks (set list count symbol) (count + 1) (symbol + 1)
-  gathered-more e h =
-      let before = passed (marksAt marks) symbol in
-      let more = passed-more (marksAt marks) symbol (g .some) e in
+module _ {marks : List Bool} {S : ℕ} {list : List ℕ} {count symbol : ℕ} (g : Gathered marks S list count symbol) where
+  pub gathered-more : symbol ≤ S → getD marks symbol false ≡ true → count < 8 → Gathered marks S (set list count symbol) (count + 1) (symbol + 1)
+  gathered-more b e h =
       record {
         some = omega arith;
         few = omega arith;
-        counted = omega (arith, g .counted, ap length more, length-append before (symbol ∷ []));
+        done = g .done ++ (symbol ∷ []);
+        counted = omega (arith, g .counted, length-append (g .done) (symbol ∷ []));
         stored =
             ap₂ (λ (l : List ℕ) (n : ℕ). set l n symbol) (g .stored) (g .counted)
-            ∙ padded-more before symbol (omega (arith, g .counted))
-            ∙ ap padded (sym more);
+            ∙ padded-more (g .done) symbol (omega (arith, g .counted));
+        whole =
+            g .whole
+            ∙ ap (λ (l : List ℕ). g .done ++ l) (keep-next (marksAt marks) symbol S b e)
+            ∙ sym (append-snoc (g .done) symbol (keep (marksAt marks) (from (symbol + 1) (S + 1 - (symbol + 1)))));
       }
 
-  pub gathered-same : getD marks symbol false ≡ false → Gathered marks list count (symbol + 1)
-  gathered-same e =
-      let same = passed-same (marksAt marks) symbol (g .some) e in
-      record { some = omega arith; few = g .few; counted = g .counted ∙ ap length (sym same); stored = g .stored ∙ ap padded (sym same) }
+  pub gathered-past : (m : ℕ) → ((i : ℕ) → i < m → getD marks (symbol + i) false ≡ false) → Gathered marks S list count (symbol + m)
+  gathered-past m unmarked =
+      let fewer : S + 1 - symbol - m ≡ S + 1 - (symbol + m) = omega arith in
+      record {
+        some = omega arith;
+        few = g .few;
+        done = g .done;
+        counted = g .counted;
+        stored = g .stored;
+        whole = g .whole ∙ ap (λ (l : List ℕ). g .done ++ l) (rw fewer at (keep-past (marksAt marks) m symbol (S + 1 - symbol) unmarked));
+      }
 
-  module _ (S : ℕ) where
-    pub gathered-full : getD marks symbol false ≡ true → count ≡ 8 → symbol ≤ S
-        → record { fits = false; list = replicate 8 0; count = 0 } ≡ named (keep (marksAt marks) (from 1 S))
-    gathered-full e h l =
-        sym (named-many (keep (marksAt marks) (from 1 S)) (passed-many (marksAt marks) symbol S (g .some) (sym (g .counted) ∙ h) e l))
+  pub gathered-full : getD marks symbol false ≡ true → count ≡ 8 → symbol ≤ S
+      → record { fits = false; list = replicate 8 0; count = 0 } ≡ named (keep (marksAt marks) (from 1 S))
+  gathered-full e h b =
+      let more = keep (marksAt marks) (from symbol (S + 1 - symbol)) in
+      let some : 1 ≤ length more = omega (arith, ap length (keep-next (marksAt marks) symbol S b e)) in
+      sym (named-many _ (omega (arith, g .counted, some, ap length (g .whole), length-append (g .done) more)))
 
-    pub gathered-all : symbol ≡ S + 1 → record { fits = true; list = list; count = count } ≡ named (keep (marksAt marks) (from 1 S))
-    gathered-all h =
-        let all = keep (marksAt marks) (from 1 S) in
-        let end : passed (marksAt marks) symbol ≡ all = let e : symbol - 1 ≡ S = omega arith in rw e in
-        ap₂ (λ (l : List ℕ) (n : ℕ). record { fits = true; list = l; count = n }) (g .stored ∙ ap padded end) (g .counted ∙ ap length end)
-        ∙ sym (named-few all (omega (arith, g .few, g .counted, ap length end)))
+  pub gathered-all : S < symbol → record { fits = true; list = list; count = count } ≡ named (keep (marksAt marks) (from 1 S))
+  gathered-all h =
+      let none : S + 1 - symbol ≡ 0 = omega arith in
+      let all : keep (marksAt marks) (from 1 S) ≡ g .done = g .whole ∙ rw none (append-nil (g .done)) in
+      ap₂ (λ (l : List ℕ) (n : ℕ). record { fits = true; list = l; count = n }) (g .stored) (g .counted)
+      ∙ sym (ap named all ∙ named-few (g .done) (omega (arith, g .few, g .counted)))

@@ -1,10 +1,10 @@
 // The different symbols of a formula, rising.
 
 ghost use mathlib.Core.Path.{_≡_};
-ghost use Prim.Native.Nat.{_≤_};
+ghost use Prim.Native.Nat.{_+_, _≤_};
 ghost use mathlib.Core.Bool.{true, false};
 ghost use lib.ListN.{getD};
-ghost use Rattle.meaning.specs.Tests.{keep, from};
+ghost use Rattle.meaning.specs.Tests.{any, keep, from};
 ghost use Rattle.formula.specs.Parse.{parse, levels};
 ghost use Rattle.formula.specs.Answers.{isGood, usedOf, marksOf, named, namesOf};
 use crate::reading::Kind;
@@ -41,14 +41,33 @@ fn mark(bytes: &[u8], depth: usize, marks: &mut [bool; 256]) -> usize
     }
 }
 
-// The marked numbers from 1 to `symbols`, rising.
+// Whether one of the eight marks from `first` on is set.
+fn one_of_eight(marks: &[bool; 256], first: usize) -> bool
+    requires { ⌜ first ≤ 248 ⌝ }
+    ensures { λ r. ⌜ r ≡ any (λ k. getD (now (marks .entry)) (first + k) false) (from 0 8) ⌝ }
+{
+    let mut marked = false;
+    let mut k = 0;
+    while k < 8 {
+        marked = marked | marks[first + k];
+        k += 1;
+    }
+    marked
+}
+
+// The marked numbers from 1 to `symbols`, rising. Few are marked, so eight without a mark are passed at once.
 fn collect(marks: &[bool; 256], symbols: usize) -> Names
     requires { ⌜ symbols ≤ 200 ⌝ }
     ensures { λ r. ⌜ r ≡ named (keep (λ s. getD (now (marks .entry)) s false) (from 1 symbols)) ⌝ }
 {
     let mut list = [0u8; 8];
     let mut count = 0;
-    for symbol in 1..=symbols {
+    let mut symbol = 1;
+    while symbol <= symbols {
+        if !one_of_eight(marks, symbol) {
+            symbol += 8;
+            continue;
+        }
         if marks[symbol] {
             if count == 8 {
                 return Names {
@@ -60,6 +79,7 @@ fn collect(marks: &[bool; 256], symbols: usize) -> Names
             list[count] = symbol as u8;
             count += 1;
         }
+        symbol += 1;
     }
     Names {
         fits: true,
