@@ -154,7 +154,7 @@ tup_answer plain_ask(tup_board board, const int16_t *table, size_t numbers, int1
 }
 
 uint8_t plain_ground(tup_board board, const int16_t *table, size_t numbers, int16_t literal, uint8_t *marks, size_t mark_count) {
-    uint16_t ranks[TUP_PLACES], todo[TUP_PLACES];
+    uint16_t ranks[TUP_PLACES], waiting[TUP_PLACES];
     bool seen[TUP_PLACES] = {false};
     unsigned count = 0;
     if (!good(&board, table, numbers)) return 1;
@@ -163,9 +163,9 @@ uint8_t plain_ground(tup_board board, const int16_t *table, size_t numbers, int1
     rank_all(&board, table, ranks, NULL);
     if (ranks[place(literal)] == NONE) return 12;
     memset(marks, 0, 2u * board.symbols);
-    seen[todo[count++] = (uint16_t)place(literal)] = true;
+    seen[waiting[count++] = (uint16_t)place(literal)] = true;
     while (count > 0) {
-        unsigned p = todo[--count];
+        unsigned p = waiting[--count];
         if (ranks[p] == 0) {
             marks[p] = 1;
             continue;
@@ -175,7 +175,7 @@ uint8_t plain_ground(tup_board board, const int16_t *table, size_t numbers, int1
             unsigned q = place(row[i]) ^ 1;
             if (q == (p ^ 1) || seen[q]) continue;
             seen[q] = true;
-            todo[count++] = (uint16_t)q;
+            waiting[count++] = (uint16_t)q;
         }
     }
     return 0;

@@ -1,5 +1,5 @@
 // One journal command and its line, as bytes.
 
-pub mod commands;
+mod commands;
 pub mod saying;
 mod text;

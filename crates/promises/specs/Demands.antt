@@ -11,17 +11,18 @@ use Rattle.meaning.specs.Tests.{all}
 use Rattle.meaning.specs.Literals.{place, conflict}
 use Rattle.meaning.specs.Formulae.{Formula, ruleOf}
 use Rattle.meaning.specs.Clauses.{rowsOf}
-use Rattle.meaning.specs.Rounds.{derived, rankOf, supportOf, label}
+use Rattle.meaning.specs.Rounds.{label}
 use Rattle.meaning.specs.Ground.{ground, blame}
 use Rattle.meaning.specs.SecondWay.{secondWay}
 use Rattle.meaning.specs.Promises.{Derived, Forced, TwoWays}
 use Rattle.literals.specs.Literal.{placeOf}
-use Rattle.literals.specs.Row.{decode, rowsIn}
+use Rattle.literals.specs.Row.{decode}
 use Rattle.literals.specs.declared.refusal.Refusal.{Refusal}
 use Rattle.board.specs.Faults.{Fault, goodBoard}
 use Rattle.board.specs.Changes.{emptyBoard, withFlag}
 use Rattle.board.specs.Settling.{settledLabels, settledRanks, settledSupports}
-use Rattle.board.specs.Asking.{asked, standing, reasoned, explained}
+use Rattle.board.specs.Ranking.{rowsOn}
+use Rattle.board.specs.Asking.{derivedOn, rankOn, supportOn, asked, standing, reasoned, explained}
 use Rattle.board.specs.Grounds.{byteOf, groundMarks, blameMarks}
 use Rattle.board.specs.declared.Outcome.the-variants.{Done, Refused}
 use Rattle.promises.specs.Calls.{Call, opens, adds, holds, withdraws, asks, explains, settles, grounds, blames, World, front, faults, outcome, after, run, formulaIn, rulesAfterAll, notOpen}
@@ -72,7 +73,7 @@ WithdrawTakes =
 
 -- the rows in use of a world, as lists of places
 abbrev pub rowsOfWorld : World → List (List ℕ)
-rowsOfWorld w = rowsIn (w .board .rows) (w .table)
+rowsOfWorld w = rowsOn (w .table) (w .board)
 
 -- "The rows stored for a rule are all its prime implicates and no others": the rows in use are those before, and then the rule's
 abbrev pub RuleAppends : Type 0
@@ -89,13 +90,13 @@ DerivedOn w p = Derived (2 * w .board .symbols) (rowsOfWorld w) (w .board .held)
 
 -- the derived literals by the rounds, and the rank and the support of a literal
 abbrev pub derivedSet : World → List Bool
-derivedSet w = derived (2 * w .board .symbols) (rowsOfWorld w) (w .board .held)
+derivedSet w = derivedOn (w .table) (w .board)
 
 abbrev pub rankIn : World → ℕ → ℕ
-rankIn w p = rankOf (2 * w .board .symbols) (rowsOfWorld w) (w .board .held) p
+rankIn w p = rankOn (w .table) (w .board) p
 
 abbrev pub supportIn : World → ℕ → ℕ
-supportIn w p = supportOf (2 * w .board .symbols) (rowsOfWorld w) (w .board .held) p
+supportIn w p = supportOn (w .table) (w .board) p
 
 -- the tables that settle left: "A literal is derived exactly if that definition derives it"
 pub record Tells (w : World) (labels ranks supports : List ℕ) : Type 0 where

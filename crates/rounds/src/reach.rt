@@ -61,7 +61,7 @@ fn expand_rank(table: &[i16], rows: usize, ranks: &[u16], k: u16, marks: &mut [b
     }
 }
 
-// The largest rank of a marked literal, 0 if no marked literal has a rank.
+// A bound on the ranks of the marked literals, from which `reach` counts down. That it is the least saves rounds; nothing rests on it.
 fn largest(ranks: &[u16], marks: &[bool]) -> u16
     requires { ⌜ length (now marks) ≡ length (now ranks) ⌝ }
     ensures { λ r. ⌜ ((p : ℕ) → p < length (now (ranks .entry)) → has (now (marks .entry)) p ≡ true → getD (now (ranks .entry)) p 0 < none → getD (now (ranks .entry)) p 0 ≤ r) ⌝ }
