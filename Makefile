@@ -5,13 +5,15 @@ DEST := $(DESTDIR)$(PREFIX)
 SEED ?= 1
 COUNT ?= 20000
 KIT := set -euo pipefail; . tools/kit.sh;
+ARCHIVE := target/staticlib/libpanel.a
 
 .PHONY: help test run lib install demo second bench clean
+.DELETE_ON_ERROR:
 
 help:
-	@echo 'make test                     the gate: tests, then every proof from nothing'
+	@echo 'make test                     the gate: every proof from nothing, then the tests'
 	@echo 'make run                      prove and build the journal, and run it on an example'
-	@echo 'make lib                      prove the C boundary and write target/staticlib/libpanel.a'
+	@echo 'make lib                      prove the C boundary and write $(ARCHIVE)'
 	@echo 'make install PREFIX=DIR       put the header, the archive and a pkg-config file in place'
 	@echo 'make demo                     the trend screen of a night shift, drawn to target/trend.svg'
 	@echo 'make second SEED=n COUNT=n    the independent second program on random boards'
@@ -24,24 +26,34 @@ test:
 run:
 	@set -o pipefail; examples/hex examples/cases/printed/input.hex | ./run journal
 
-lib:
-	@$(KIT) quietly rt staticlib panel; echo 'the archive is target/staticlib/libpanel.a'
+lib: $(ARCHIVE)
+	@echo 'the archive is $(ARCHIVE)'
 
-install: lib
+# Made from the crates that panel reaches. Their folders count too, so that a file that is gone is noticed.
+$(ARCHIVE): crates.txt $(shell . tools/kit.sh; find $$(reached panel | sed 's,^,crates/,') -name must-fail -prune -o -print)
+	@$(KIT) prove staticlib panel
+
+install: $(ARCHIVE)
 	install -d $(DEST)/include $(DEST)/lib/pkgconfig
 	install -m 644 include/tupahineka.h $(DEST)/include/
-	install -m 644 target/staticlib/libpanel.a $(DEST)/lib/
+	install -m 644 $(ARCHIVE) $(DEST)/lib/
 	printf '%s\n' 'prefix=$(PREFIX)' 'Name: tupahineka' 'Description: A proved truth-maintenance board' 'Version: 1.0' \
 	    'Cflags: -I$${prefix}/include' 'Libs: -L$${prefix}/lib -lpanel' >$(DEST)/lib/pkgconfig/tupahineka.pc
 
-demo: lib
-	@$(KIT) build_c target/trend examples/trend.c; run_c target/trend target/trend.svg; echo 'the picture is target/trend.svg'
+target/trend: examples/trend.c
+target/second: $(wildcard second/*.c second/*.h)
+target/bench: bench/bench.c bench/plain.c bench/plain.h
+target/trend target/second target/bench: include/tupahineka.h $(ARCHIVE)
+	@$(KIT) build_c $@ $(filter %.c,$^)
 
-second: lib
-	@$(KIT) build_c target/second second/*.c; run_c target/second $(SEED) $(COUNT)
+demo: target/trend
+	@$(KIT) run_c $< target/trend.svg; echo 'the picture is target/trend.svg'
 
-bench: lib
-	@$(KIT) build_c target/bench -O3 bench/bench.c bench/plain.c; run_c target/bench
+second: target/second
+	@$(KIT) run_c $< $(SEED) $(COUNT)
+
+bench: target/bench
+	@$(KIT) run_c $<
 
 clean:
 	rm -rf target

@@ -15,6 +15,11 @@ static inline unsigned place(int literal) {
     return literal > 0 ? 2u * (unsigned)literal - 2 : 2u * (unsigned)-literal - 1;
 }
 
+/* The opposite of a literal that was tested: its negation. */
+static inline int16_t opposite(int16_t literal) {
+    return (int16_t)-literal;
+}
+
 /* Rows lent. */
 static size_t lent(size_t numbers) {
     return numbers / WIDTH < TUP_MOST_ROWS ? numbers / WIDTH : TUP_MOST_ROWS;
@@ -65,10 +70,9 @@ static bool fire(const int16_t *row, size_t r, unsigned k, uint16_t *ranks, uint
     int i = 0;
     bool any = false;
     for (; i < WIDTH && row[i] != 0; i++) {
-        unsigned p = place(row[i]);
-        if (ranks[p ^ 1] < k) continue;
+        if (ranks[place(opposite(row[i]))] < k) continue;
         if (missing != NONE) return false;
-        missing = p;
+        missing = place(row[i]);
     }
     if (missing != NONE) return give(ranks, notes, missing, k, r);
     while (i-- > 0) any |= give(ranks, notes, place(row[i]), k, r);
@@ -92,9 +96,8 @@ static uint16_t support(const tup_board *board, const int16_t *table, const uint
         bool has = false;
         int i = 0;
         for (; i < WIDTH && row[i] != 0; i++) {
-            unsigned q = place(row[i]);
-            if (q == p) has = true;
-            else if (ranks[q ^ 1] >= ranks[p]) break;
+            if (place(row[i]) == p) has = true;
+            else if (ranks[place(opposite(row[i]))] >= ranks[p]) break;
         }
         if (has && (i == WIDTH || row[i] == 0)) return (uint16_t)r;
     }
@@ -149,7 +152,7 @@ tup_answer plain_ask(tup_board board, const int16_t *table, size_t numbers, int1
     rank_all(&board, table, ranks, NULL);
     if (conflict(&board, ranks)) return (tup_answer){0, TUP_CONFLICT};
     if (ranks[place(literal)] != NONE) return (tup_answer){0, TUP_STANDS};
-    if (ranks[place(literal) ^ 1] != NONE) return (tup_answer){0, TUP_RULED_OUT};
+    if (ranks[place(opposite(literal))] != NONE) return (tup_answer){0, TUP_RULED_OUT};
     return (tup_answer){0, TUP_OPEN};
 }
 
@@ -172,8 +175,9 @@ uint8_t plain_ground(tup_board board, const int16_t *table, size_t numbers, int1
         }
         const int16_t *row = table + WIDTH * support(&board, table, ranks, p);
         for (int i = 0; i < WIDTH && row[i] != 0; i++) {
-            unsigned q = place(row[i]) ^ 1;
-            if (q == (p ^ 1) || seen[q]) continue;
+            if (place(row[i]) == p) continue;
+            unsigned q = place(opposite(row[i]));
+            if (seen[q]) continue;
             seen[q] = true;
             waiting[count++] = (uint16_t)q;
         }

@@ -49,7 +49,9 @@ enum {
 /* How a literal stands. */
 enum { TUP_OPEN = 0, TUP_STANDS = 1, TUP_RULED_OUT = 2, TUP_CONFLICT = 3 };
 
-/* A board: S, the rows of the clause table in use, and for each place a byte, 0 where the literal is not held. Any bytes are taken. */
+/* A board: S, the rows of the clause table in use, and for each place a byte, 0 where the literal is not held. Any bytes are taken.
+ * A call that is done and hands a board back writes its held bytes as 0 and 1, whatever bytes other than 0 it was given; a refused
+ * call hands back the very bytes that it was given. */
 typedef struct tup_board {
     uint16_t symbols;
     uint16_t rows;
@@ -72,11 +74,12 @@ typedef struct tup_answer {
     uint8_t standing; /* TUP_OPEN where refused */
 } tup_answer;
 
+/* Look at the refusal before computing table + 8 * row: a refused explain's row, 65535, would lead far outside the table. */
 typedef struct tup_reason {
     uint8_t refusal;
     uint8_t literals; /* how many literals the supporting row has, at table + 8 * row; 0 where refused */
-    uint16_t rank;    /* TUP_NONE where refused */
-    uint16_t row;     /* TUP_NONE where refused */
+    uint16_t rank;    /* TUP_NONE, 65535, where refused */
+    uint16_t row;     /* TUP_NONE, 65535, where refused */
 } tup_reason;
 
 /* Opens a board of S symbols with no rows in use and no premises. Refused: 2. */

@@ -4,7 +4,7 @@
 #include <stdio.h>
 #include <stdlib.h>
 
-#include "draw.h"
+#include "damage.h"
 
 enum { NUMBERS = 15 };
 

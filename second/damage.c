@@ -1,5 +1,5 @@
 /* Damage to a board or its table, for one call: first what spoils it, and for afterwards what puts it right. */
-#include "draw.h"
+#include "damage.h"
 
 /* Adds a step of the caller's, and notes the step that undoes it. */
 static void spoil(Draft *draft, Step undo[2], unsigned *undone, Kind kind, unsigned place, int value, int before) {

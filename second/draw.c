@@ -3,6 +3,9 @@
 
 #include <string.h>
 
+#include "damage.h"
+#include "formulae.h"
+
 /* Styles of sequences. */
 enum { FREE, PLANTS, CIRCLE, CHAIN, ROWS, FULL, TIGHT, BROAD, PACKED, STYLES };
 
@@ -26,16 +29,6 @@ static const unsigned sort_weights[STYLES][SORTS] = {
 static const unsigned call_weights[2][CALLS] = {
     {[OPEN] = 3, [RULE] = 90, [HOLD] = 60, [WITHDRAW] = 10, [SETTLE] = 20, [ASK] = 10, [EXPLAIN] = 10, [GROUND] = 10, [BLAME] = 5},
     {[OPEN] = 5, [RULE] = 20, [HOLD] = 34, [WITHDRAW] = 20, [SETTLE] = 40, [ASK] = 28, [EXPLAIN] = 26, [GROUND] = 26, [BLAME] = 16}};
-
-/* Adds an empty step. */
-Step *add_step(Draft *draft, Kind kind) {
-    Step *step = &draft->steps[draft->count < MOST_STEPS - 1 ? draft->count++ : draft->count];
-    memset(step, 0, sizeof *step);
-    step->kind = kind;
-    step->numbers = draft->usual;
-    step->noise = random_next(&draft->random);
-    return step;
-}
 
 /* A count of symbols that suits the style. */
 static unsigned draw_symbols(Random *random, unsigned style) {
@@ -108,7 +101,7 @@ int draw_bad_literal(Random *random, unsigned symbols) {
 }
 
 /* A literal: one that leans, one of a row in use, or any. */
-int draw_literal(Draft *draft, const Play *play) {
+static int draw_literal(Draft *draft, const Play *play) {
     Random *random = &draft->random;
     const Board *board = &play->board;
     unsigned most = board->symbols >= 1 && board->symbols <= MOST_SYMBOLS ? board->symbols : draft->symbols;

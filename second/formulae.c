@@ -1,7 +1,5 @@
 /* Random formulae: plant-like, trees, spines to depth 17, many symbols, never and always true, and spoilt ones. */
-#include <string.h>
-
-#include "draw.h"
+#include "formulae.h"
 
 enum { SYMBOL = 0x10, NOT = 0x11, AND = 0x12, OR = 0x13, IMPLIES = 0x14, SAME = 0x15 };
 

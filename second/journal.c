@@ -5,6 +5,7 @@
 #include <string.h>
 
 #include "draw.h"
+#include "formulae.h"
 
 enum { MOST_BYTES = 32768, BUFFER = 40000, HELD = 64, WHOLE_FROM = 200 };
 enum { C_OPEN = 1, C_RULE, C_HOLD, C_DROP, C_ASK, C_WHY, COMMANDS };

@@ -1,6 +1,6 @@
 /* Document 01 by brute force, for the independent second program.
  *
- * Written from docs/01-scope.md and include/tupahineka.h alone. No other code of the project was read for it: what this
+ * Written from document 01 and include/tupahineka.h alone. No other code of the project was read for it: what this
  * program and the library share is the document and nothing else. Slow and by definition, wherever a definition is there. */
 #ifndef MODEL_H
 #define MODEL_H

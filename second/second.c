@@ -1,6 +1,6 @@
 /* The independent second program of Tupahineka: random sequences of calls, the library against document 01 by brute force.
  *
- * Written from docs/01-scope.md and include/tupahineka.h alone; no other code of the project was read for it.
+ * Written from document 01 and include/tupahineka.h alone; no other code of the project was read for it.
  *
  *   second SEED COUNT               plays COUNT sequences and compares everything after every call
  *   second show SEED NUMBER         prints sequence NUMBER in words, by the model alone

@@ -1,6 +1,6 @@
 #!/usr/bin/env bash
-# Runs the built journal on every case of examples/cases, and on inputs that are long or arrive in pieces. Its last line says how
-# many passed.
+# Proves and builds the journal, and runs it on every case of examples/cases and on inputs that are long or arrive in pieces. Its last line
+# counts them.
 set -euo pipefail
 cd "$(dirname "$0")/.."
 . tools/kit.sh
@@ -24,7 +24,7 @@ numbered() { # N TEXT
     seq "$1" | sed "s/\$/ $2/"
 }
 
-quietly rt check journal
+prove check journal
 
 for folder in examples/cases/*/; do
     examples/hex "$folder/input.hex" >"$room/input"
@@ -76,5 +76,5 @@ printf '%s\n' '1 open ok' '2 rule rows 0 2' '3 ask stands' '4 why rank 1 row 1: 
 run_x86 target/bin/journal <"$room/input" >"$room/wrote"
 held long-formula
 
-echo "journal: $passed passed, $failed failed"
+echo "journal: $passed inputs print what is due, $failed do not"
 [ "$failed" -eq 0 ]

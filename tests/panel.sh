@@ -4,26 +4,25 @@
 set -euo pipefail
 cd "$(dirname "$0")/.."
 . tools/kit.sh
-if [ -z "$(c_compiler)" ]; then
-    say "no C compiler for x86-64 programs here: the demo and the second program are not run (the proofs need none)"
+if [ "${TUP_WITHOUT_C:-}" = 1 ] && [ -z "$(c_compiler)" ]; then
+    say "no C compiler, and TUP_WITHOUT_C=1: the demo and the second program are not run"
     exit 0
 fi
-quietly rt staticlib panel
+need_c
+make -s target/trend target/second
 room=$(mktemp -d)
 trap 'rm -rf "$room"' EXIT
 
 # the demo's text is stored; its picture is written and not compared
-build_c target/trend examples/trend.c
 run_c target/trend "$room/trend.svg" >"$room/trend.txt"
 diff "$room/trend.txt" examples/trend.expected
 grep -q 'TC-3 struck off 03:10' "$room/trend.svg"
 echo "demo: it printed what examples/trend.expected has, and drew the shift"
 
-build_c target/second second/*.c
 run_c target/second "${SEED:-1}" "${COUNT:-20000}"
 
 # the journals of the second program, by the proved journal
-quietly rt check journal
+prove check journal
 mkdir "$room/journals"
 run_c target/second journals "$room/journals" "${SEED:-1}" 300
 ran=0

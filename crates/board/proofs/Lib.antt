@@ -8,6 +8,7 @@ pub mod Lending
 pub mod Explaining
 pub mod Settled
 pub mod Adding
+pub mod Answered
 pub mod Marks
 pub mod Grounded
 mod Unique

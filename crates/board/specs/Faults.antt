@@ -1,5 +1,5 @@
 -- 01, "Numbers of the refusals": when each is given, and which comes first.
-use Prim.Native.Nat.{_*_}
+use Prim.Native.Nat.{ℕ, _*_}
 use mathlib.Core.Bool.{Bool, cond, not, _&&_}
 use mathlib.Core.List.{List, [], _∷_}
 use lib.Dec.{leb}
@@ -7,6 +7,7 @@ use lib.IntN.{ℤ}
 use lib.ListN.{drop}
 use Rattle.meaning.specs.Tests.{any}
 use Rattle.literals.specs.Row.{rowsLent, rowsSound}
+use Rattle.literals.specs.Refusals.{numberOf}
 use Rattle.literals.specs.declared.refusal.Refusal.{Refusal}
 use Rattle.board.specs.declared.Board.{Board}
 use Rattle.board.specs.declared.Outcome.{Outcome}
@@ -34,3 +35,7 @@ firstFault (f ∷ fs) = cond (f .given) (Refused (f .refusal)) (firstFault fs)
 abbrev pub ifDone : {A : Type 0} → Outcome → A → (Refusal → A) → A
 ifDone Done good refused = good
 ifDone (Refused why) good refused = refused why
+
+-- the number that a call answers by: 0 for a call that is done, else the refusal's in 01's table
+abbrev pub numberIn : Outcome → ℕ
+numberIn outcome = ifDone outcome 0 numberOf

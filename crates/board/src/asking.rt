@@ -1,10 +1,11 @@
 // Ask and explain: one literal at a time, nothing written.
 
 ghost use mathlib.Core.Path.{_≡_};
-ghost use Prim.Native.Nat.{_+_, _<_};
+ghost use Prim.Native.Nat.{_*_, _≤_};
+ghost use lib.IntN.{natAbs};
 ghost use lib.ListN.{length};
 ghost use Rattle.meaning.specs.Tests.{none};
-ghost use Rattle.meaning.specs.Literals.{opp};
+ghost use Rattle.literals.specs.Literal.{placeOf};
 ghost use Rattle.rounds.specs.Ranks.{below};
 ghost use Rattle.board.specs.Asking.{standing, asked, reasoned, explained, IsPart};
 use crate::Board;
@@ -33,19 +34,18 @@ pub struct Reason {
     pub row: u16,
 }
 
-// How the literal at p stands by the ranks.
-fn standing_by(ranks: &[u16], p: usize) -> Standing
-    requires { ⌜ (p < length (now ranks)) × (opp p < length (now ranks)) × (length (now ranks) < none) ⌝ }
-    ensures { λ r. ⌜ r ≡ standing (below none (now (ranks .entry))) p ⌝ }
+// How a literal that was tested stands by the ranks.
+fn standing_by(ranks: &[u16], l: i16) -> Standing
+    requires { ⌜ (1 ≤ natAbs l) × (2 * natAbs l ≤ length (now ranks)) × (length (now ranks) ≤ 400) ⌝ }
+    ensures { λ r. ⌜ r ≡ standing (below none (now (ranks .entry))) (placeOf l) ⌝ }
 {
     if rounds::labels::first_clash(ranks) != NONE as usize {
         return Standing::Conflict;
     }
-    if ranks[p] < NONE {
+    if ranks[literals::place(l)] < NONE {
         return Standing::Stands;
     }
-    let other = literals::opposite(p);
-    if ranks[other] < NONE {
+    if ranks[literals::place(literals::opposite(l))] < NONE {
         return Standing::RuledOut;
     }
     Standing::Open
@@ -57,14 +57,14 @@ pub fn ask(board: Board, table: &[i16], l: i16) -> Standing
 {
     match place_on(board, table, l) {
         Placed::Refused(why) => Standing::Refused(why),
-        Placed::At(p) => {
+        Placed::At(_) => {
             let places = 2 * board.symbols;
             let ranked = ranks_on(board, table);
             if ranked.high {
                 return Standing::Refused(Refusal::RankTooHigh);
             }
             let ranks = ranked.list;
-            standing_by(&ranks[..places], p)
+            standing_by(&ranks[..places], l)
         }
     }
 }

@@ -4,6 +4,8 @@ pub mod Parsing
 pub mod Extents
 pub mod Walk
 pub mod Widening
+pub mod Alone
+pub mod Faults
 pub mod Values
 pub mod Marking
 pub mod Gathering
@@ -11,3 +13,4 @@ pub mod Listing
 pub mod Looking
 pub mod Assignments
 mod Vectors
+mod Unique

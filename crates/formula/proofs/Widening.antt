@@ -116,6 +116,13 @@ module _ (S : ℕ) where
   parse-fine (suc depth) [] = tt
   parse-fine (suc depth) (k ∷ body) = body-fine (λ l. parse S depth l) (parse-fine depth) (kindOf k) body
 
+pub parse-some : (S depth : ℕ) (bytes : List ℕ) → isGood (parse S depth bytes) ≡ true → 1 ≤ usedOf (parse S depth bytes)
+parse-some S depth bytes = go (parse S depth bytes) (parse-fine S depth bytes)
+  where
+    go : (p : Parsed) → Fine S p → isGood p ≡ true → 1 ≤ usedOf p
+    go (good f used) h e = h .1
+    go (bad why at) h e = never e
+
 -- a formula that was read from the front of the bytes: of the symbols 1 to S, and of so many bytes
 pub record Read (S : ℕ) (bytes : List ℕ) (f : Formula) (used : ℕ) : Type 0 where
   pub known : inside S f ≡ true

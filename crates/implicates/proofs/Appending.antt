@@ -43,7 +43,7 @@ encodeAll-append : (us vs : List (List ℕ)) → encodeAll (us ++ vs) ≡ encode
 encodeAll-append [] vs = refl
 encodeAll-append (u ∷ us) vs = ap (λ (l : List ℤ). encode u ++ l) (encodeAll-append us vs) ∙ sym (append-assoc (encode u) (encodeAll us) (encodeAll vs))
 
-length-encodeAll : (rows : List (List ℕ)) → length (encodeAll rows) ≡ width * length rows
+pub length-encodeAll : (rows : List (List ℕ)) → length (encodeAll rows) ≡ width * length rows
 length-encodeAll [] = refl
 length-encodeAll (row ∷ rows) = length-append (encode row) (encodeAll rows) ∙ omega (arith, length-encode row, length-encodeAll rows)
 

@@ -9,3 +9,4 @@ pub mod Putting
 pub mod Appending
 pub mod Turns
 pub mod Rules
+mod Unique

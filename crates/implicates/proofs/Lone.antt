@@ -7,9 +7,9 @@ use native.Mathlib.Omega.{arith}
 use native.Mathlib.Nat.{one-mul, zero-mul}
 use lib.ListN.{length, getD, take, drop, take-append-drop, length-append, length-take, length-drop}
 use lib.Seq.{append-snoc}
-use Rattle.meaning.specs.Clauses.{Digit, denies, out, hit, prime}
+use Rattle.meaning.specs.Clauses.{Digit, denies, out, hit, prime, lone}
 use Rattle.meaning.proofs.Tests.{both-true}
-use Rattle.meaning.proofs.Primes.{lone, lone-same, prime-lone}
+use Rattle.meaning.proofs.Primes.{lone-same, prime-lone}
 use Rattle.implicates.specs.Numbers.{weigh, number, clauseAt}
 use Rattle.implicates.specs.Hits.{marked, primeIn}
 use Rattle.implicates.proofs.Numbers.{number-below, length-clauseAt, number-clauseAt, marked-at}

@@ -3,8 +3,7 @@ use mathlib.Core.Bool.{Bool, false, not, cond, _&&_, _||_}
 use mathlib.Core.List.{List, [], _∷_, _++_, map}
 use Prim.Native.Nat.{ℕ, _+_, _*_, _^_}
 use lib.ListN.{length, getD, take, drop}
-use Rattle.meaning.specs.Clauses.{Digit, clauses, hit}
-use Rattle.meaning.proofs.Primes.{lone}
+use Rattle.meaning.specs.Clauses.{Digit, clauses, hit, lone}
 use Rattle.implicates.specs.Numbers.{number}
 
 -- an assignment's number: one bit a symbol, the first symbol's the highest

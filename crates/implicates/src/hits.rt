@@ -4,9 +4,9 @@
 ghost use mathlib.Core.Path.{_≡_};
 ghost use Prim.Native.Nat.{_*_, _<_, _≤_, _^_};
 ghost use lib.ListN.{length};
+ghost use Rattle.meaning.specs.Clauses.{lone};
 ghost use Rattle.implicates.specs.Numbers.{clauseAt};
 ghost use Rattle.implicates.specs.Hits.{hitTable, joined, marked, primeIn, primeTable};
-ghost use Rattle.meaning.proofs.Primes.{lone};
 
 // How many clauses there are over n symbols.
 pub fn clause_count(n: usize) -> usize

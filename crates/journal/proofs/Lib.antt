@@ -1,2 +1,3 @@
 -- Laws of a run.
 pub mod Telling
+pub mod Whole

@@ -1,12 +1,17 @@
 -- A run of the journal: what stands in the buffer and the lines that are still to come are always the same text.
 use Prim.Native.Nat.{ℕ, _+_, _≤_}
-use mathlib.Core.Bool.{Bool, cond, not, _&&_}
+use mathlib.Core.Bool.{Bool, false, cond, not, _&&_}
 use mathlib.Core.List.{List, [], _++_}
 use lib.Dec.{ltb}
 use lib.IntN.{ℤ}
 use lib.ListN.{length, take, drop}
+use Rattle.board.specs.Changes.{emptyBoard}
 use Rattle.lines.specs.Commands.{linesOf}
 use Rattle.journal.specs.declared.Run.{Run}
+
+-- the start of a run: "from a board with S = 0", the first command next, "its ordinal from 1"
+abbrev pub starting : Run
+starting = record { board = emptyBoard 0; next = 0; ordinal = 1; stops = false; filled = 0 }
 
 -- the lines that are still to come
 abbrev pub left : Run → List ℤ → (input : List ℕ) → List ℕ

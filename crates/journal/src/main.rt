@@ -2,9 +2,9 @@
 
 ghost use Prim.Native.Nat.{_+_, _≤_, _<_};
 ghost use mathlib.Core.Path.{_≡_};
-ghost use mathlib.Core.Bool.{true, false};
-ghost use lib.ListN.{length, replicate};
-ghost use Rattle.journal.specs.Told.{left, more, Runs, told};
+ghost use mathlib.Core.Bool.{true};
+ghost use lib.ListN.{length};
+ghost use Rattle.journal.specs.Told.{left, more, Runs, starting, told};
 use board::Board;
 use libc::STDIN_FILENO;
 use libc::STDOUT_FILENO;
@@ -27,7 +27,7 @@ struct Run {
 
 // The board of no symbols, before the first command.
 fn start() -> Run
-    ensures { λ r. ⌜ r ≡ record { board = record { symbols = 0; rows = 0; held = replicate 400 false }; next = 0; ordinal = 1; stops = false; filled = 0 } ⌝ }
+    ensures { λ r. ⌜ r ≡ starting ⌝ }
 {
     let board = Board {
         symbols: 0,

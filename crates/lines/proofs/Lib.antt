@@ -5,4 +5,6 @@ pub mod Explaining
 pub mod Bodies
 pub mod Lines
 pub mod Runs
+pub mod LeftOver
 mod Printed
+mod Unique

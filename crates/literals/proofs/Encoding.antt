@@ -14,7 +14,7 @@ use Rattle.meaning.proofs.Tests.{and-intro}
 use Rattle.meaning.proofs.SoundRows.{Rising}
 use Rattle.literals.specs.Literal.{inRange, literalAt}
 use Rattle.literals.specs.Row.{width, zeros, rising, rowSound, decode, encode}
-use Rattle.literals.proofs.Places.{place-literal, literal-abs, literal-nonzero, literal-symbol}
+use Rattle.literals.proofs.Places.{place-of-literal, literal-abs, literal-nonzero, literal-symbol}
 use Rattle.literals.proofs.Decoding.{decode-zero, decode-literal}
 
 -- the first n numbers of a row's literals with m zeros after them
@@ -37,7 +37,7 @@ decode-written [] (suc n) (suc m) h = decode-zero (pos 0) (take n (replicate m (
 decode-written (p ∷ row) zero m h = absurd (omega arith)
 decode-written (p ∷ row) (suc n) m h =
     decode-literal (literalAt p) (written row n m) (λ z. omega (arith, z, literal-nonzero p))
-    ∙ ap₂ (λ (q : ℕ) (l : List ℕ). q ∷ l) (place-literal p) (decode-written row n m (le-of-suc-le-suc h))
+    ∙ ap₂ (λ (q : ℕ) (l : List ℕ). q ∷ l) (place-of-literal p) (decode-written row n m (le-of-suc-le-suc h))
 
 pub decode-encode : (row : List ℕ) → length row ≤ width → decode (encode row) ≡ row
 unfolding encode

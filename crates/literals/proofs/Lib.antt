@@ -1,8 +1,10 @@
 -- Facts that several proofs of the crate cite, and laws of its definitions.
 pub mod Signed
 pub mod Places
+pub mod Opposites
 pub mod Rows
 pub mod Decoding
 pub mod Encoding
 pub mod Counting
 mod Examples
+mod Unique

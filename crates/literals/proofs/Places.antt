@@ -11,8 +11,10 @@ use lib.Signed.{ltZ}
 use mir.Syntax.{w16, w64}
 use mir.Val.{SFits}
 use mir.Facts.{toZ-ofZ}
+use Rattle.meaning.specs.Literals.{place}
 use Rattle.meaning.proofs.Literals.{even-or-odd}
 use Rattle.literals.specs.Literal.{placeOf, literalAt}
+use Rattle.literals.specs.Promises.{PlaceOfLiteral, LiteralAtPlace}
 use Rattle.literals.proofs.Signed.{back, read, wide-is}
 
 -- ---- the place of a literal, by the test `l > 0`: from 2l in 64 bits
@@ -63,10 +65,16 @@ literal-odd : (p : ℕ) → (p % 2 ≡ 0 → ⊥) → literalAt p ≡ negsuc (p 
 unfolding literalAt
 literal-odd p h = rw (ne-eqb _ _ h)
 
-pub place-literal : (p : ℕ) → placeOf (literalAt p) ≡ p
+pub place-of-literal : PlaceOfLiteral
 unfolding placeOf
-place-literal p =
+place-of-literal p =
     ⊎-elim (λ h. rw (literal-even p h) (omega arith)) (λ h. rw (literal-odd p h) (omega arith)) (even-or-odd p)
+
+pub literal-at-place : LiteralAtPlace
+unfolding placeOf
+literal-at-place (pos zero) h = absurd (omega arith)
+literal-at-place (pos (suc k)) h = literal-even (place (suc k) true) (omega arith) ∙ ap (λ n. pos (suc n)) (omega arith)
+literal-at-place (negsuc k) h = literal-odd (place (suc k) false) (omega arith) ∙ ap negsuc (omega arith)
 
 -- the number of its symbol
 pub literal-abs : (p : ℕ) → natAbs (literalAt p) ≡ suc (p / 2)

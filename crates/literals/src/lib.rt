@@ -3,10 +3,9 @@
 pub mod refusal;
 
 ghost use mathlib.Core.Path.{_≡_};
-ghost use Prim.Native.Nat.{_+_, _*_, _≤_};
-ghost use lib.IntN.{natAbs};
+ghost use Prim.Native.Nat.{_+_, _*_, _≤_, _<_};
+ghost use lib.IntN.{natAbs, negℤ};
 ghost use lib.ListN.{length, take, drop};
-ghost use Rattle.meaning.specs.Literals.{opp};
 ghost use Rattle.literals.specs.Literal.{inRange, placeOf};
 ghost use Rattle.literals.specs.Row.{width, rowsLent, rowSound, rowsSound, decode};
 
@@ -38,6 +37,14 @@ pub fn in_range(l: i16, symbols: usize) -> bool
     1 <= s && s <= symbols
 }
 
+// The opposite literal: its negation. -32768 has none among the 16-bit numbers; a literal that was tested is not -32768.
+pub fn opposite(l: i16) -> i16
+    requires { ⌜ natAbs l < 32768 ⌝ }
+    ensures { λ r. ⌜ r ≡ negℤ l ⌝ }
+{
+    -l
+}
+
 // The place of a literal that was tested: +s stands at 2(s - 1), -s right after it. Every literal of every round passes here, so it
 // is worked out in 64 bits, where the sign costs no branch. `rounds` and `board` test the literal itself or the row that it
 // stands in.
@@ -51,13 +58,6 @@ pub fn place(l: i16) -> usize
     } else {
         (-1 - n) as usize
     }
-}
-
-// The place of the opposite literal: the last bit turned.
-pub fn opposite(p: usize) -> usize
-    ensures { λ r. ⌜ r ≡ opp p ⌝ }
-{
-    p ^ 1
 }
 
 // The rows that a table lends.

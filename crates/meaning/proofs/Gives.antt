@@ -10,6 +10,7 @@ use Rattle.meaning.specs.Tests.{all, member}
 use Rattle.meaning.specs.Literals.{opp, has}
 use Rattle.meaning.specs.Rounds.{gives}
 use Rattle.meaning.proofs.Tests.{both-true, and-intro, one-true, or-left, or-right, all-at, all-of, member-in, in-member}
+use Rattle.meaning.proofs.Literals.{Within}
 
 pub gives-words : (known : List Bool) (row : List ℕ) (p : ℕ) → gives known row p ≡ true
     → In p row × ((q : ℕ) → In q row → (q ≡ p) ⊎ (has known (opp q) ≡ true))
@@ -31,3 +32,9 @@ gives-of known row p m h =
     and-intro (member p row) (all (λ (q : ℕ). eqb q p || has known (opp q)) row) (in-member m)
     (all-of (λ (q : ℕ). eqb q p || has known (opp q)) row
     (λ q n. ⊎-elim (λ e. or-left (eqb q p) (has known (opp q)) (eq-eqb q p e)) (λ e. or-right (eqb q p) (has known (opp q)) e) (h q n)))
+
+-- a larger set gives no less
+pub gives-grow : (a b : List Bool) (row : List ℕ) (p : ℕ) → Within a b → gives a row p ≡ true → gives b row p ≡ true
+gives-grow a b row p w g =
+    let r = gives-words a row p g in
+    gives-of b row p (r .0) (λ q n. ⊎-elim (λ e. inl e) (λ e. inr (w (opp q) e)) (r .1 q n))

@@ -18,8 +18,10 @@ pub mod Reach
 pub mod Derived
 mod Ways
 mod Reason
+mod LeavingOff
 pub mod TwoWays
 mod Words
 pub mod Forced
 pub mod DemandThree
 mod Boards
+pub mod Answers

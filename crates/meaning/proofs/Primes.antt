@@ -9,7 +9,7 @@ use native.Mathlib.Omega.{arith}
 use borrow.Author.Tests.{not-false}
 use lib.ListN.{length}
 use Rattle.meaning.specs.Tests.{all}
-use Rattle.meaning.specs.Clauses.{Digit, denies, out, size, hit, implicate, prime, shorter}
+use Rattle.meaning.specs.Clauses.{Digit, denies, out, size, hit, implicate, shorter, prime, lone}
 use Rattle.meaning.proofs.Tests.{all-append, all-map, all-same, all-of, all-or-not, both-true, and-intro, same-test}
 use Rattle.meaning.proofs.Clauses.{Leaves, done, kept, left, leaves-self, leaves-more, hit-leaves, hit-same}
 
@@ -51,12 +51,6 @@ leaves-shorter (left {d = denies x} {v = v} l) =
     inr (Memᴰ·append-right (map (λ (t : List Digit). denies x ∷ t) (shorter v)) (Memᴰ·map (λ (t : List Digit). out ∷ t) (⊎-elim (λ e. here e) (λ m. there m) (leaves-shorter l))))
 
 -- ---- leaving out one literal
-
--- the test passes at each clause made by leaving out one literal
-abbrev pub lone : (List Digit → Bool) → List Digit → Bool
-lone test [] = true
-lone test (out ∷ v) = lone (λ u. test (out ∷ u)) v
-lone test (denies x ∷ v) = test (out ∷ v) && lone (λ u. test (denies x ∷ u)) v
 
 -- a test that passes at a clause with fewer literals too
 abbrev Keeps : (List Digit → Bool) → Type 0

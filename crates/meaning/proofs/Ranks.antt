@@ -6,15 +6,24 @@ use mathlib.Core.List.{List, List·Memᴰ as In}
 use Prim.Native.Nat.{ℕ, zero, suc, _+_, _-_, _≤_, _<_, zero-le}
 use native.Mathlib.Omega.{arith}
 use lib.Dec.{ltb, eqb}
-use borrow.Author.Tests.{lt-ltb, le-ltb, ltb-true, ne-eqb, eqb-true, eqb-false}
+use lib.ListN.{length}
+use borrow.Author.Tests.{lt-ltb, le-ltb, ltb-true, ne-eqb, eqb-true, eqb-false, not-true}
 use Rattle.meaning.specs.Tests.{any, from, none, first}
 use Rattle.meaning.specs.Literals.{opp, has}
 use Rattle.meaning.specs.Rounds.{gives, byRows, reached, after, derived, rankBy, rankOf, rankAbove}
-use Rattle.meaning.specs.Promises.{RankRule, RankBound}
-use Rattle.meaning.proofs.Tests.{true-or-false, both-true, false-of, clash, or-right, any-found, any-at, from-in}
+use Rattle.meaning.specs.Promises.{GivenIn, RankGiven, RankZero, RankRule, RoundsEnd, DerivedRanked, RankBound, RankAboveNever}
+use Rattle.meaning.proofs.Tests.{true-or-false, both-true, and-intro, not-intro, false-of, clash, or-right, any-found, any-at, from-in, in-from}
 use Rattle.meaning.proofs.Tables.{le-or-lt, FirstIs, first-is, first-only, getD-tabulate}
-use Rattle.meaning.proofs.Rounds.{next-at, closed, settled, earlier, stays}
+use Rattle.meaning.proofs.Literals.{Within, has-below, same-set}
+use Rattle.meaning.proofs.Rounds.{reached-length, next-at, next-keeps, closed, settled, earlier, stays}
 use Rattle.meaning.proofs.Gives.{gives-words, gives-of}
+
+-- no round after as many as there are places adds anything
+last-round : (places : ℕ) (rows : List (List ℕ)) (held : List Bool) (k : ℕ) → places ≤ k → after places rows held k ≡ derived places rows held
+unfolding reached
+last-round places rows held k l =
+    let same : places + (k - places) ≡ k = omega arith in
+    rw same at (stays places (byRows rows) held places (k - places) (settled places (byRows rows) held))
 
 module _ (places : ℕ) (rows : List (List ℕ)) (held : List Bool) where
   -- the test that a rank is the first to pass
@@ -87,19 +96,11 @@ module _ (places : ℕ) (rows : List (List ℕ)) (held : List Bool) where
       ⊎ ((r ≡ none) × ((k : ℕ) → has (after places rows held k) p ≡ false))
 
   pub rankOf-is : (p : ℕ) → places < none → RankIs p (rankOf places rows held p)
-  unfolding reached
   rankOf-is p small =
       ⊎-elim
       (λ f. inl (omega (arith, f .0), f .1, f .2))
-      (λ f. inr (f .0, λ k. ⊎-elim (λ l. f .1 k (omega arith)) (λ l. past f k (omega arith)) (le-or-lt k places)))
+      (λ f. inr (f .0, λ k. ⊎-elim (λ l. f .1 k (omega arith)) (λ l. rw (last-round places rows held k (omega arith)) (f .1 places (omega arith))) (le-or-lt k places)))
       (rankBy-is places p small)
-    where
-      past : (rankOf places rows held p ≡ none) × ((i : ℕ) → i < suc places → at p i ≡ false) → (k : ℕ) → places ≤ k → at p k ≡ false
-      past f k l =
-          let same : places + (k - places) ≡ k = omega arith in
-          let stay : after places rows held k ≡ derived places rows held =
-          rw same at (stays places (byRows rows) held places (k - places) (settled places (byRows rows) held)) in
-          rw stay (f .1 places (omega arith))
 
   -- a rank is k or below exactly if round k has the literal,
   pub rank-below : places < none → (k p : ℕ) → k ≤ places → ltb (rankOf places rows held p) (suc k) ≡ has (after places rows held k) p
@@ -144,40 +145,105 @@ module _ (places : ℕ) (rows : List (List ℕ)) (held : List Bool) where
       (λ f. absurd (omega (arith, f .0)))
       (rankOf-is p small)
 
-  -- ---- no rank is above the number of places
+-- ---- the same in the words of the promises
 
-  pub rank-above-never : rankAbove places rows held ≡ false
-  unfolding rankAbove
-  rank-above-never = false-of _ never
-    where
-      now : List Bool
-      now = derived places rows held
+pub rank-zero : RankZero
+rank-zero places rows held p small b = (
+  λ e. sym (held-rank places rows held small p b) ∙ lt-ltb (rankOf places rows held p) 1 (omega (arith, e)),
+  λ h. (let l = ltb-true (rankOf places rows held p) 1 (held-rank places rows held small p b ∙ h) in omega arith),
+)
 
-      adds : ℕ → Bool
-      adds p = not (has now p) && byRows rows now p
+pub derived-ranked : DerivedRanked
+derived-ranked places rows held p small = (
+  λ l. sym (derived-rank places rows held small p) ∙ lt-ltb (rankOf places rows held p) none l,
+  λ h. ltb-true (rankOf places rows held p) none (derived-rank places rows held small p ∙ h),
+)
 
-      no : (b : Bool) → not b ≡ true → b ≡ true → ⊥
-      no true e h = clash e refl
-      no false e h = clash h refl
+pub rank-given : RankGiven
+rank-given places rows held p k small low = (to, back)
+  where
+    rank : ℕ
+    rank = rankOf places rows held p
 
-      never : any (λ p. not (has now p) && byRows rows now p) (from 0 places) ≡ true → ⊥
-      never e =
-          let f = any-found adds (from 0 places) e in
-          let p = f .0 in
-          let w = both-true (not (has now p)) (byRows rows now p) (f .2) in
-          let b = from-in 0 places p (f .1) in
-          no (has now p) (w .0) (closed places (byRows rows) held p (omega arith) (w .1))
+    at : ℕ → Bool
+    at j = has (after places rows held j) p
+
+    to : rankOf places rows held p ≡ k → GivenIn places rows held p k
+    to e = rw e at (⊎-elim {C = GivenIn places rows held p rank} (λ f. (f .1, f .2)) (λ f. absurd (omega (arith, f .0))) (rankOf-is places rows held p small))
+
+    back : GivenIn places rows held p k → rankOf places rows held p ≡ k
+    back g =
+        ⊎-elim
+        (λ f.
+        let not-less : ¬ (rank < k) = λ l. clash (f .1) (g .1 rank l) in
+        let not-more : ¬ (k < rank) = λ l. clash (g .0) (f .2 k l) in
+        omega arith)
+        (λ f. clash (g .0) (f .1 k)) (rankOf-is places rows held p small)
 
 pub rank-bound : RankBound
-unfolding rankBy
-rank-bound places rows held p h = go (first test places) (ltb (first test places) places) refl
-  where
-    test : ℕ → Bool
-    test j = has (after places rows held j) p
+rank-bound places rows held p k g =
+    ⊎-elim (λ l. l)
+    (λ l. (let e = last-round places rows held k (omega arith) in clash (rw e at (g .0)) (g .1 places l)))
+    (le-or-lt k places)
 
-    go : (r : ℕ) (b : Bool) → ltb r places ≡ b → cond b r (cond (test places) places none) ≤ places
-    go r true e = let l = ltb-true r places e in omega arith
-    go r false e = rw h (omega arith)
+pub rank-above-never : RankAboveNever
+unfolding rankAbove
+rank-above-never places rows held = false-of _ never
+  where
+    now : List Bool
+    now = derived places rows held
+
+    adds : ℕ → Bool
+    adds p = not (has now p) && byRows rows now p
+
+    never : any (λ p. not (has now p) && byRows rows now p) (from 0 places) ≡ true → ⊥
+    never e =
+        let f = any-found adds (from 0 places) e in
+        let p = f .0 in
+        let w = both-true (not (has now p)) (byRows rows now p) (f .2) in
+        let b = from-in 0 places p (f .1) in
+        clash (closed places (byRows rows) held p (omega arith) (w .1)) (not-true (has now p) (w .0))
+
+-- a round gives some literal its rank, or nothing is added from there on
+pub rounds-end : RoundsEnd
+unfolding reached
+rounds-end places rows held k = go (any adds (from 0 places)) refl
+  where
+    now : List Bool
+    now = after places rows held k
+
+    then : List Bool
+    then = after places rows held (suc k)
+
+    adds : ℕ → Bool
+    adds p = has then p && not (has now p)
+
+    new : (p : ℕ) → has then p ≡ true → has now p ≡ false → GivenIn places rows held p (suc k)
+    new p h n = (h, λ j l. false-of (has (after places rows held j) p) (λ t. clash (earlier places (byRows rows) held j k (omega arith) p t) n))
+
+    still : any adds (from 0 places) ≡ false → (m : ℕ) → k ≤ m → after places rows held m ≡ after places rows held k
+    still e m l =
+        let same : k + (m - k) ≡ m = omega arith in
+        rw same at (stays places (byRows rows) held k (m - k) (same-set then now long back (next-keeps places (byRows rows) now (reached-length places (byRows rows) held k))))
+      where
+        long : length then ≡ length now
+        long = reached-length places (byRows rows) held (suc k) ∙ sym (reached-length places (byRows rows) held k)
+
+        back : Within then now
+        back p h =
+            let b = has-below then p h in
+            let w = reached-length places (byRows rows) held (suc k) in
+            ⊎-elim (λ t. t)
+            (λ n. clash (any-at adds (in-from 0 places p (omega arith) (omega arith)) (and-intro (has then p) (not (has now p)) h (not-intro (has now p) n))) e)
+            (true-or-false (has now p))
+
+    go : (b : Bool) → any adds (from 0 places) ≡ b
+        → ((p : ℕ) × GivenIn places rows held p (suc k)) ⊎ ((m : ℕ) → k ≤ m → after places rows held m ≡ after places rows held k)
+    go true e =
+        let f = any-found adds (from 0 places) e in
+        let w = both-true (has then (f .0)) (not (has now (f .0))) (f .2) in
+        inl (f .0, new (f .0) (w .0) (not-true (has now (f .0)) (w .1)))
+    go false e = inr (still e)
 
 -- the rule of the rounds in 01's words
 pub rank-rule : RankRule

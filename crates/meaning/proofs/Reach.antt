@@ -8,10 +8,11 @@ use native.Mathlib.Omega.{arith}
 use lib.Dec.{eqb}
 use lib.ListN.{length, getD}
 use borrow.Author.Tests.{eqb-false}
-use Rattle.meaning.specs.Tests.{any, none}
+use Rattle.meaning.specs.Tests.{none}
 use Rattle.meaning.specs.Literals.{opp, has}
 use Rattle.meaning.specs.Rounds.{byRows, after, rankOf, supportOf}
 use Rattle.meaning.specs.Ground.{reachesIn, reaches}
+use Rattle.meaning.specs.Promises.{PremiseReaches, OthersReach}
 use Rattle.meaning.proofs.Tests.{any-same}
 use Rattle.meaning.proofs.Literals.{has-below}
 use Rattle.meaning.proofs.Rounds.{reached-length}
@@ -76,17 +77,22 @@ module _ (places : ℕ) (rows : List (List ℕ)) (held : List Bool) (small : pla
               let below = f .1 in
               ih q (f .0) (omega arith) (omega arith)
 
-  -- "a held premise reaches itself;
-  pub reach-held : (p h : ℕ) → has held p ≡ true → reaches places rows held p h ≡ eqb p h
-  unfolding reaches reachesIn
-  reach-held p h e = rw e
+pub premise-reaches : PremiseReaches
+unfolding reaches reachesIn
+premise-reaches places rows held p h e = rw e
 
-  -- another derived literal reaches what the opposites of its support's other literals reach", and one without a rank nothing
-  pub reach-on : (p h : ℕ) → p < places → has held p ≡ false
-      → reaches places rows held p h ≡ any (λ q. not (eqb q p) && reaches places rows held (opp q) h) (getD rows (supportOf places rows held p) [])
-  unfolding reaches reachesIn
-  reach-on p h b e = rw e (any-same _ _ (support p) (λ q i. each q i (eqb q p) refl))
-    where
-      each : (q : ℕ) → In q (support p) → (t : Bool) → eqb q p ≡ t → (not t && in-steps places (opp q) h) ≡ (not t && in-steps (suc places) (opp q) h)
-      each q i true d = refl
-      each q i false d = let f = ranks-fall p q b i (eqb-false q p d) in let l = f .2 in enough places (suc places) (opp q) h (f .0) l (omega arith)
+pub others-reach : OthersReach
+unfolding reaches reachesIn
+others-reach places rows held p h small few b e =
+    rw e (any-same _ _ (getD rows (supportOf places rows held p) []) (λ q i. each q i (eqb q p) refl))
+  where
+    steps : ℕ → ℕ → Bool
+    steps n q = reachesIn n (supportOf places rows held) rows held q h
+
+    each : (q : ℕ) → In q (getD rows (supportOf places rows held p) []) → (t : Bool) → eqb q p ≡ t
+        → (not t && steps places (opp q)) ≡ (not t && steps (suc places) (opp q))
+    each q i true d = refl
+    each q i false d =
+        let f = ranks-fall places rows held small few p q b i (eqb-false q p d) in
+        let l = f .2 in
+        enough places rows held small few places (suc places) (opp q) h (f .0) l (omega arith)

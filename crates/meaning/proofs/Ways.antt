@@ -18,7 +18,7 @@ use Rattle.meaning.proofs.Tests.{true-or-false, both-true, and-intro, o
 use Rattle.meaning.proofs.Tests.{any-found, any-at, all-at, all-of, any-imp, all-imp, member-in, in-member}
 use Rattle.meaning.proofs.Literals.{Within}
 use Rattle.meaning.proofs.Rounds.{Monotone}
-use Rattle.meaning.proofs.Gives.{gives-words, gives-of}
+use Rattle.meaning.proofs.Gives.{gives-grow}
 use Rattle.meaning.proofs.Implicates.{assignment-listed, assignment-length}
 
 -- ---- a rule forces a literal: it is one of the rule's symbols, and each assignment that agrees with what is known and satisfies
@@ -81,10 +81,7 @@ literal-words symbols p h =
 
 pub rows-grow : (rows : List (List ℕ)) → Monotone (byRows rows)
 rows-grow rows a b p w h =
-    any-imp (λ (row : List ℕ). gives a row p) (λ (row : List ℕ). gives b row p) rows
-    (λ row m g.
-    let r = gives-words a row p g in
-    gives-of b row p (r .0) (λ q n. ⊎-elim (λ e. inl e) (λ e. inr (w (opp q) e)) (r .1 q n))) h
+    any-imp (λ (row : List ℕ). gives a row p) (λ (row : List ℕ). gives b row p) rows (λ row m g. gives-grow a b row p w g) h
 
 -- of a larger set fewer assignments agree
 agrees-less : (a b : List Bool) (said : List ℕ) → Within a b → agrees b said ≡ true → agrees a said ≡ true

@@ -67,6 +67,13 @@ shorter (denies x ∷ v) = map (λ u. denies x ∷ u) (shorter v) ++ map (λ u. 
 unfoldable pub prime : (List Bool → Bool) → List Digit → Bool
 prime sat v = implicate sat v && all (λ u. not (implicate sat u)) (shorter v)
 
+-- the test passes at each clause made by leaving out just one literal: an implicate is prime exactly if each of those is hit
+-- (`prime-lone`), and that is how the code finds the primes
+abbrev pub lone : (List Digit → Bool) → List Digit → Bool
+lone test [] = true
+lone test (out ∷ v) = lone (λ u. test (out ∷ u)) v
+lone test (denies x ∷ v) = test (out ∷ v) && lone (λ u. test (denies x ∷ u)) v
+
 -- of some clauses those of k literals that pass a test
 abbrev pub chosen : (List Digit → Bool) → ℕ → List (List Digit) → List (List Digit)
 chosen test k vs = keep (λ v. eqb (size v) k && test v) vs

@@ -1,9 +1,10 @@
--- What a reader must believe, in document 01's order. Definitions only: nothing here is proved, and everything computes.
+-- What a reader must believe, in document 01's order: definitions, which compute, and last what is promised of them, each as a type.
 pub mod Tests
 pub mod Literals
 pub mod Formulae
 pub mod Clauses
 pub mod Rounds
 pub mod Ground
+pub mod LeavingOff
 pub mod SecondWay
 pub mod Promises

@@ -1,16 +1,19 @@
 -- What is promised of these definitions, each as a type. The proofs are in `proofs/`, under the same names in small letters.
 use mathlib.Core.Path.{_≡_}
-use mathlib.Core.Logic.{_↔_, _≢_}
-use mathlib.Core.Bool.{Bool, true, false}
+use mathlib.Core.Logic.{_↔_, _≢_, _⊎_}
+use mathlib.Core.Bool.{Bool, true, false, not, _&&_}
 use mathlib.Core.List.{List, []}
 use mathlib.Core.List.{List·Memᴰ as In}
 use Prim.Native.Nat.{ℕ, suc, _*_, _≤_, _<_}
+use lib.Dec.{eqb}
 use lib.ListN.{length, getD}
-use Rattle.meaning.specs.Tests.{all, none}
+use Rattle.meaning.specs.Tests.{any, all, none}
 use Rattle.meaning.specs.Literals.{place, opp, has, conflict}
 use Rattle.meaning.specs.Formulae.{Formula, ruleOf}
 use Rattle.meaning.specs.Clauses.{Digit, prime, primesInOrder, rowsOf, allRows, InOrder}
-use Rattle.meaning.specs.Rounds.{derived, rankOf, supportOf, label}
+use Rattle.meaning.specs.Rounds.{after, derived, rankOf, supportOf, label, rankAbove}
+use Rattle.meaning.specs.Ground.{reaches}
+use Rattle.meaning.specs.LeavingOff.{violation, WorksTo, LeavesOff}
 use Rattle.meaning.specs.SecondWay.{Forces, accepted, rulesOf, firstWay, secondWay}
 
 -- ---- "The rows stored for a rule are all its prime implicates and no others", each once and in 01's order
@@ -23,6 +26,23 @@ RowsInOrder = (S : ℕ) (f : Formula) → InOrder (rowsOf (ruleOf S f))
 
 -- ---- the rounds in 01's words
 
+-- the literal p is given rank k: round k has it and no earlier one does, of as many rounds as one likes
+abbrev pub GivenIn : ℕ → List (List ℕ) → List Bool → (p k : ℕ) → Type 0
+GivenIn places rows held p k =
+    (has (after places rows held k) p ≡ true) × ((j : ℕ) → j < k → has (after places rows held j) p ≡ false)
+
+-- `rankOf` looks at 2S rounds: it tells the rank by rounds without end
+abbrev pub RankGiven : Type 0
+RankGiven =
+    (places : ℕ) (rows : List (List ℕ)) (held : List Bool) (p k : ℕ) → places < none → k < none
+    → (rankOf places rows held p ≡ k) ↔ GivenIn places rows held p k
+
+-- "Rank 0: the held premises."
+abbrev pub RankZero : Type 0
+RankZero =
+    (places : ℕ) (rows : List (List ℕ)) (held : List Bool) (p : ℕ) → places < none → p < places
+    → (rankOf places rows held p ≡ 0) ↔ (has held p ≡ true)
+
 -- "literal L is given rank k if it has no smaller rank and some row in use contains L and the opposite of each other literal of
 -- that row has a rank below k": rank k + 1 from the ranks of k or below
 abbrev pub RankRule : Type 0
@@ -31,6 +51,27 @@ RankRule =
     → (rankOf places rows held p ≡ suc k)
     ↔ ((k < rankOf places rows held p)
     × ((row : List ℕ) × In row rows × In p row × ((q : ℕ) → In q row → q ≢ p → rankOf places rows held (opp q) ≤ k)))
+
+-- "Rounds go on until one adds nothing. Each round but that one gives a rank to at least one literal.": of any round, it gives some
+-- literal its rank, or neither it nor any later one adds anything
+abbrev pub RoundsEnd : Type 0
+RoundsEnd =
+    (places : ℕ) (rows : List (List ℕ)) (held : List Bool) (k : ℕ)
+    → ((p : ℕ) × GivenIn places rows held p (suc k)) ⊎ ((m : ℕ) → k ≤ m → after places rows held m ≡ after places rows held k)
+
+-- "The derived literals are those with a rank."
+abbrev pub DerivedRanked : Type 0
+DerivedRanked =
+    (places : ℕ) (rows : List (List ℕ)) (held : List Bool) (p : ℕ) → places < none
+    → (rankOf places rows held p < none) ↔ (has (derived places rows held) p ≡ true)
+
+-- no rank is above the number of places, however many rounds are run
+abbrev pub RankBound : Type 0
+RankBound = (places : ℕ) (rows : List (List ℕ)) (held : List Bool) (p k : ℕ) → GivenIn places rows held p k → k ≤ places
+
+-- so the test behind 14, "a literal would need a rank above 2S", never holds
+abbrev pub RankAboveNever : Type 0
+RankAboveNever = (places : ℕ) (rows : List (List ℕ)) (held : List Bool) → rankAbove places rows held ≡ false
 
 -- row r gives the literal p its rank: it contains it, and the opposite of each other literal has a smaller rank
 abbrev pub GaveRank : ℕ → List (List ℕ) → List Bool → ℕ → ℕ → Type 0
@@ -46,10 +87,20 @@ SupportRule =
     ↔ ((0 < rankOf places rows held p) × (rankOf places rows held p < none) × GaveRank places rows held p r
     × ((i : ℕ) → i < r → GaveRank places rows held p i → ⊥))
 
--- no rank is above the number of places
-abbrev pub RankBound : Type 0
-RankBound =
-    (places : ℕ) (rows : List (List ℕ)) (held : List Bool) (p : ℕ) → has (derived places rows held) p ≡ true → rankOf places rows held p ≤ places
+-- ---- ground, without counting steps
+
+-- "a held premise reaches itself;
+abbrev pub PremiseReaches : Type 0
+PremiseReaches =
+    (places : ℕ) (rows : List (List ℕ)) (held : List Bool) (p h : ℕ) → has held p ≡ true → reaches places rows held p h ≡ eqb p h
+
+-- another derived literal reaches what the opposites of its support's other literals reach." (One that is not derived has no support,
+-- and reaches nothing.)
+abbrev pub OthersReach : Type 0
+OthersReach =
+    (places : ℕ) (rows : List (List ℕ)) (held : List Bool) (p h : ℕ) → places < none → length rows ≤ none → p < places → has held p ≡ false
+    → reaches places rows held p h
+    ≡ any (λ q. not (eqb q p) && reaches places rows held (opp q) h) (getD rows (supportOf places rows held p) [])
 
 -- ---- the same with no rounds, for any order of work
 
@@ -62,6 +113,24 @@ pub data Derived (places : ℕ) (rows : List (List ℕ)) (held : List Bool) : �
 abbrev pub DerivedIs : Type 0
 DerivedIs = (places : ℕ) (rows : List (List ℕ)) (held : List Bool) (p : ℕ) → Derived places rows held p ↔ (has (derived places rows held) p ≡ true)
 
+-- ---- 001's propagation, which leaves off at the first violated row: "Both find a conflict on the same boards."
+
+-- wherever it leaves off, whatever its order of work, it has found a violation exactly if the board is in conflict. (A sound row has a
+-- literal.)
+abbrev pub BothFind : Type 0
+BothFind =
+    (S : ℕ) (rows : List (List ℕ)) (held known : List Bool) → ((row : List ℕ) → In row rows → 0 < length row)
+    → WorksTo (2 * S) rows held known → LeavesOff (2 * S) rows held known
+    → (violation (2 * S) rows held known ≡ true) ↔ (conflict (derived (2 * S) rows held) ≡ true)
+
+-- and there is always a point where it does
+abbrev pub WorkEnds : Type 0
+WorkEnds =
+    (places : ℕ) (rows : List (List ℕ)) (held : List Bool)
+    → (known : List Bool) × WorksTo places rows held known × LeavesOff places rows held known
+
+-- ---- demand 3
+
 -- a literal is forced if it is a held premise, or if some rule forces it from literals that are all forced
 pub data Forced (S : ℕ) (fs : List Formula) (held : List Bool) : ℕ → Type 0 where
   premise : {p : ℕ} → p < 2 * S → has held p ≡ true → Forced S fs held p
@@ -72,8 +141,6 @@ abbrev pub ForcedIs : Type 0
 ForcedIs =
     (S : ℕ) (fs : List Formula) (held : List Bool) → all (accepted S) fs ≡ true → (p : ℕ)
     → Forced S fs held p ↔ (has (secondWay S fs held) p ≡ true)
-
--- ---- demand 3
 
 -- some literal and its opposite
 abbrev pub Conflict : (ℕ → Type 0) → Type 0

@@ -4,7 +4,7 @@ use mathlib.Core.Bool.{Bool, not}
 use mathlib.Core.List.{map}
 use lib.Dec.{eqb}
 use Rattle.literals.specs.Refusals.{numberOf}
-use Rattle.board.specs.Faults.{ifDone}
+use Rattle.board.specs.Faults.{ifDone, numberIn}
 use Rattle.board.specs.Grounds.{byteOf}
 use Rattle.board.specs.declared.Board.{Board}
 use Rattle.board.specs.declared.Change.{Change}
@@ -34,10 +34,6 @@ boardOut b = record { symbols = b .symbols; rows = b .rows; held = map byteOf (b
 pub record Narrow (b : Board) : Type 0 where
   pub symbols : b .symbols < 65536
   pub rows : b .rows < 65536
-
--- 0 for a call that is done, else the refusal's number
-abbrev pub numberIn : Outcome → ℕ
-numberIn outcome = ifDone outcome 0 numberOf
 
 -- a refused call hands back the very board that it was given
 abbrev pub nextOut : PanelBoard → Outcome → Board → PanelBoard

@@ -3,8 +3,9 @@
 ghost use mathlib.Core.Path.{_≡_};
 ghost use mathlib.Core.List.{map};
 ghost use Prim.Native.Nat.{_<_};
+ghost use Rattle.board.specs.Faults.{numberIn};
 ghost use Rattle.board.specs.Grounds.{byteOf};
-ghost use Rattle.panel.specs.Crossing.{flagOf, boardIn, boardOut, Narrow, numberIn, nextOut, changeOut, additionOut, answerOut};
+ghost use Rattle.panel.specs.Crossing.{flagOf, boardIn, boardOut, Narrow, nextOut, changeOut, additionOut, answerOut};
 use crate::PanelAddition;
 use crate::PanelAnswer;
 use crate::PanelBoard;

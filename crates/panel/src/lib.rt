@@ -4,12 +4,13 @@ mod crossing;
 
 ghost use mathlib.Core.Path.{_≡_};
 ghost use Prim.Native.Nat.{_-_};
+ghost use Rattle.board.specs.Faults.{numberIn};
 ghost use Rattle.board.specs.Changes.{opened, held, withdrawn};
 ghost use Rattle.board.specs.Rules.{ruled, ruledTable};
 ghost use Rattle.board.specs.Settling.{settleOutcome, settledLabels, settledRanks, settledSupports};
 ghost use Rattle.board.specs.Asking.{asked, reasoned, explained};
 ghost use Rattle.board.specs.Grounds.{groundOutcome, groundMarks, blameOutcome, blameMarks};
-ghost use Rattle.panel.specs.Crossing.{boardIn, boardOut, numberIn, changeOut, additionOut, answerOut, reasonOut};
+ghost use Rattle.panel.specs.Crossing.{boardIn, boardOut, changeOut, additionOut, answerOut, reasonOut};
 use crate::crossing::addition_out;
 use crate::crossing::answer_out;
 use crate::crossing::board_in;

@@ -13,10 +13,9 @@ use Rattle.meaning.specs.Rounds.{gives, next, reached, rankBy, labelsOf, rankAb
 use Rattle.meaning.specs.Ground.{reachesIn, reaches, blamed, blame}
 use Rattle.literals.specs.Literal.{placeOf, literalAt}
 use Rattle.literals.specs.Row.{numbersAt, zeros, rising, rowSound, rowsSound, decode, rowsIn, encode}
-use Rattle.literals.specs.Refusals.{numberOf}
 use Rattle.formula.specs.Parse.{symbolAt, secondOf, bodyOf, parse, wholeOf}
 use Rattle.implicates.specs.Appending.{appended}
-use Rattle.board.specs.Faults.{goodBoard, ifDone}
+use Rattle.board.specs.Faults.{goodBoard, numberIn}
 use Rattle.board.specs.Changes.{openFaults, opened, emptyBoard, flagFaults, flagChanged}
 use Rattle.board.specs.Rules.{ruleFaults, ruled, ruledTable}
 use Rattle.board.specs.Settling.{settleFaults, settleOutcome, settledLabels}
@@ -24,7 +23,7 @@ use Rattle.board.specs.Asking.{askFaults, asked, explainFaults, reasoned}
 use Rattle.board.specs.Grounds.{blameFaults, blameOutcome, blameMarks}
 use Rattle.board.specs.declared.asking.Standing.{Standing}
 use Rattle.board.specs.declared.asking.Standing.the-variants.{Conflict, Stands, Open}
-use Rattle.promises.specs.Calls.{Call, opens, adds, holds, withdraws, World, faults, outcome, after, run}
+use Rattle.promises.specs.Calls.{Call, opens, adds, holds, withdraws, World, outcome, after, run}
 use Rattle.promises.specs.Demands.{rowsOfWorld}
 
 -- ---- what is asked of the board that some calls leave, and what the answers are
@@ -63,7 +62,7 @@ abbrev blank : ℕ → List ℕ
 blank n = replicate n 9
 
 tell : World → Question → Answer
-tell w (refusal c) = number (ifDone (outcome w c) 0 numberOf)
+tell w (refusal c) = number (numberIn (outcome w c))
 tell w rows = appended-rows (rowsOfWorld w)
 tell w labels =
     let S = w .board .symbols in bytes (settledLabels (w .table) (w .board) (blank S) (blank (2 * S)) (blank (2 * S)))
@@ -136,7 +135,19 @@ boards =
     )
     ∷ []
 
--- the calls answer each question as 01 does
-boards-hold : map (λ b. map (λ q. tell (run fresh (b .0)) (q .0)) (b .1)) boards ≡ map (λ b. map (λ q. q .1) (b .1)) boards
-unfolding tell after faults opp value occurs symbolsOf hit implicate prime ofSize gives next reached rankBy labelsOf rankAbove reachesIn reaches blamed blame placeOf literalAt numbersAt zeros rising rowSound rowsSound decode rowsIn encode symbolAt secondOf bodyOf parse wholeOf appended goodBoard openFaults opened flagFaults flagChanged ruleFaults ruled ruledTable settleFaults settleOutcome settledLabels askFaults asked explainFaults reasoned blameFaults blameOutcome blameMarks
+-- what the calls answer, one after the other: 0 for each that is done
+abbrev answers : World → List Call → List ℕ
+answers w [] = []
+answers w (c ∷ calls) = numberIn (outcome w c) ∷ answers (after w c) calls
+
+-- of a board: what the calls that make it answer, and then the answers to its questions; and what both shall be: each call is done, and
+-- the answers are 01's
+abbrev found : List Call × List (Question × Answer) → List ℕ × List Answer
+found b = (answers fresh (b .0), map (λ q. tell (run fresh (b .0)) (q .0)) (b .1))
+
+abbrev due : List Call × List (Question × Answer) → List ℕ × List Answer
+due b = (map (λ c. 0) (b .0), map (λ q. q .1) (b .1))
+
+boards-hold : map found boards ≡ map due boards
+unfolding tell outcome after opp value occurs symbolsOf hit implicate prime ofSize gives next reached rankBy labelsOf rankAbove reachesIn reaches blamed blame placeOf literalAt numbersAt zeros rising rowSound rowsSound decode rowsIn encode symbolAt secondOf bodyOf parse wholeOf appended goodBoard openFaults opened flagFaults flagChanged ruleFaults ruled ruledTable settleFaults settleOutcome settledLabels askFaults asked explainFaults reasoned blameFaults blameOutcome blameMarks
 boards-hold = refl

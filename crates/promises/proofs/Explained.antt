@@ -9,12 +9,14 @@ use lib.ListN.{length, take, drop, getD}
 use Rattle.literals.specs.Literal.{placeOf}
 use Rattle.literals.specs.Row.{width, numbersAt, decode}
 use Rattle.literals.proofs.Decoding.{rows-at}
+use Rattle.board.specs.Faults.{firstFault}
 use Rattle.board.specs.Ranking.{rowsOn}
 use Rattle.board.specs.Asking.{explainFaults, reasoned, explained}
 use Rattle.board.specs.declared.Outcome.the-variants.{Done}
 use Rattle.board.proofs.Explaining.{none-given, row-used}
 use Rattle.promises.specs.Calls.{explains, World, front, faults, outcome}
 use Rattle.promises.specs.Demands.{rowsOfWorld, rankIn, supportIn, ExplainTells}
+use Rattle.promises.proofs.Refusals.{cases}
 use Rattle.promises.proofs.Lent.{numbers-lent}
 use Rattle.promises.proofs.Told.{rows-read}
 
@@ -39,26 +41,29 @@ decode-span table r =
     rw long (decode-part width (drop (width * r) table))
 
 module _ (w : World) (lent : ℕ) (l : ℤ) (e : outcome w (explains lent l) ≡ Done) where
+  done : firstFault (faults w (explains lent l)) ≡ Done
+  done = cases w (explains lent l) e
+
   rows : rowsOn (front w lent) (w .board) ≡ rowsOfWorld w
   unfolding faults explainFaults
-  rows = rows-read w lent (none-given (explainFaults (front w lent) (w .board) l) e 0)
+  rows = rows-read w lent (none-given (explainFaults (front w lent) (w .board) l) done 0)
 
   rank-is : reasoned (front w lent) (w .board) l .rank ≡ rankIn w (placeOf l)
   unfolding faults reasoned
-  rank-is = rw (e, rows)
+  rank-is = rw (done, rows)
 
   row-is : reasoned (front w lent) (w .board) l .row ≡ supportIn w (placeOf l)
   unfolding faults reasoned
-  row-is = rw (e, rows)
+  row-is = rw (done, rows)
 
   used : (supportIn w (placeOf l) < w .board .rows) × (width * w .board .rows ≤ length (front w lent))
   unfolding faults reasoned
-  used = let r = row-used (front w lent) (w .board) l (rw e) in (omega (arith, r .0, row-is), r .2)
+  used = let r = row-used (front w lent) (w .board) l (rw done) in (omega (arith, r .0, row-is), r .2)
 
   part-is : let span = explained (front w lent) (w .board) l in decode (take (span .stop - span .start) (drop (span .start) (w .table))) ≡ getD (rowsOfWorld w) (supportIn w (placeOf l)) []
   unfolding faults explained
   part-is =
-      rw (e, rows, numbers-lent lent (w .board .rows) (w .table) (used .1) (supportIn w (placeOf l)) (used .0))
+      rw (done, rows, numbers-lent lent (w .board .rows) (w .table) (used .1) (supportIn w (placeOf l)) (used .0))
       (decode-span (w .table) (supportIn w (placeOf l)) ∙ sym (rows-at (w .board .rows) (w .table) (supportIn w (placeOf l)) (used .0)))
 
 pub explain-tells : ExplainTells

@@ -34,7 +34,7 @@ use Rattle.board.proofs.Goodness.{flagFrom, by-flags, good-is}
 use Rattle.board.proofs.Explaining.{none-given}
 use Rattle.promises.specs.Calls.{Call, opens, adds, holds, withdraws, asks, explains, settles, grounds, blames, World, front, faults, outcome, after, run, formulaIn, notOpen}
 use Rattle.promises.specs.Demands.{StaysGood}
-use Rattle.promises.proofs.Refusals.{refused-untouched}
+use Rattle.promises.proofs.Refusals.{cases, refused-untouched}
 use Rattle.promises.proofs.Changes.{hold-puts, withdraw-takes}
 use Rattle.promises.proofs.Tested.{added}
 use Rattle.promises.proofs.Lent.{numbers-front, numbers-lent}
@@ -146,11 +146,11 @@ module _ (w : World) (g : Whole w) where
 
   hold-good : (lent : ℕ) (l : ℤ) → outcome w (holds lent l) ≡ Done → Whole (after w (holds lent l))
   unfolding faults flagFaults
-  hold-good lent l e = rw (hold-puts w lent l e) (flagged l true (none-given (holdFaults (front w lent) (w .board) l) e 1))
+  hold-good lent l e = rw (hold-puts w lent l e) (flagged l true (none-given (holdFaults (front w lent) (w .board) l) (cases w (holds lent l) e) 1))
 
   withdraw-good : (lent : ℕ) (l : ℤ) → outcome w (withdraws lent l) ≡ Done → Whole (after w (withdraws lent l))
   unfolding faults flagFaults
-  withdraw-good lent l e = rw (withdraw-takes w lent l e) (flagged l false (none-given (withdrawFaults (front w lent) (w .board) l) e 1))
+  withdraw-good lent l e = rw (withdraw-takes w lent l e) (flagged l false (none-given (withdrawFaults (front w lent) (w .board) l) (cases w (withdraws lent l) e) 1))
 
   -- the rows of a good rule are sound, and lie in the part that it was lent
   rule-good : (lent : ℕ) (bytes : List ℕ) → outcome w (adds lent bytes) ≡ Done → Whole (after w (adds lent bytes))
@@ -168,7 +168,7 @@ module _ (w : World) (g : Whole w) where
       λ row m. let x = rows-sound S f row sat m in encode-sound S row (x .some) (x .rising) (x .below) in
       let fits : w .board .rows + length rows ≤ rowsLent (appended part (w .board .rows) rows ++ rest) =
       omega (arith, t .fits, length-append (appended part (w .board .rows) rows) rest, length-appended part (w .board .rows) rows room) in
-      rw e
+      rw (cases w (adds lent bytes) e)
       (by-flags (appended part (w .board .rows) rows ++ rest) (withRows (w .board) (length rows)) (t .board .some) (t .board .sound .symbols) fits
       (appended-sound S part rest (w .board .rows) rows room fine (t .board .sound))
       ∙ no-flags (w .table) (w .board) g)

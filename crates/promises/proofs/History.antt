@@ -15,10 +15,9 @@ use Rattle.literals.specs.Row.{rowsIn}
 use Rattle.literals.specs.declared.refusal.Refusal.{Refusal}
 use Rattle.board.specs.Faults.{firstFault}
 use Rattle.board.specs.Changes.{emptyBoard, openFaults, opened, withFlag}
-use Rattle.board.specs.Rules.{ruled}
 use Rattle.board.specs.declared.Outcome.{Outcome}
 use Rattle.board.specs.declared.Outcome.the-variants.{Done, Refused}
-use Rattle.promises.specs.Calls.{Call, opens, adds, holds, withdraws, asks, explains, settles, grounds, blames, World, faults, outcome, after, run, formulaIn, rulesAfter, rulesAfterAll, notOpen}
+use Rattle.promises.specs.Calls.{Call, opens, adds, holds, withdraws, asks, explains, settles, grounds, blames, World, outcome, after, run, formulaIn, rulesAfter, rulesAfterAll, notOpen}
 use Rattle.promises.specs.Demands.{rowsOfWorld, since, acceptedSince}
 use Rattle.promises.proofs.Refusals.{refused-untouched}
 use Rattle.promises.proofs.Changes.{hold-puts, withdraw-takes}
@@ -62,16 +61,13 @@ module _ (w : World) (fs : List Formula) (k : Keeps w fs) where
         fine = rw (s, all-append (accepted S) fs (f ∷ [])) (and-intro (all (accepted S) fs) (accepted S f && true) (k .fine) (and-intro (accepted S f) true a refl));
       }
 
-  same-symbols : (lent : ℕ) (bytes : List ℕ) → outcome w (adds lent bytes) ≡ Done → after w (adds lent bytes) .board .symbols ≡ w .board .symbols
-  unfolding after faults ruled
-  same-symbols lent bytes e = rw e
-
   rule-step : (lent : ℕ) (bytes : List ℕ) → Keeps (after w (adds lent bytes)) (rulesAfter w fs (adds lent bytes))
   unfolding rulesAfter
   rule-step lent bytes =
       ⊎-elim
       (λ e.
-      rw e (one-more (after w (adds lent bytes)) (formulaIn (w .board .symbols) bytes) (same-symbols lent bytes e) (added w lent bytes e .accepted) (rule-appends w lent bytes e)))
+      let a = rule-appends w lent bytes e in
+      rw e (one-more (after w (adds lent bytes)) (formulaIn (w .board .symbols) bytes) (a .symbols) (added w lent bytes e .accepted) (a .rows)))
       (λ r. rw (r .1) (refused (adds lent bytes) refl r)) (done-or-refused (outcome w (adds lent bytes)))
 
   step : (c : Call) → Keeps (after w c) (rulesAfter w fs c)

@@ -1,5 +1,6 @@
 -- The demands, proved.
 pub mod Refusals
+pub mod Fourteen
 pub mod Changes
 mod Lent
 mod Tested

@@ -1,47 +1,104 @@
--- Demand 1: each refusal is given exactly in the case that 01 names, and leaves board and table as they were.
-use mathlib.Core.Path.{_≡_, refl}
+-- Demand 1: what each call answers is the first of its cases that is given; a refused call leaves board and tables as they were.
+use mathlib.Core.Path.{_≡_, refl, sym, ap, _∙_}
 use mathlib.Core.Bool.{Bool, true, false, cond}
-use mathlib.Core.List.{List, [], _∷_}
-use Prim.Native.Nat.{ℕ}
+use mathlib.Core.List.{List, [], _∷_, List·Memᴰ as In, List·Memᴰ·head as head, List·Memᴰ·tail as tail}
+use mathlib.Core.List.{List·Memᴰ·cases-cons as in-cons, List·Memᴰ·not-nil as in-nil}
+use mathlib.Core.Logic.{_⊎_, inl, inr}
+use Prim.Native.Nat.{ℕ, _<_}
 use native.Mathlib.Omega.{arith}
 use lib.ListN.{take-append-drop}
-use Rattle.literals.specs.declared.refusal.Refusal.{Refusal}
-use Rattle.board.specs.Faults.{Fault, firstFault}
+use Rattle.meaning.specs.Literals.{opp, has, conflict}
+use Rattle.literals.specs.Literal.{placeOf}
+use Rattle.board.specs.Faults.{Fault, firstFault, numberIn}
 use Rattle.board.specs.Changes.{opened, flagChanged}
 use Rattle.board.specs.Rules.{ruled, ruledTable}
 use Rattle.board.specs.Settling.{settleOutcome, settledLabels, settledRanks, settledSupports}
+use Rattle.board.specs.Asking.{derivedOn, askFaults, asked, standing, explainFaults, reasoned, explained}
 use Rattle.board.specs.Grounds.{groundOutcome, groundMarks, blameOutcome, blameMarks}
-use Rattle.board.specs.declared.Outcome.the-variants.{Refused}
-use Rattle.promises.specs.Calls.{opens, adds, holds, withdraws, asks, explains, settles, grounds, blames, faults, after}
-use Rattle.promises.specs.Demands.{FirstGiven, here, later, RefusedExactly, RefusedUntouched, RefusedUnwritten}
+use Rattle.board.specs.declared.Outcome.{Outcome}
+use Rattle.board.specs.declared.asking.Reason.{Reason}
+use Rattle.board.specs.declared.Outcome.the-variants.{Done, Refused}
+use Rattle.board.proofs.Answered.{told-by, rule-told}
+use Rattle.promises.specs.Calls.{Call, opens, adds, holds, withdraws, asks, explains, settles, grounds, blames, World, front, faults, askOutcome, outcome, after}
+use Rattle.promises.specs.Demands.{FirstGiven, here, later, RefusedExactly, DoneExactly, RefusedUntouched, RefusedUnwritten, RefusedHandsBack}
+
+-- ---- what a call answers
+
+-- how a literal stands is of a call that is done
+stands-done : (known : List Bool) (p : ℕ) → askOutcome (standing known p) ≡ Done
+stands-done known p = go (conflict known) (has known p) (has known (opp p)) refl refl refl
+  where
+    go : (a b c : Bool) → conflict known ≡ a → has known p ≡ b → has known (opp p) ≡ c → askOutcome (standing known p) ≡ Done
+    go true b c ea eb ec = rw ea
+    go false true c ea eb ec = rw (ea, eb)
+    go false false true ea eb ec = rw (ea, eb, ec)
+    go false false false ea eb ec = rw (ea, eb, ec)
+
+pub first-case : (w : World) (c : Call) → outcome w c ≡ firstFault (faults w c)
+unfolding outcome faults opened flagChanged asked reasoned settleOutcome groundOutcome blameOutcome
+first-case w (opens S) = refl
+first-case w (adds lent bytes) = rule-told (front w lent) (w .board) bytes
+first-case w (holds lent l) = refl
+first-case w (withdraws lent l) = refl
+first-case w (asks lent l) =
+    told-by askOutcome _ _ (firstFault (askFaults (front w lent) (w .board) l))
+    (λ e. stands-done (derivedOn (front w lent) (w .board)) (placeOf l) ∙ sym e) (λ why e. sym e)
+first-case w (explains lent l) = told-by (λ (r : Reason). r .outcome) _ _ (firstFault (explainFaults (front w lent) (w .board) l)) (λ e. refl) (λ why e. refl)
+first-case w (settles lent labels ranks supports) = refl
+first-case w (grounds lent l marks) = refl
+first-case w (blames lent marks) = refl
+
+-- so what is known of the answer is known of the cases
+pub cases : (w : World) (c : Call) {o : Outcome} → outcome w c ≡ o → firstFault (faults w c) ≡ o
+cases w c e = sym (first-case w c) ∙ e
 
 -- ---- which refusal
 
-module _ (why : Refusal) where
-  first-given : (fs : List Fault) → firstFault fs ≡ Refused why → FirstGiven why fs
-  first-given [] e = let z : _≡_ {A = ℕ} 0 1 = cc in absurd (omega arith)
-  first-given (f ∷ fs) e = go (f .given) refl e (first-given fs)
+module _ (number : ℕ) where
+  first-given : 0 < number → (fs : List Fault) → numberIn (firstFault fs) ≡ number → FirstGiven number fs
+  first-given some [] e = absurd (omega arith)
+  first-given some (f ∷ fs) e = go (f .given) refl e (first-given some fs)
     where
-      go : (g : Bool) → f .given ≡ g → cond g (Refused (f .refusal)) (firstFault fs) ≡ Refused why
-          → (firstFault fs ≡ Refused why → FirstGiven why fs) → FirstGiven why (f ∷ fs)
-      go true g e rest = here {f = f} {fs = fs} g (cc)
+      go : (g : Bool) → f .given ≡ g → numberIn (cond g (Refused (f .refusal)) (firstFault fs)) ≡ number
+          → (numberIn (firstFault fs) ≡ number → FirstGiven number fs) → FirstGiven number (f ∷ fs)
+      go true g e rest = here g e
       go false g e rest = later g (rest e)
 
-  given-first : {fs : List Fault} → FirstGiven why fs → firstFault fs ≡ Refused why
-  given-first (here g r) = rw (g, r)
+  given-first : {fs : List Fault} → FirstGiven number fs → numberIn (firstFault fs) ≡ number
+  given-first (here g r) = rw g r
   given-first (later g m) = rw g (given-first m)
 
 pub refused-exactly : RefusedExactly
-refused-exactly w c why = (first-given why (faults w c), given-first why)
+refused-exactly w c number some = (
+  λ e. first-given number some (faults w c) (ap numberIn (sym (first-case w c)) ∙ e),
+  λ g. ap numberIn (first-case w c) ∙ given-first number g,
+)
+
+none-of : (fs : List Fault) → firstFault fs ≡ Done → (f : Fault) → In f fs → f .given ≡ false
+none-of [] e f m = absurd (in-nil m)
+none-of (x ∷ fs) e f m = go (x .given) refl e (in-cons m) (λ d i. none-of fs d f i)
+  where
+    go : (g : Bool) → x .given ≡ g → cond g (Refused (x .refusal)) (firstFault fs) ≡ Done → (f ≡ x) ⊎ In f fs
+        → (firstFault fs ≡ Done → In f fs → f .given ≡ false) → f .given ≡ false
+    go true g e i rest = let z : _≡_ {A = ℕ} 0 1 = cc in absurd (omega arith)
+    go false g e (inl q) rest = rw q g
+    go false g e (inr i) rest = rest e i
+
+of-none : (fs : List Fault) → ((f : Fault) → In f fs → f .given ≡ false) → firstFault fs ≡ Done
+of-none [] h = refl
+of-none (f ∷ fs) h = rw (h f (head refl)) (of-none fs (λ g m. h g (tail m)))
+
+pub done-exactly : DoneExactly
+done-exactly w c = (λ e. none-of (faults w c) (cases w c e), λ h. first-case w c ∙ of-none (faults w c) h)
 
 -- ---- what it leaves
 
 pub refused-untouched : RefusedUntouched
 unfolding after faults opened ruled ruledTable flagChanged
-refused-untouched w (opens S) why e = rw e
-refused-untouched w (adds lent bytes) why e = rw (e, take-append-drop)
-refused-untouched w (holds lent l) why e = rw e
-refused-untouched w (withdraws lent l) why e = rw e
+refused-untouched w (opens S) why e = rw (cases w (opens S) e)
+refused-untouched w (adds lent bytes) why e = rw (cases w (adds lent bytes) e, take-append-drop)
+refused-untouched w (holds lent l) why e = rw (cases w (holds lent l) e)
+refused-untouched w (withdraws lent l) why e = rw (cases w (withdraws lent l) e)
 refused-untouched w (asks lent l) why e = refl
 refused-untouched w (explains lent l) why e = refl
 refused-untouched w (settles lent labels ranks supports) why e = refl
@@ -49,10 +106,18 @@ refused-untouched w (grounds lent l marks) why e = refl
 refused-untouched w (blames lent marks) why e = refl
 
 pub refused-unwritten : RefusedUnwritten
-unfolding faults settleOutcome settledLabels settledRanks settledSupports groundOutcome groundMarks blameOutcome blameMarks
+unfolding outcome settledLabels settledRanks settledSupports groundMarks blameMarks
 refused-unwritten w lent why =
     record {
       settle = λ labels ranks supports e. (rw e, rw e, rw e);
       ground = λ l marks e. rw e;
       blame = λ marks e. rw e;
+    }
+
+pub refused-hands-back : RefusedHandsBack
+unfolding faults ruled reasoned explained
+refused-hands-back w lent why =
+    record {
+      rule = λ bytes e. rw (cases w (adds lent bytes) e);
+      explain = λ l e. (let f = cases w (explains lent l) e in (rw f, rw f, rw f, rw f));
     }

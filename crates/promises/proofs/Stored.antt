@@ -1,4 +1,4 @@
--- Demand 2, the rows stored for a rule: after a good rule call the rows in use are those before it, and then the rule's.
+-- Demand 2, the rows stored for a rule: after a good rule call the rows in use are those before it, and then the rule's; nothing else changes.
 use mathlib.Core.Path.{_≡_, refl, sym, ap, ap₂, _∙_}
 use mathlib.Core.List.{List, [], _∷_, _++_, append-assoc}
 use mathlib.Core.List.{List·Memᴰ as In, List·Memᴰ·head as here, List·Memᴰ·tail as there}
@@ -7,8 +7,8 @@ use native.Mathlib.Omega.{arith}
 use native.Mathlib.Nat.{zero-add, suc-add}
 use borrow.Author.Tests.{leb-true}
 use lib.IntN.{ℤ}
-use lib.ListN.{length, take, drop}
-use lib.Seq.{drop-drop, take-at, drop-at, length-take-le}
+use lib.ListN.{length, take, drop, length-append, take-append-drop}
+use lib.Seq.{drop-drop, take-at, drop-at, length-take-le, take-append-le, drop-append-le}
 use Rattle.meaning.specs.Formulae.{ruleOf, symbolsOf}
 use Rattle.meaning.specs.Clauses.{rowsOf}
 use Rattle.meaning.proofs.Tables.{tabulate-same}
@@ -17,10 +17,16 @@ use Rattle.meaning.proofs.Forced.{accepted-words}
 use Rattle.literals.specs.Row.{width, numbersAt, decode, rowsIn, encode}
 use Rattle.literals.proofs.Encoding.{length-encode, decode-encode}
 use Rattle.implicates.specs.Appending.{encodeAll, appended}
-use Rattle.board.specs.Rules.{ruled, ruledTable}
-use Rattle.promises.specs.Calls.{front, faults, after, formulaIn}
-use Rattle.promises.specs.Demands.{RuleAppends}
-use Rattle.promises.proofs.Tested.{added}
+use Rattle.implicates.proofs.Appending.{length-encodeAll}
+use Rattle.board.specs.Faults.{firstFault}
+use Rattle.board.specs.Rules.{withRows, ruled, ruledTable}
+use Rattle.board.specs.declared.Board.{Board}
+use Rattle.board.specs.declared.Outcome.the-variants.{Done}
+use Rattle.board.specs.declared.rules.Addition.{Addition}
+use Rattle.promises.specs.Calls.{adds, World, front, faults, outcome, after, formulaIn}
+use Rattle.promises.specs.Demands.{Appends, RuleAppends}
+use Rattle.promises.proofs.Refusals.{cases}
+use Rattle.promises.proofs.Tested.{Added, added}
 use Rattle.promises.proofs.Lent.{rows-front, rows-lent}
 
 -- ---- the rows of a table, from the front
@@ -75,17 +81,77 @@ module _ (table rest : List ℤ) (used : ℕ) (rows : List (List ℕ)) (room : w
   rows-appended few =
       rw (whole, rows-add used (length rows) (kept ++ (encodeAll rows ++ after-them)), before, drop-at kept (encodeAll rows ++ after-them) (width * used) kept-long, rows-written rows after-them few)
 
+  -- and the places before and beyond them stay as they were
+  front-kept : take (width * used) (appended table used rows ++ rest) ≡ take (width * used) (table ++ rest)
+  front-kept =
+      ap (take (width * used)) whole ∙ take-at kept (encodeAll rows ++ after-them) (width * used) kept-long
+      ∙ sym (take-append-le (width * used) table rest (omega arith))
+
+  rest-kept : drop (width * (used + length rows)) (appended table used rows ++ rest) ≡ drop (width * (used + length rows)) (table ++ rest)
+  rest-kept =
+      let n : width * (used + length rows) ≡ width * used + length (encodeAll rows) = omega (arith, length-encodeAll rows) in
+      let long : length (kept ++ encodeAll rows) ≡ width * (used + length rows) = omega (arith, n, length-append kept (encodeAll rows), kept-long) in
+      ap (drop (width * (used + length rows))) (whole ∙ sym (append-assoc kept (encodeAll rows) after-them))
+      ∙ drop-at (kept ++ encodeAll rows) after-them (width * (used + length rows)) long
+      ∙ ap (λ (k : ℕ). drop k table ++ rest) (sym n)
+      ∙ sym (drop-append-le (width * (used + length rows)) table rest (omega (arith, n)))
+
 -- ---- a good rule call
 
+module _ (w : World) (lent : ℕ) (bytes : List ℕ) (e : outcome w (adds lent bytes) ≡ Done) where
+  abbrev S : ℕ
+  S = w .board .symbols
+
+  abbrev new : List (List ℕ)
+  new = rowsOf (ruleOf S (formulaIn S bytes))
+
+  done : firstFault (faults w (adds lent bytes)) ≡ Done
+  done = cases w (adds lent bytes) e
+
+  t : Added w lent (formulaIn S bytes)
+  t = added w lent bytes e
+
+  room : width * (w .board .rows + length new) ≤ length (front w lent)
+  room = omega (arith, t .fits)
+
+  few : (row : List ℕ) → In row new → length row ≤ width
+  few row m =
+      let x = accepted-words S (formulaIn S bytes) (t .accepted) in
+      omega (arith, rows-sound S (formulaIn S bytes) row (x .2) m .most, leb-true (length (symbolsOf S (formulaIn S bytes))) 8 (x .1))
+
+  table-is : after w (adds lent bytes) .table ≡ appended (front w lent) (w .board .rows) new ++ drop lent (w .table)
+  unfolding after faults ruledTable
+  table-is = rw done
+
+  board-is : ruled (front w lent) (w .board) bytes ≡ record { outcome = Done; added = length new; board = withRows (w .board) (length new) }
+  unfolding faults ruled
+  board-is = rw done
+
+  next-board : after w (adds lent bytes) .board ≡ withRows (w .board) (length new)
+  unfolding after
+  next-board = ap (λ (a : Addition). a .board) board-is
+
+  whole-table : (front w lent) ++ drop lent (w .table) ≡ w .table
+  whole-table = take-append-drop lent (w .table)
+
+  appends : Appends w lent bytes new
+  appends =
+      record {
+        rows =
+            rw (next-board, table-is)
+            (rows-appended (front w lent) (drop lent (w .table)) (w .board .rows) new room few
+            ∙ ap (λ (rows : List (List ℕ)). rows ++ new) (rows-lent lent (w .board .rows) (w .table) (t .board .sound .room)));
+        added = ap (λ (a : Addition). a .added) board-is;
+        used = ap (λ (b : Board). b .rows) next-board;
+        symbols = ap (λ (b : Board). b .symbols) next-board;
+        premises = ap (λ (b : Board). b .held) next-board;
+        before =
+            rw table-is (front-kept (front w lent) (drop lent (w .table)) (w .board .rows) new room)
+            ∙ ap (take (width * w .board .rows)) whole-table;
+        beyond =
+            rw table-is (rest-kept (front w lent) (drop lent (w .table)) (w .board .rows) new room)
+            ∙ ap (drop (width * (w .board .rows + length new))) whole-table;
+      }
+
 pub rule-appends : RuleAppends
-unfolding after faults ruled ruledTable
-rule-appends w lent bytes e =
-    let t = added w lent bytes e in
-    let S = w .board .symbols in
-    let f = formulaIn S bytes in
-    let x = accepted-words S f (t .accepted) in
-    let few : (row : List ℕ) → In row (rowsOf (ruleOf S f)) → length row ≤ width =
-    λ row m. omega (arith, rows-sound S f row (x .2) m .most, leb-true (length (symbolsOf S f)) 8 (x .1)) in
-    rw e
-    (rows-appended (front w lent) (drop lent (w .table)) (w .board .rows) (rowsOf (ruleOf S f)) (omega (arith, t .fits)) few
-    ∙ ap (λ (rows : List (List ℕ)). rows ++ rowsOf (ruleOf S f)) (rows-lent lent (w .board .rows) (w .table) (t .board .sound .room)))
+rule-appends w lent bytes e = appends w lent bytes e

@@ -20,6 +20,7 @@ use Rattle.board.specs.declared.Outcome.the-variants.{Done}
 use Rattle.board.proofs.Goodness.{Good, good-is}
 use Rattle.board.proofs.Explaining.{none-given}
 use Rattle.promises.specs.Calls.{adds, World, front, faults, outcome, formulaIn}
+use Rattle.promises.proofs.Refusals.{cases}
 
 -- bytes that are a good formula are one of the symbols 1 to S
 formula-inside : (S : ℕ) (bytes : List ℕ) → isGood (wholeOf S bytes) ≡ true → inside S (formulaIn S bytes) ≡ true
@@ -41,7 +42,7 @@ added w lent bytes e =
     let part = front w lent in
     let S = w .board .symbols in
     let f = formulaIn S bytes in
-    let given = none-given (ruleFaults part (w .board) bytes) e in
+    let given = none-given (ruleFaults part (w .board) bytes) (cases w (adds lent bytes) e) in
     record {
       board = good-is part (w .board) (not-false (goodBoard part (w .board)) (given 0));
       accepted =

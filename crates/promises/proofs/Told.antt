@@ -1,15 +1,14 @@
 -- Demand 2, what the calls tell: the derived literals, ranks and supports over the rows in the table and the premises then held.
-use mathlib.Core.Path.{_≡_, refl, ap, _∙_}
-use mathlib.Core.Logic.{_↔_, Iff·trans, _⊎_, inl, inr, ⊎-elim}
-use mathlib.Core.Bool.{Bool, true, false, not, false≢true}
+use mathlib.Core.Path.{_≡_, ap, _∙_}
+use mathlib.Core.Bool.{Bool, false, not}
 use mathlib.Core.List.{List, _++_, map}
 use Prim.Native.Nat.{ℕ, suc, _-_, _*_, _≤_, _<_}
 use native.Mathlib.Omega.{arith}
 use borrow.Author.Tests.{not-false}
 use lib.ListN.{length, drop, getD, length-map, List·getD-append}
+use lib.Seq.{drop-at}
 use Rattle.meaning.specs.Tests.{tabulate}
-use Rattle.meaning.specs.Literals.{place, has}
-use Rattle.meaning.specs.Rounds.{labelOf, label, ranksOf, supportsOf, labelsOf}
+use Rattle.meaning.specs.Rounds.{label, ranksOf, supportsOf, labelsOf}
 use Rattle.meaning.specs.Ground.{ground, blame}
 use Rattle.meaning.proofs.Tables.{length-tabulate, getD-tabulate}
 use Rattle.meaning.proofs.Derived.{derived-is}
@@ -21,8 +20,9 @@ use Rattle.board.specs.Grounds.{byteOf, groundFaults, groundOutcome, groundMark
 use Rattle.board.specs.declared.Outcome.the-variants.{Done}
 use Rattle.board.proofs.Goodness.{good-is}
 use Rattle.board.proofs.Explaining.{none-given}
-use Rattle.promises.specs.Calls.{settles, World, front, faults, outcome, run}
-use Rattle.promises.specs.Demands.{rowsOfWorld, DerivedOn, derivedSet, rankIn, supportIn, Tells, SettleTells, AskTells, GroundTells, BlameTells}
+use Rattle.promises.specs.Calls.{asks, settles, World, front, faults, outcome, run}
+use Rattle.promises.specs.Demands.{rowsOfWorld, derivedSet, rankIn, supportIn, Tells, SettleTells, SettleSpares, AskTells, GroundTells, BlameTells}
+use Rattle.promises.proofs.Refusals.{cases}
 use Rattle.promises.proofs.Lent.{rows-lent}
 
 -- the rows that a call reads in the part that it is lent are those of the whole table
@@ -37,53 +37,37 @@ rows-read w lent e =
 written-at : (n : ℕ) (f : ℕ → ℕ) (rest : List ℕ) (i : ℕ) → i < n → getD (tabulate n f ++ rest) i 0 ≡ f i
 written-at n f rest i h = List·getD-append (tabulate n f) rest 0 i (omega (arith, length-tabulate n f)) ∙ getD-tabulate n f i 0 h
 
--- a label tells of each of its symbol's two literals
-label-plus : (a b : Bool) → ((labelOf a b ≡ 1) ⊎ (labelOf a b ≡ 3)) ↔ (a ≡ true)
-label-plus true false = (λ h. refl, λ h. inl refl)
-label-plus true true = (λ h. refl, λ h. inr refl)
-label-plus false false = (⊎-elim (λ e. absurd (omega arith)) (λ e. absurd (omega arith)), λ h. absurd (false≢true h))
-label-plus false true = (⊎-elim (λ e. absurd (omega arith)) (λ e. absurd (omega arith)), λ h. absurd (false≢true h))
-
-label-minus : (a b : Bool) → ((labelOf a b ≡ 2) ⊎ (labelOf a b ≡ 3)) ↔ (b ≡ true)
-label-minus false true = (λ h. refl, λ h. inl refl)
-label-minus true true = (λ h. refl, λ h. inr refl)
-label-minus false false = (⊎-elim (λ e. absurd (omega arith)) (λ e. absurd (omega arith)), λ h. absurd (false≢true h))
-label-minus true false = (⊎-elim (λ e. absurd (omega arith)) (λ e. absurd (omega arith)), λ h. absurd (false≢true h))
-
 module _ (w : World) (lent : ℕ) (labels ranks supports : List ℕ) (e : outcome w (settles lent labels ranks supports) ≡ Done) where
   abbrev places : ℕ
   places = 2 * w .board .symbols
 
   rows : rowsOn (front w lent) (w .board) ≡ rowsOfWorld w
-  unfolding faults settleFaults
+  unfolding outcome settleOutcome settleFaults
   rows = rows-read w lent (none-given (settleFaults (front w lent) (w .board) (length labels) (length ranks) (length supports)) e 0)
 
   pub label-at : (s : ℕ) → 1 ≤ s → s ≤ w .board .symbols
       → getD (settledLabels (front w lent) (w .board) labels ranks supports) (s - 1) 0 ≡ label (derivedSet w) s
-  unfolding faults settleOutcome settledLabels labelsOf
+  unfolding outcome settledLabels labelsOf
   label-at s low high =
       let next : suc (s - 1) ≡ s = omega arith in
       rw (e, rows) (written-at (w .board .symbols) (λ i. label (derivedSet w) (suc i)) _ (s - 1) (omega arith) ∙ ap (label (derivedSet w)) next)
 
   rank-at : (p : ℕ) → p < places
       → getD (settledRanks (front w lent) (w .board) labels ranks supports) p 0 ≡ rankIn w p
-  unfolding faults settleOutcome settledRanks ranksOf
+  unfolding outcome settledRanks ranksOf
   rank-at p h = rw (e, rows) (written-at places (rankIn w) _ p h)
 
   support-at : (p : ℕ) → p < places
       → getD (settledSupports (front w lent) (w .board) labels ranks supports) p 0 ≡ supportIn w p
-  unfolding faults settleOutcome settledSupports supportsOf
+  unfolding outcome settledSupports supportsOf
   support-at p h = rw (e, rows) (written-at places (supportIn w) _ p h)
-
-  derived-at : (p : ℕ) → (has (derivedSet w) p ≡ true) ↔ DerivedOn w p
-  derived-at p = let r = derived-is places (rowsOfWorld w) (w .board .held) p in (r .1, r .0)
 
   tells : Tells w (settledLabels (front w lent) (w .board) labels ranks supports) (settledRanks (front w lent) (w .board) labels ranks supports)
       (settledSupports (front w lent) (w .board) labels ranks supports)
   tells =
       record {
-        plus = λ s low high. rw (label-at s low high) (Iff·trans (label-plus (has (derivedSet w) (place s true)) (has (derivedSet w) (place s false))) (derived-at (place s true)));
-        minus = λ s low high. rw (label-at s low high) (Iff·trans (label-minus (has (derivedSet w) (place s true)) (has (derivedSet w) (place s false))) (derived-at (place s false)));
+        label = label-at;
+        derived = λ p. (let r = derived-is places (rowsOfWorld w) (w .board .held) p in (r .1, r .0));
         rank = rank-at;
         support = support-at;
       }
@@ -91,22 +75,32 @@ module _ (w : World) (lent : ℕ) (labels ranks supports : List ℕ) (e : outcom
 pub settle-tells : SettleTells
 settle-tells w₀ calls lent labels ranks supports e = tells (run w₀ calls) lent labels ranks supports e
 
+-- what stands after the places that are written
+spared : (n : ℕ) (f : ℕ → ℕ) (lent : List ℕ) → drop n (tabulate n f ++ drop (length (tabulate n f)) lent) ≡ drop n lent
+spared n f lent = rw (length-tabulate n f) (drop-at (tabulate n f) (drop n lent) n (length-tabulate n f))
+
+pub settle-spares : SettleSpares
+unfolding outcome settledLabels labelsOf settledRanks ranksOf settledSupports supportsOf
+settle-spares w lent labels ranks supports e = rw e (spared (w .board .symbols) _ labels, spared (2 * w .board .symbols) _ ranks, spared (2 * w .board .symbols) _ supports)
+
 -- ---- ask, ground and blame
 
 pub ask-tells : AskTells
 unfolding faults asked askFaults
-ask-tells w lent l e = rw (e, rows-read w lent (none-given (askFaults (front w lent) (w .board) l) e 0))
+ask-tells w lent l e =
+    let f = cases w (asks lent l) e in
+    rw (f, rows-read w lent (none-given (askFaults (front w lent) (w .board) l) f 0))
 
 -- as many marks are written as there are
 marks-over : (n : ℕ) (f : ℕ → Bool) (marks : List ℕ) → let new = map byteOf (tabulate n f) in new ++ drop (length new) marks ≡ new ++ drop n marks
 marks-over n f marks = ap (λ (k : ℕ). map byteOf (tabulate n f) ++ drop k marks) (length-map (tabulate n f) byteOf ∙ length-tabulate n f)
 
 pub ground-tells : GroundTells
-unfolding faults groundOutcome groundMarks groundFaults ground
+unfolding outcome groundOutcome groundMarks groundFaults ground
 ground-tells w lent l marks e =
     rw (e, rows-read w lent (none-given (groundFaults (front w lent) (w .board) l (length marks)) e 0)) (marks-over (2 * w .board .symbols) _ marks)
 
 pub blame-tells : BlameTells
-unfolding faults blameOutcome blameMarks blameFaults blame
+unfolding outcome blameOutcome blameMarks blameFaults blame
 blame-tells w lent marks e =
     rw (e, rows-read w lent (none-given (blameFaults (front w lent) (w .board) (length marks)) e 0)) (marks-over (2 * w .board .symbols) _ marks)

@@ -7,14 +7,17 @@ use lib.IntN.{ℤ}
 use lib.ListN.{length, take, drop}
 use Rattle.meaning.specs.Formulae.{Formula}
 use Rattle.formula.specs.Parse.{wholeOf}
-use Rattle.board.specs.Faults.{Fault, firstFault, ifDone}
+use Rattle.board.specs.Faults.{Fault, ifDone}
 use Rattle.board.specs.Changes.{openFaults, opened, holdFaults, held, withdrawFaults, withdrawn}
 use Rattle.board.specs.Rules.{ruleFaults, ruled, ruledTable, formulaOf}
-use Rattle.board.specs.Settling.{settleFaults}
-use Rattle.board.specs.Asking.{askFaults, explainFaults}
-use Rattle.board.specs.Grounds.{groundFaults, blameFaults}
+use Rattle.board.specs.Settling.{settleFaults, settleOutcome}
+use Rattle.board.specs.Asking.{askFaults, asked, explainFaults, reasoned}
+use Rattle.board.specs.Grounds.{groundFaults, groundOutcome, blameFaults, blameOutcome}
 use Rattle.board.specs.declared.Board.{Board}
 use Rattle.board.specs.declared.Outcome.{Outcome}
+use Rattle.board.specs.declared.Outcome.the-variants.{Done, Refused}
+use Rattle.board.specs.declared.asking.Standing.{Standing}
+use Rattle.board.specs.declared.asking.Standing.the-variants.{Conflict, Stands, RuledOut, Open, Refused as Unasked}
 
 -- Every call but open is lent the table "from its front": its first `lent` numbers, as many as the caller likes at each call.
 pub data Call : Type 0 where
@@ -46,9 +49,25 @@ faults w (settles lent labels ranks supports) = settleFaults (front w lent) (w .
 faults w (grounds lent l marks) = groundFaults (front w lent) (w .board) l (length marks)
 faults w (blames lent marks) = blameFaults (front w lent) (w .board) (length marks)
 
--- what a call comes to
-abbrev pub outcome : World → Call → Outcome
-outcome w c = firstFault (faults w c)
+-- ask has one answer for both: how the literal stands, which is of a call that is done, or why it is refused
+abbrev pub askOutcome : Standing → Outcome
+askOutcome Conflict = Done
+askOutcome Stands = Done
+askOutcome RuledOut = Done
+askOutcome Open = Done
+askOutcome (Unasked why) = Refused why
+
+-- what a call comes to, as its own answer tells it
+unfoldable pub outcome : World → Call → Outcome
+outcome w (opens S) = opened S .outcome
+outcome w (adds lent bytes) = ruled (front w lent) (w .board) bytes .outcome
+outcome w (holds lent l) = held (front w lent) (w .board) l .outcome
+outcome w (withdraws lent l) = withdrawn (front w lent) (w .board) l .outcome
+outcome w (asks lent l) = askOutcome (asked (front w lent) (w .board) l)
+outcome w (explains lent l) = reasoned (front w lent) (w .board) l .outcome
+outcome w (settles lent labels ranks supports) = settleOutcome (front w lent) (w .board) labels ranks supports
+outcome w (grounds lent l marks) = groundOutcome (front w lent) (w .board) l marks
+outcome w (blames lent marks) = blameOutcome (front w lent) (w .board) marks
 
 -- "In a sequence of calls each is given the board that the one before handed back."
 unfoldable pub after : World → Call → World

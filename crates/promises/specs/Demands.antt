@@ -1,14 +1,14 @@
 -- The three demands, each as a type. `proofs/` has a proof of each, under the same name in small letters.
 use mathlib.Core.Path.{_≡_}
-use mathlib.Core.Logic.{_↔_, _⊎_}
+use mathlib.Core.Logic.{_↔_, _≢_}
 use mathlib.Core.Bool.{Bool, true, false, cond, _&&_}
-use mathlib.Core.List.{List, [], _∷_, _++_, map}
-use Prim.Native.Nat.{ℕ, _-_, _*_, _≤_, _<_}
+use mathlib.Core.List.{List, [], _∷_, _++_, map, List·Memᴰ as In}
+use Prim.Native.Nat.{ℕ, _+_, _-_, _*_, _≤_, _<_}
 use lib.Dec.{leb}
 use lib.IntN.{ℤ}
-use lib.ListN.{take, drop, getD}
+use lib.ListN.{length, take, drop, getD}
 use Rattle.meaning.specs.Tests.{all}
-use Rattle.meaning.specs.Literals.{place, conflict}
+use Rattle.meaning.specs.Literals.{has, conflict}
 use Rattle.meaning.specs.Formulae.{Formula, ruleOf}
 use Rattle.meaning.specs.Clauses.{rowsOf}
 use Rattle.meaning.specs.Rounds.{label}
@@ -16,10 +16,12 @@ use Rattle.meaning.specs.Ground.{ground, blame}
 use Rattle.meaning.specs.SecondWay.{secondWay}
 use Rattle.meaning.specs.Promises.{Derived, Forced, TwoWays}
 use Rattle.literals.specs.Literal.{placeOf}
-use Rattle.literals.specs.Row.{decode}
+use Rattle.literals.specs.Row.{width, decode}
+use Rattle.literals.specs.Refusals.{numberOf}
 use Rattle.literals.specs.declared.refusal.Refusal.{Refusal}
-use Rattle.board.specs.Faults.{Fault, goodBoard}
+use Rattle.board.specs.Faults.{Fault, numberIn, goodBoard}
 use Rattle.board.specs.Changes.{emptyBoard, withFlag}
+use Rattle.board.specs.Rules.{ruled}
 use Rattle.board.specs.Settling.{settledLabels, settledRanks, settledSupports}
 use Rattle.board.specs.Ranking.{rowsOn}
 use Rattle.board.specs.Asking.{derivedOn, rankOn, supportOn, asked, standing, reasoned, explained}
@@ -29,13 +31,22 @@ use Rattle.promises.specs.Calls.{Call, opens, adds, holds, withdraws, as
 
 -- ---- demand 1: "Each refusal is given exactly in the case document 01 names, and leaves each table untouched."
 
--- of the cases in their order, the first that is given is this refusal's
-pub data FirstGiven (why : Refusal) : List Fault → Type 0 where
-  here : {f : Fault} {fs : List Fault} → f .given ≡ true → f .refusal ≡ why → FirstGiven why (f ∷ fs)
-  later : {f : Fault} {fs : List Fault} → f .given ≡ false → FirstGiven why fs → FirstGiven why (f ∷ fs)
+-- of the cases in their order, the first that is given has this number in 01's table
+pub data FirstGiven (number : ℕ) : List Fault → Type 0 where
+  here : {f : Fault} {fs : List Fault} → f .given ≡ true → numberOf (f .refusal) ≡ number → FirstGiven number (f ∷ fs)
+  later : {f : Fault} {fs : List Fault} → f .given ≡ false → FirstGiven number fs → FirstGiven number (f ∷ fs)
 
+-- what each call answers: a refusal's number exactly in its case,
 abbrev pub RefusedExactly : Type 0
-RefusedExactly = (w : World) (c : Call) (why : Refusal) → (outcome w c ≡ Refused why) ↔ FirstGiven why (faults w c)
+RefusedExactly = (w : World) (c : Call) (number : ℕ) → 0 < number → (numberIn (outcome w c) ≡ number) ↔ FirstGiven number (faults w c)
+
+-- and that it is done exactly if no case is given
+abbrev pub DoneExactly : Type 0
+DoneExactly = (w : World) (c : Call) → (outcome w c ≡ Done) ↔ ((f : Fault) → In f (faults w c) → f .given ≡ false)
+
+-- "a literal would need a rank above 2S" is so of no board
+abbrev pub NeverFourteen : Type 0
+NeverFourteen = (w : World) (c : Call) → numberIn (outcome w c) ≢ 14
 
 -- what a refused call leaves: board and table as they were, "except that a refused open returns a board with S = 0, no rows in use
 -- and no premises"
@@ -58,7 +69,22 @@ pub record Unwritten (w : World) (lent : ℕ) (why : Refusal) : Type 0 where
 abbrev pub RefusedUnwritten : Type 0
 RefusedUnwritten = (w : World) (lent : ℕ) (why : Refusal) → Unwritten w lent why
 
+-- what it hands back besides: a rule no rows; "A refused explain hands back the empty part at the table's front, and 65535 for rank
+-- and row number."
+pub record HandedBack (w : World) (lent : ℕ) (why : Refusal) : Type 0 where
+  pub rule : (bytes : List ℕ) → outcome w (adds lent bytes) ≡ Refused why → ruled (front w lent) (w .board) bytes .added ≡ 0
+  pub explain : (l : ℤ) → outcome w (explains lent l) ≡ Refused why
+      → (reasoned (front w lent) (w .board) l .rank ≡ 65535) × (reasoned (front w lent) (w .board) l .row ≡ 65535)
+      × (explained (front w lent) (w .board) l .start ≡ 0) × (explained (front w lent) (w .board) l .stop ≡ 0)
+
+abbrev pub RefusedHandsBack : Type 0
+RefusedHandsBack = (w : World) (lent : ℕ) (why : Refusal) → HandedBack w lent why
+
 -- ---- demand 2: what the calls leave
+
+-- "A good open touches no row; rows in use and premises start empty."
+abbrev pub OpenLeaves : Type 0
+OpenLeaves = (w : World) (S : ℕ) → outcome w (opens S) ≡ Done → after w (opens S) ≡ record { board = emptyBoard S; table = w .table }
 
 -- "A good hold puts its literal into the premises, a good withdraw takes it out, and neither changes anything else in the board"
 abbrev pub HoldPuts : Type 0
@@ -75,12 +101,25 @@ WithdrawTakes =
 abbrev pub rowsOfWorld : World → List (List ℕ)
 rowsOfWorld w = rowsOn (w .table) (w .board)
 
--- "The rows stored for a rule are all its prime implicates and no others": the rows in use are those before, and then the rule's
+-- a good rule call: `new` are the rule's prime implicates, as rows
+pub record Appends (w : World) (lent : ℕ) (bytes : List ℕ) (new : List (List ℕ)) : Type 0 where
+  -- "The rows stored for a rule are all its prime implicates and no others": the rows in use are those before, and then the rule's
+  pub rows : rowsOfWorld (after w (adds lent bytes)) ≡ rowsOfWorld w ++ new
+  -- so many are told, and so many more are in use
+  pub added : ruled (front w lent) (w .board) bytes .added ≡ length new
+  pub used : after w (adds lent bytes) .board .rows ≡ w .board .rows + length new
+  -- "adding a rule changes neither S nor the premises"
+  pub symbols : after w (adds lent bytes) .board .symbols ≡ w .board .symbols
+  pub premises : after w (adds lent bytes) .board .held ≡ w .board .held
+  -- "a good call writes only the places named for it": those of the new rows
+  pub before : take (width * w .board .rows) (after w (adds lent bytes) .table) ≡ take (width * w .board .rows) (w .table)
+  pub beyond : drop (width * (w .board .rows + length new)) (after w (adds lent bytes) .table)
+      ≡ drop (width * (w .board .rows + length new)) (w .table)
+
 abbrev pub RuleAppends : Type 0
 RuleAppends =
     (w : World) (lent : ℕ) (bytes : List ℕ) → outcome w (adds lent bytes) ≡ Done
-    → rowsOfWorld (after w (adds lent bytes))
-    ≡ rowsOfWorld w ++ rowsOf (ruleOf (w .board .symbols) (formulaIn (w .board .symbols) bytes))
+    → Appends w lent bytes (rowsOf (ruleOf (w .board .symbols) (formulaIn (w .board .symbols) bytes)))
 
 -- ---- demand 2: what the calls tell, "over the rows in the table and the premises then held, in 01's rounds"
 
@@ -98,10 +137,11 @@ rankIn w p = rankOn (w .table) (w .board) p
 abbrev pub supportIn : World → ℕ → ℕ
 supportIn w p = supportOn (w .table) (w .board) p
 
--- the tables that settle left: "A literal is derived exactly if that definition derives it"
+-- the tables that settle left
 pub record Tells (w : World) (labels ranks supports : List ℕ) : Type 0 where
-  pub plus : (s : ℕ) → 1 ≤ s → s ≤ w .board .symbols → ((getD labels (s - 1) 0 ≡ 1) ⊎ (getD labels (s - 1) 0 ≡ 3)) ↔ DerivedOn w (place s true)
-  pub minus : (s : ℕ) → 1 ≤ s → s ≤ w .board .symbols → ((getD labels (s - 1) 0 ≡ 2) ⊎ (getD labels (s - 1) 0 ≡ 3)) ↔ DerivedOn w (place s false)
+  pub label : (s : ℕ) → 1 ≤ s → s ≤ w .board .symbols → getD labels (s - 1) 0 ≡ label (derivedSet w) s
+  -- "A literal is derived exactly if that definition derives it"
+  pub derived : (p : ℕ) → (has (derivedSet w) p ≡ true) ↔ DerivedOn w p
   pub rank : (p : ℕ) → p < 2 * w .board .symbols → getD ranks p 0 ≡ rankIn w p
   pub support : (p : ℕ) → p < 2 * w .board .symbols → getD supports p 0 ≡ supportIn w p
 
@@ -113,6 +153,15 @@ SettleTells =
     outcome w (settles lent labels ranks supports) ≡ Done
     → Tells w (settledLabels (front w lent) (w .board) labels ranks supports) (settledRanks (front w lent) (w .board) labels ranks supports)
     (settledSupports (front w lent) (w .board) labels ranks supports)
+
+-- "Only the first S, 2S and 2S places are written."
+abbrev pub SettleSpares : Type 0
+SettleSpares =
+    (w : World) (lent : ℕ) (labels ranks supports : List ℕ) → outcome w (settles lent labels ranks supports) ≡ Done
+    → let S = w .board .symbols in
+    (drop S (settledLabels (front w lent) (w .board) labels ranks supports) ≡ drop S labels)
+    × (drop (2 * S) (settledRanks (front w lent) (w .board) labels ranks supports) ≡ drop (2 * S) ranks)
+    × (drop (2 * S) (settledSupports (front w lent) (w .board) labels ranks supports) ≡ drop (2 * S) supports)
 
 -- the other answers agree with the same derived literals, ranks and supports (for any board and table, so after every sequence too)
 abbrev pub AskTells : Type 0

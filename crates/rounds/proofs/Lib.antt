@@ -10,3 +10,4 @@ mod Reaching
 pub mod RankTables
 pub mod Final
 pub mod Clashes
+mod Unique

@@ -1,20 +1,29 @@
 -- Laws of the open literals of a row: which literals the row gives, and how a scan finds them.
-use Prim.Native.Nat.{ℕ}
+use Prim.Native.Nat.{ℕ, _≤_}
 use mathlib.Core.Path.{_≡_, refl, sym, ap, subst, _∙_}
 use mathlib.Core.Logic.{_≢_, _⊎_, inl, inr, ⊎-elim}
 use mathlib.Core.Bool.{Bool, true, false, cond, _&&_, _||_, and-true}
 use mathlib.Core.List.{List, [], _∷_, List·Memᴰ as In, List·Memᴰ·head as here, List·Memᴰ·tail as there}
 use mathlib.Core.List.{List·Memᴰ·cases-cons as in-cons, List·Memᴰ·not-nil as in-nil}
+use native.Mathlib.Omega.{arith}
 use lib.Dec.{eqb}
+use lib.IntN.{ℤ, pos, natAbs}
+use mir.Syntax.{w16}
+use mir.Val.{SFits, ofZ, toZ}
+use mir.Facts.{toZ-ofZ}
 use borrow.Author.Tests.{eq-eqb, ne-eqb, eqb-true, eqb-false}
 use Rattle.meaning.specs.Tests.{member}
 use Rattle.meaning.specs.Literals.{opp, has}
 use Rattle.meaning.specs.Rounds.{gives}
 use Rattle.meaning.proofs.Tests.{or-right, false-of, clash, same-test, all-of}
 use Rattle.meaning.proofs.Gives.{gives-words, gives-of}
+use Rattle.literals.specs.Literal.{placeOf, literalAt}
+use Rattle.literals.proofs.Signed.{small-abs, zero-bits, bits-zero}
+use Rattle.literals.proofs.Places.{literal-at-place}
 use Rattle.rounds.specs.Ranks.{openAfter, openIn}
 use Rattle.rounds.specs.declared.ranks.Open.{Open}
 use Rattle.rounds.specs.declared.ranks.Open.the-variants.{Nothing, One, More}
+use Rattle.rounds.proofs.Scanning.{numberAt, Literal}
 
 -- ---- what the open literals say of the row
 
@@ -114,38 +123,78 @@ two p q (One r) d = go (eqb q r)
     go false = refl
 two p q More d = refl
 
--- the open literals of the row are those of what is left of it, with the one that was found
-pub record Found (known : List Bool) (row left : List ℕ) (found : Bool) (one : ℕ) : Type 0 where
-  is : openIn known row ≡ cond found (openAfter one (openIn known left)) (openIn known left)
+-- the open literals of the row are those of what is left of it, with the literal z that was found: `one` is its 16 bits, 0 for none
+pub record Found (known : List Bool) (row left : List ℕ) (one : ℕ) : Type 0 where
+  z : ℤ
+  bits : one ≡ ofZ w16 z
+  small : natAbs z ≤ 200
+  is : openIn known row ≡ cond (eqb (natAbs z) 0) (openIn known left) (openAfter (placeOf z) (openIn known left))
 
-pub found-none : {known : List Bool} {row : List ℕ} {one : ℕ} → Found known row row false one
-found-none = record { is = refl }
+pub found-none : {known : List Bool} {row : List ℕ} → Found known row row 0
+found-none = record { z = pos 0; bits = refl; small = omega arith; is = refl }
 
-module _ {known : List Bool} {row left : List ℕ} {q : ℕ} {found : Bool} {one : ℕ} (w : Found known row (q ∷ left) found one) where
-  pub found-known : has known (opp q) ≡ true → Found known row left found one
+module _ {known : List Bool} {row left : List ℕ} {one : ℕ} (w : Found known row left one) where
+  fits : SFits w16 (w .z)
+  fits = small-abs (w .z) (omega (arith, w .small))
+
+  back-one : toZ w16 one ≡ w .z
+  back-one = ap (toZ w16) (w .bits) ∙ toZ-ofZ fits
+
+  one-none : one ≡ 0 → natAbs (w .z) ≡ 0
+  one-none e = zero-bits fits (sym (w .bits) ∙ e)
+
+  one-some : (one ≡ 0 → ⊥) → natAbs (w .z) ≡ 0 → ⊥
+  one-some n e = n (w .bits ∙ bits-zero (w .z) e)
+
+  -- what was found can be placed
+  pub one-allowed : (one ≡ 0 → ⊥) → (1 ≤ natAbs (toZ w16 one)) × (natAbs (toZ w16 one) ≤ 200)
+  one-allowed n = let some = one-some n in rw back-one (omega arith, w .small)
+
+module _ {known : List Bool} {row left : List ℕ} {q one : ℕ} (w : Found known row (q ∷ left) one) where
+  pub found-known : has known (opp q) ≡ true → Found known row left one
   unfolding openIn
-  found-known h = record { is = rw h at (w .is) }
+  found-known h = record { z = w .z; bits = w .bits; small = w .small; is = rw h at (w .is) }
 
-  -- a first open literal, or the one that was found again
-  pub found-one : has known (opp q) ≡ false → (found ≡ false) ⊎ (one ≡ q) → Found known row left true q
-  unfolding openIn
-  found-one h f = record { is = (rw h at (w .is)) ∙ go found f }
-    where
-      go : (t : Bool) → (t ≡ false) ⊎ (one ≡ q) → cond t (openAfter one (openAfter q (openIn known left))) (openAfter q (openIn known left)) ≡ openAfter q (openIn known left)
-      go false f = refl
-      go true (inl f) = clash refl f
-      go true (inr f) = rw f (again q (openIn known left))
+  -- the literal at the front of what is left is open
+  module _ {places : ℕ} {table : List ℤ} {r j : ℕ} (l : Literal places table r j q) (h : has known (opp q) ≡ false) where
+    -- it is the first, or the one that was found again
+    pub found-one : (one ≡ 0) ⊎ (one ≡ ofZ w16 (numberAt table r j)) → Found known row left (ofZ w16 (numberAt table r j))
+    unfolding openIn
+    found-one f =
+        record {
+          z = numberAt table r j;
+          bits = refl;
+          small = l .few;
+          is = rw (ne-eqb (natAbs (numberAt table r j)) 0 (λ e. omega (arith, e, l .some)), ← l .is-place)
+              ((rw h at (w .is)) ∙ go (eqb (natAbs (w .z)) 0) (⊎-elim (λ e. inl (eq-eqb _ 0 (one-none w e))) (λ e. inr (same e)) f));
+        }
+      where
+        same : one ≡ ofZ w16 (numberAt table r j) → placeOf (w .z) ≡ q
+        same e = ap placeOf (sym (back-one w) ∙ ap (toZ w16) e ∙ toZ-ofZ (l .fits)) ∙ sym (l .is-place)
 
-  pub found-two : has known (opp q) ≡ false → found ≡ true → one ≢ q → More ≡ openIn known row
-  unfolding openIn
-  found-two h f d = sym ((rw (h, f) at (w .is)) ∙ two one q (openIn known left) d)
+        go : (t : Bool) → (t ≡ true) ⊎ (placeOf (w .z) ≡ q)
+            → cond t (openAfter q (openIn known left)) (openAfter (placeOf (w .z)) (openAfter q (openIn known left))) ≡ openAfter q (openIn known left)
+        go true f = refl
+        go false (inl f) = clash f refl
+        go false (inr f) = rw f (again q (openIn known left))
+
+    pub found-two : (one ≡ 0 → ⊥) → (one ≡ ofZ w16 (numberAt table r j) → ⊥) → More ≡ openIn known row
+    unfolding openIn
+    found-two n d = sym ((rw (h, ne-eqb (natAbs (w .z)) 0 (one-some w n)) at (w .is)) ∙ two (placeOf (w .z)) q (openIn known left) apart)
+      where
+        -- places tell literals apart
+        apart : placeOf (w .z) ≢ q
+        apart e =
+            let nonzero = one-some w n in
+            let same = sym (literal-at-place (w .z) (omega arith)) ∙ ap literalAt (e ∙ l .is-place) ∙ literal-at-place (numberAt table r j) (l .some) in
+            d (w .bits ∙ ap (ofZ w16) same)
 
 -- nothing is left
-module _ {known : List Bool} {row : List ℕ} {found : Bool} {one : ℕ} (w : Found known row [] found one) where
-  pub found-some : found ≡ true → One one ≡ openIn known row
+module _ {known : List Bool} {row : List ℕ} {one : ℕ} (w : Found known row [] one) where
+  pub found-some : (one ≡ 0 → ⊥) → {p : ℕ} → p ≡ placeOf (toZ w16 one) → One p ≡ openIn known row
   unfolding openIn
-  found-some f = sym (rw f at (w .is))
+  found-some n e = ap One (e ∙ ap placeOf (back-one w)) ∙ sym (rw (ne-eqb (natAbs (w .z)) 0 (one-some w n)) at (w .is))
 
-  pub found-nothing : found ≡ false → Nothing ≡ openIn known row
+  pub found-nothing : one ≡ 0 → Nothing ≡ openIn known row
   unfolding openIn
-  found-nothing f = sym (rw f at (w .is))
+  found-nothing e = sym (rw (eq-eqb (natAbs (w .z)) 0 (one-none w e)) at (w .is))

@@ -16,7 +16,7 @@ use Rattle.meaning.proofs.Tests.{both-true, and-intro, not-intro, one-true, or-
 use Rattle.meaning.proofs.Tables.{tabulate-same, le-or-lt}
 use Rattle.meaning.proofs.Ranks.{rankOf-is, held-rank}
 use Rattle.meaning.proofs.Supports.{supportOf-none}
-use Rattle.meaning.proofs.Reach.{past-end, ranks-fall, reach-held, reach-on}
+use Rattle.meaning.proofs.Reach.{past-end, ranks-fall, premise-reaches, others-reach}
 use Rattle.rounds.specs.Ranks.{supportFrom, reachedFrom}
 use Rattle.rounds.specs.Reach.{opposed, leads, expandedTo, expanded, heldOnly}
 use Rattle.rounds.proofs.RankTables.{getD-ranksOf, length-ranksOf}
@@ -68,7 +68,7 @@ module _ {places : ℕ} {rows : List (List ℕ)} {held : List Bool} {ranks : Lis
   -- a literal without a rank reaches nothing
   reach-none : (p h : ℕ) → p < places → rankOf places rows held p ≡ none → reaches places rows held p h ≡ false
   reach-none p h b e =
-      reach-on places rows held small few p h b (not-held p b (omega arith))
+      others-reach places rows held p h small few b (not-held p b (omega arith))
       ∙ rw (supportOf-none places rows held p e, past-end rows none few)
 
   -- the loop begins at a rank that no marked literal's is above
@@ -138,7 +138,7 @@ module _ {places : ℕ} {rows : List (List ℕ)} {held : List Bool} {ranks : Lis
         on e =
             let row = getD rows (supportOf places rows held q) [] in
             let f = any-found (λ x. not (eqb x q) && reaches places rows held (opp x) h) row
-            (sym (reach-on places rows held small few q h (w .inside) (not-held q (w .inside) (omega arith))) ∙ w .reached) in
+            (sym (others-reach places rows held q h small few (w .inside) (not-held q (w .inside) (omega arith))) ∙ w .reached) in
             let x = f .0 in
             let t = both-true (not (eqb x q)) (reaches places rows held (opp x) h) (f .2) in
             let d = eqb-false x q (not-true (eqb x q) (t .0)) in
@@ -186,7 +186,7 @@ module _ {places : ℕ} {rows : List (List ℕ)} {held : List Bool} {ranks : Lis
               inside = i;
               marked = u .0;
               ranked = omega arith;
-              reached = reach-on places rows held small few p h i (not-held p i (omega (arith, fall .1)))
+              reached = others-reach places rows held p h small few i (not-held p i (omega (arith, fall .1)))
                   ∙ any-at (λ y. not (eqb y p) && reaches places rows held (opp y) h) (g .1)
                   (and-intro (not (eqb x p)) (reaches places rows held (opp x) h) (not-intro (eqb x p) (ne-eqb x p (g .2))) (rw (g .3) (w .reached)));
             }
@@ -206,11 +206,11 @@ module _ {places : ℕ} {rows : List (List ℕ)} {held : List Bool} {ranks : Lis
       there h b e =
           let t = both-true (has m h) (has held h) e in
           let zero-rank = ltb-true (rankOf places rows held h) 1 (held-rank places rows held small h b ∙ t .1) in
-          w .back h (record { from-literal = h; inside = b; marked = t .0; ranked = zero-rank; reached = reach-held places rows held small few h h (t .1) ∙ eq-eqb h h refl })
+          w .back h (record { from-literal = h; inside = b; marked = t .0; ranked = zero-rank; reached = premise-reaches places rows held h h (t .1) ∙ eq-eqb h h refl })
 
       here : (h : ℕ) → Low places rows held 1 m h → has m h && has held h ≡ true
       here h l =
           let q = l .from-literal in
           let premise : has held q ≡ true = sym (held-rank places rows held small q (l .inside)) ∙ lt-ltb (rankOf places rows held q) 1 (l .ranked) in
-          let same : q ≡ h = eqb-true q h (sym (reach-held places rows held small few q h premise) ∙ l .reached) in
+          let same : q ≡ h = eqb-true q h (sym (premise-reaches places rows held q h premise) ∙ l .reached) in
           rw (← same) (and-intro (has m q) (has held q) (l .marked) premise)

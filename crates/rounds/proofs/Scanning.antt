@@ -1,11 +1,11 @@
 -- Going through a row of a sound table number by number: what is left of the row.
 use Prim.Native.Nat.{ℕ, _+_, _*_, _≤_, _<_}
-use mathlib.Core.Path.{_≡_, refl, ap, _∙_}
+use mathlib.Core.Path.{_≡_, refl, sym, ap, _∙_}
 use mathlib.Core.Bool.{true, false}
 use mathlib.Core.List.{List, [], _∷_, List·Memᴰ as In}
 use native.Mathlib.Numerals.{add-one}
 use native.Mathlib.Omega.{arith}
-use lib.IntN.{ℤ, pos, natAbs}
+use lib.IntN.{ℤ, pos, natAbs, negℤ}
 use lib.Dec.{ltb}
 use lib.ListN.{length, getD, take, drop, length-drop, drop-of-length-le}
 use lib.Seq.{drop-cons, getD-take, getD-drop, length-take-le}
@@ -18,8 +18,9 @@ use Rattle.meaning.proofs.Tests.{all-of, from-in}
 use Rattle.meaning.proofs.Literals.{opp-in}
 use Rattle.literals.specs.Literal.{placeOf}
 use Rattle.literals.specs.Row.{width, numbersAt, rowSound, rowsSound, decode, rowsIn}
-use Rattle.literals.proofs.Signed.{back, zero-bits, bits-zero}
+use Rattle.literals.proofs.Signed.{back, back-abs, zero-bits, bits-zero}
 use Rattle.literals.proofs.Places.{place-bound}
+use Rattle.literals.proofs.Opposites.{opposite-abs, opposite-at}
 use Rattle.literals.proofs.Decoding.{length-rows, decode-zero, decode-literal, sound-at, sound-in, sound-small}
 use borrow.Author.Tests.{lt-ltb, le-ltb}
 use Rattle.rounds.specs.Ranks.{Fit, below}
@@ -61,7 +62,7 @@ unfolding left rest
 left-all table r = refl
 
 -- the number there
-abbrev numberAt : List ℤ → ℕ → ℕ → ℤ
+abbrev pub numberAt : List ℤ → ℕ → ℕ → ℤ
 numberAt table r j = getD table (width * r + j) (pos 0)
 
 module _ {places : ℕ} {table : List ℤ} (r : ℕ) (f : Fit places (r + 1) table) where
@@ -82,6 +83,10 @@ pub record Here (places : ℕ) (table : List ℤ) (r j : ℕ) : Type 0 where
 
 -- and it is a literal, whose place is q
 pub record Literal (places : ℕ) (table : List ℤ) (r j q : ℕ) : Type 0 where
+  pub fits : SFits w16 (numberAt table r j)
+  pub some : 1 ≤ natAbs (numberAt table r j)
+  pub few : natAbs (numberAt table r j) ≤ 200
+  pub is-place : q ≡ placeOf (numberAt table r j)
   pub first : left table r j ≡ q ∷ left table r (j + 1)
   pub inside : q < places
   pub opposite : opp q < places
@@ -114,19 +119,41 @@ module _ {places : ℕ} {table : List ℤ} {r j : ℕ} (here : Here places table
     some : 1 ≤ natAbs number
     some = let no : natAbs number ≡ 0 → ⊥ = λ z. more (bits-zero number z) in omega arith
 
-    pub place-allowed : (1 ≤ natAbs (back (numberAt table r j))) × (natAbs (back (numberAt table r j)) ≤ 200)
-    place-allowed = rw (toZ-ofZ (here .fits)) (some, omega (arith, small, here .fit .2 .symbols))
+    few : natAbs number ≤ 200
+    few = omega (arith, small, here .fit .2 .symbols)
 
-    pub literal : (q : ℕ) → q ≡ placeOf (back (numberAt table r j)) → Literal places table r j q
+    pub place-allowed : (1 ≤ natAbs (back (numberAt table r j))) × (natAbs (back (numberAt table r j)) ≤ 200)
+    place-allowed = rw (toZ-ofZ (here .fits)) (some, few)
+
+    pub literal : {q : ℕ} → q ≡ placeOf (back (numberAt table r j)) → Literal places table r j q
     unfolding left
-    literal q is =
+    literal {q} is =
         let same : q ≡ placeOf number = is ∙ ap placeOf (toZ-ofZ (here .fits)) in
         let low : q < places = rw (same, here .fit .1) (place-bound (here .fit .0) number some small) in
         record {
+          fits = here .fits;
+          some = some;
+          few = few;
+          is-place = same;
           first = rw (cons, same) (decode-literal number (rest table r (j + 1)) (omega (arith, some)));
           inside = low;
           opposite = opp-in q places (omega (arith, here .fit .1)) low;
         }
+
+-- its opposite m can be taken and placed, and stands at o, the other place of its symbol
+module _ {places : ℕ} {table : List ℤ} {r j q : ℕ} (l : Literal places table r j q) where
+  low : natAbs (numberAt table r j) < 32768
+  low = omega (arith, l .few)
+
+  pub opposite-allowed : natAbs (back (numberAt table r j)) < 32768
+  opposite-allowed = rw (back-abs (l .fits)) low
+
+  module _ {m : ℤ} (is : m ≡ negℤ (back (numberAt table r j))) where
+    pub opposite-place-allowed : (1 ≤ natAbs (back m)) × (natAbs (back m) ≤ 200)
+    opposite-place-allowed = rw (opposite-abs (l .fits) low is) (l .some, l .few)
+
+    pub opposite-is : {o : ℕ} → o ≡ placeOf (back m) → o ≡ opp q
+    opposite-is at-o = opposite-at (l .fits) low is (l .some) at-o ∙ ap opp (sym (l .is-place))
 
 -- a literal of a sound row is one of the places
 pub row-in : (places r : ℕ) (table : List ℤ) → Fit places (r + 1) table → {p : ℕ} → In p (decode (numbersAt table r)) → p < places

@@ -18,31 +18,32 @@ pub enum Open {
     More,
 }
 
-// The open literals of a row in round k. A row with two gives nothing, and is left at the second.
+// The open literals of a row in round k. A row with two gives nothing, and is left at the second. `one` is the first, or 0, and is
+// placed only where it stays alone.
 fn open_in(table: &[i16], row: usize, ranks: &[u16], k: u16) -> Open
     requires { ⌜ Fit (length (now ranks)) (row + 1) (now table) ⌝ }
     ensures { λ r. ⌜ r ≡ openIn (below k (now (ranks .entry))) (decode (numbersAt (now (table .entry)) row)) ⌝ }
 {
     let base = WIDTH * row;
-    let mut found = false;
-    let mut one = 0;
+    let mut one: i16 = 0;
     let mut j = 0;
     while j < WIDTH {
         let l = table[base + j];
         if l == 0 {
             break;
         }
-        let q = literals::place(l);
-        if ranks[literals::opposite(q)] >= k {
-            if found && one != q {
+        if ranks[literals::place(literals::opposite(l))] >= k {
+            if one != 0 && one != l {
                 return Open::More;
             }
-            found = true;
-            one = q;
+            one = l;
         }
         j += 1;
     }
-    if found { Open::One(one) } else { Open::Nothing }
+    if one == 0 {
+        return Open::Nothing;
+    }
+    Open::One(literals::place(one))
 }
 
 // Writes rank k at place p if it has no rank. Says whether it did.

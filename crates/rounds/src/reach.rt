@@ -26,9 +26,8 @@ fn mark_others(table: &[i16], row: usize, p: usize, marks: &mut [bool])
         if l == 0 {
             break;
         }
-        let q = literals::place(l);
-        if q != p {
-            marks[literals::opposite(q)] = true;
+        if literals::place(l) != p {
+            marks[literals::place(literals::opposite(l))] = true;
         }
         j += 1;
     }

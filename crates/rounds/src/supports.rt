@@ -30,10 +30,9 @@ pub fn support_row(table: &[i16], rows: usize, p: usize, ranks: &[u16], k: u16) 
             if l == 0 {
                 break;
             }
-            let q = literals::place(l);
-            if q == p {
+            if literals::place(l) == p {
                 has = true;
-            } else if ranks[literals::opposite(q)] >= k {
+            } else if ranks[literals::place(literals::opposite(l))] >= k {
                 continue 'rows;
             }
             j += 1;

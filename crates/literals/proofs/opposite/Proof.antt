@@ -1,26 +1,15 @@
--- `literals::opposite` meets its contract: a number with its last bit turned is its neighbour.
-use mathlib.Core.Path.{_≡_, ap, _∙_}
-use mathlib.Core.Logic.{⊎-elim}
-use Prim.Native.Nat.{ℕ, _+_, _*_, _/_, _%_}
-use native.Mathlib.Omega.{arith}
-use lib.Bits.{bitXor, differ, xor-step, xor-zero-r}
-use Rattle.meaning.specs.Literals.{opp}
-use Rattle.meaning.proofs.Literals.{even-or-odd, opp-even, opp-odd}
+-- `literals::opposite` meets its contract: the negation of a 16-bit number other than −32768 fits 16 bits.
+use mathlib.Core.Path.{_∙_}
+use mir.Facts.{toZ-ofZ}
+use Rattle.literals.proofs.Signed.{minus-is, minus-fits}
 use Rattle.literals.proofs.opposite.Statement.{statement}
 use Rattle.literals.proofs.opposite.Tie as tie
 
-turned : (p : ℕ) → bitXor p 1 ≡ p / 2 * 2 + differ (p % 2) 1
-turned p = xor-step p 1 ∙ ap (λ (q : ℕ). q * 2 + differ (p % 2) 1) (xor-zero-r (p / 2))
-
-turned-opp : (p : ℕ) → p / 2 * 2 + differ (p % 2) 1 ≡ opp p
-turned-opp p =
-    ⊎-elim
-    (λ (e : p % 2 ≡ 0). (let d = ap (λ r. differ r 1) e in omega (arith, d, opp-even p e)))
-    (λ odd. (let e : p % 2 ≡ 1 = omega arith in let d = ap (λ r. differ r 1) e in omega (arith, d, opp-odd p odd)))
-    (even-or-odd p)
+sub-result : tie.Need-sub-result
+sub-result c = rw (minus-is (c .fits .l)) (minus-fits (c .args .l) (c .pre))
 
 returns : tie.Need-returns
-returns c = turned (c .args .p) ∙ turned-opp (c .args .p)
+returns c = toZ-ofZ (sub-result c) ∙ minus-is (c .fits .l)
 
 pub opposite-spec : {M : Type 1} → statement M
-opposite-spec = tie.close (tie.spec returns)
+opposite-spec = tie.close (tie.spec sub-result returns)

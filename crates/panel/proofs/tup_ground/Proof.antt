@@ -2,7 +2,7 @@
 use borrow.Author.Needs.{needs}
 use mathlib.Core.Path.{ap, _∙_}
 use mir.Facts.{toZ-ofZ}
-use Rattle.panel.specs.Crossing.{numberIn}
+use Rattle.board.specs.Faults.{numberIn}
 use Rattle.panel.proofs.tup_ground.Statement.{statement}
 use Rattle.panel.proofs.tup_ground.Tie as tie
 

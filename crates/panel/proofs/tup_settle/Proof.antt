@@ -1,7 +1,7 @@
 -- `tup_settle` meets its contract: it is the board's `settle`.
 use borrow.Author.Needs.{needs}
 use mathlib.Core.Path.{ap, _∙_}
-use Rattle.panel.specs.Crossing.{numberIn}
+use Rattle.board.specs.Faults.{numberIn}
 use Rattle.panel.proofs.tup_settle.Statement.{statement}
 use Rattle.panel.proofs.tup_settle.Tie as tie
 

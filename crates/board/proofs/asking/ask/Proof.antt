@@ -4,38 +4,41 @@ use mathlib.Core.Path.{_≡_, sym, ap, _∙_}
 use Prim.Native.Nat.{_*_}
 use native.Mathlib.Omega.{arith}
 use lib.ListN.{drop}
+use mir.Facts.{toZ-ofZ}
 use Rattle.meaning.specs.Tests.{none}
-use Rattle.meaning.proofs.Literals.{opp-in}
+use Rattle.literals.specs.Literal.{placeOf}
+use Rattle.literals.proofs.Signed.{back-abs}
 use Rattle.rounds.specs.Ranks.{below}
 use Rattle.rounds.proofs.Final.{below-derived}
 use Rattle.board.specs.Ranking.{rowsOn, tooHigh}
 use Rattle.board.specs.Asking.{askFaults, asked, standing}
+use Rattle.board.proofs.Arguments.{range-facts}
 use Rattle.board.proofs.Placing.{PlacedAt, placed-at, placed-refused}
 use Rattle.board.proofs.Lending.{Front, ranks-front, ranks-high}
 use Rattle.board.proofs.asking.ask.Statement.{statement}
 use Rattle.board.proofs.asking.ask.Tie as tie
 
--- the place that the call looks at
-at : (c : tie.After-p) → let s = c .before .before .before in PlacedAt (s .args .table .now) (s .args .board) (s .args .l) (c .p .given .0 .0)
-at c = let s = c .before .before .before in placed-at _ _ (s .fits .l) (c .before .before .place-on .ensures) (c .p .given .1)
+-- both tests have passed
+at : (c : tie.After-enum-told) → let s = c .before .before .before in PlacedAt (s .args .table .now) (s .args .board) (s .args .l) (c .enum-told .given .0 .0)
+at c = let s = c .before .before .before in placed-at _ _ (s .fits .l) (c .before .before .place-on .ensures) (c .enum-told .given .1)
 
 -- the ranks, and whether one is too high
-front : (c : tie.After-ranks-on) → let s = c .before .before .before .before .before .before in Front (s .args .table .now) (s .args .board) (c .ranks-on .result .list)
-front c = ranks-front _ _ (at (c .before .before .before) .good) (c .ranks-on .ensures)
+front : (c : tie.After-ranks-on) → let s = c .before .before .before .before .before in Front (s .args .table .now) (s .args .board) (c .ranks-on .result .list)
+front c = ranks-front _ _ (at (c .before .before) .good) (c .ranks-on .ensures)
 
-high : (c : tie.After-ranks-on) → let s = c .before .before .before .before .before .before in tooHigh (s .args .table .now) (s .args .board) ≡ c .ranks-on .result .high
+high : (c : tie.After-ranks-on) → let s = c .before .before .before .before .before in tooHigh (s .args .table .now) (s .args .board) ≡ c .ranks-on .result .high
 high c = ranks-high _ _ (c .ranks-on .ensures)
 
 mul-places : tie.Need-mul-places
-mul-places c = omega (arith, at (c .before .before) .good .sound .symbols)
+mul-places c = omega (arith, at (c .before) .good .sound .symbols)
 
 ranks-on-requires : tie.Need-ranks-on-requires
-ranks-on-requires c κs = at (c .before .before) .is-good
+ranks-on-requires c κs = at (c .before) .is-good
 
 returns : tie.Need-returns
 unfolding asked askFaults
 returns c =
-    let p = at (c .before .before .before .before) in
+    let p = at (c .before .before .before) in
     rw (p .is-good, p .in-range, high (c .before) ∙ c .if1 .taken)
 
 array-share-prefix-ranks : tie.Need-array-share-prefix-ranks
@@ -47,10 +50,12 @@ slice-aggregate-standing-by c = sym (front (c .before .before .before) .long)
 standing-by-requires : tie.Need-standing-by-requires
 standing-by-requires c κs =
     let r = c .before .before .before in
-    let w = r .before .before .before in
+    let p = at (r .before .before) in
+    let s = r .before .before .before .before .before in
     let long = front r .long in
-    let low = at w .low in
-    (omega (arith, long, low), omega (arith, long, opp-in (w .p .given .0 .0) (2 * w .before .before .before .args .board .symbols) (omega arith) low), omega (arith, long, at w .good .sound .symbols))
+    let range = range-facts (s .args .board .symbols) (s .args .l) (p .in-range) in
+    let same = back-abs (s .fits .l) in
+    (omega (arith, same, range .0), omega (arith, same, long, range .1), omega (arith, long, p .good .sound .symbols))
 
 returns-2 : tie.Need-returns-2
 unfolding asked askFaults
@@ -65,13 +70,14 @@ unfolding asked askFaults
 returns-3 c =
     let e = c .before .before .before in
     let r = e .before in
-    let w = r .before .before .before in
+    let w = r .before .before in
     let p = at w in
     let s = w .before .before .before in
     let b = s .args .board in
-    rw (p .is-good, p .in-range, high r ∙ e .if1 .left, ← p .place)
-    (c .standing-by .ensures
-    ∙ ap (λ known. standing known (w .p .given .0 .0))
+    let stands = rw (toZ-ofZ (s .fits .l)) at (c .standing-by .ensures) in
+    rw (p .is-good, p .in-range, high r ∙ e .if1 .left)
+    (stands
+    ∙ ap (λ known. standing known (placeOf (s .args .l)))
     (ap (below none) (front r .is) ∙ below-derived (2 * b .symbols) (rowsOn (s .args .table .now) b) (b .held) (omega (arith, p .good .sound .symbols))))
 
 pub ask-spec : {M : Type 1} → statement M

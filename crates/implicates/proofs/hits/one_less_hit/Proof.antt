@@ -8,7 +8,7 @@ use Prim.Native.Nat.{ℕ, _≤_, _<_, _+_, _-_, _*_, _%_, _^_}
 use native.Mathlib.Omega.{arith}
 use borrow.Author.Tests.{not-true, not-false}
 use lib.ListN.{take}
-use Rattle.meaning.proofs.Primes.{lone}
+use Rattle.meaning.specs.Clauses.{lone}
 use Rattle.implicates.specs.Numbers.{number, clauseAt}
 use Rattle.implicates.specs.Hits.{marked}
 use Rattle.implicates.proofs.Digits.{Turn, number-first, drop-first, next-rest}

@@ -32,7 +32,7 @@ here c = record { fit = start (c .before .before) .pre .0; inside = c .before .l
 
 read : (p : tie.After-place Inv-loop μ-loop)
     → let a = start (at p) .args in Literal (length (a .ranks .now)) (a .table .now) (a .row) (at p .loop .j) (p .place .result)
-read p = literal (here (p .before .before)) (p .before .if1 .left) (p .place .result) (p .place .ensures)
+read p = literal (here (p .before .before)) (p .before .if1 .left) (p .place .ensures)
 
 loop-holds : tie.Need-loop-holds Inv-loop μ-loop
 loop-holds c =

@@ -1,12 +1,14 @@
 -- `rounds::reach::mark_others` meets its contract. The loop's invariant: with the opposites of what is left of the row the marks are as
 -- they are to be. The measure is what is left of the eight numbers.
 use Prim.Native.Nat.{_≤_, _-_, _<_}
+use mathlib.Core.Path.{_≡_}
 use mathlib.Core.Logic.{⊎-elim}
 use native.Mathlib.Omega.{arith}
 use borrow.Author.Needs.{needs}
 use lib.ListN.{length}
+use Rattle.meaning.specs.Literals.{opp}
 use Rattle.literals.specs.Row.{width, numbersAt, decode}
-use Rattle.rounds.proofs.Scanning.{left, left-all, left-last, left-end, Here, Literal, literal, place-allowed}
+use Rattle.rounds.proofs.Scanning.{left, left-all, left-last, left-end, Here, Literal, literal, place-allowed, opposite-allowed, opposite-place-allowed, opposite-is}
 use Rattle.rounds.proofs.Joining.{Crossed, crossed-none, crossed-same, crossed-other, crossed-all}
 use Rattle.rounds.proofs.reach.mark_others.Statement.{statement}
 use Rattle.rounds.proofs.reach.mark_others.Tie as tie
@@ -31,12 +33,14 @@ here c = record { fit = start (c .before .before) .pre; inside = c .before .loop
 
 read : (p : tie.After-place Inv-loop μ-loop)
     → let a = start (at p) .args in Literal (length (a .marks .now)) (a .table .now) (a .row) (at p .loop .j) (p .place .result)
-read p = literal (here (p .before .before)) (p .before .if1 .left) (p .place .result) (p .place .ensures)
+read p = literal (here (p .before .before)) (p .before .if1 .left) (p .place .ensures)
 
-opposite-below : (c : tie.After-opposite Inv-loop μ-loop) → c .opposite .result < length (at (c .before .before) .loop .marks)
-opposite-below c =
-    let p = c .before .before in
-    omega (arith, read p .opposite)
+-- the opposite's place
+other : (o : tie.After-place2 Inv-loop μ-loop) → o .place2 .result ≡ opp (o .before .before .before .place .result)
+other o = opposite-is (read (o .before .before .before)) (o .before .opposite .ensures) (o .place2 .ensures)
+
+other-below : (o : tie.After-place2 Inv-loop μ-loop) → o .place2 .result < length (at (o .before .before .before) .loop .marks)
+other-below o = omega (arith, other o, read (o .before .before .before) .opposite)
 
 loop-holds : tie.Need-loop-holds Inv-loop μ-loop
 loop-holds c = let a = c .before .args in (search needs, rw (left-all (a .table .now) (a .row)) crossed-none)
@@ -44,14 +48,21 @@ loop-holds c = let a = c .before .args in (search needs, rw (left-all (a .table 
 place-requires : tie.Need-place-requires Inv-loop μ-loop
 place-requires c κs = place-allowed (here (c .before)) (c .if1 .left)
 
+opposite-requires : tie.Need-opposite-requires Inv-loop μ-loop
+opposite-requires c κs = opposite-allowed (read (c .before))
+
+place-requires-2 : tie.Need-place-requires-2 Inv-loop μ-loop
+place-requires-2 c κs = opposite-place-allowed (read (c .before .before)) (c .opposite .ensures)
+
 loop-again : tie.Need-loop-again Inv-loop μ-loop
 loop-again c =
     let p = c .before in
     let w = rw (read p .first) at (at p .loop .inv .1) in (
       omega arith,
       ⊎-elim
-          (λ y. rw (y .2) (crossed-other w (y .0 .taken) (y .1 .result) (y .1 .ensures)
-          (opposite-below (record { before = record { before = p; if2 = y .0 }; opposite = y .1 }))))
+          (λ y. (let o : tie.After-place2 Inv-loop μ-loop =
+          record { before = record { before = record { before = p; if2 = y .0 }; opposite = y .1 }; place2 = y .2 } in
+          rw (y .3) (crossed-other w (y .0 .taken) (y .2 .result) (other o) (other-below o))))
           (λ y. rw (y .1) (crossed-same w (y .0 .left)))
           (c .if2 .came),
     )
@@ -76,8 +87,9 @@ mark-others-spec =
     (λ c. omega arith)
     (λ c. omega arith)
     place-requires
-    (λ c κs. omega arith)
-    opposite-below
+    opposite-requires
+    place-requires-2
+    other-below
     (λ c. omega arith)
     (λ c. omega arith)
     loop-again

@@ -8,10 +8,11 @@ use mathlib.Core.Path.{_≡_, _∙_}
 use mathlib.Core.Bool.{false}
 use mathlib.Core.Logic.{⊎-elim}
 use lib.ListN.{length}
+use Rattle.meaning.specs.Literals.{opp}
 use Rattle.meaning.specs.Rounds.{gives}
 use Rattle.literals.specs.Row.{width, numbersAt, decode}
 use Rattle.rounds.specs.Ranks.{Fit, below}
-use Rattle.rounds.proofs.Scanning.{fit-row, left, left-all, left-last, left-end, Here, Literal, literal, place-allowed, known-yes, known-no}
+use Rattle.rounds.proofs.Scanning.{fit-row, left, left-all, left-last, left-end, Here, Literal, literal, place-allowed, opposite-allowed, opposite-place-allowed, opposite-is, known-yes, known-no}
 use Rattle.rounds.proofs.Givers.{Seen, seen-none, seen-same, seen-other, seen-fails, seen-all, giver-in}
 use Rattle.rounds.proofs.Searching.{first-found, first-missing}
 use Rattle.rounds.proofs.supports.support_row.Statement.{statement}
@@ -53,11 +54,15 @@ here c = record { fit = fit (c .before .before .before); inside = c .before .loo
 
 read : (p : tie.After-place Inv-loop μ-loop Inv-rows μ-rows)
     → let r = row (at p) in let a = start r .args in Literal (length (a .ranks .now)) (a .table .now) (r .rows .next) (at p .loop .j) (p .place .result)
-read p = literal (here (p .before .before)) (p .before .if2 .left) (p .place .result) (p .place .ensures)
+read p = literal (here (p .before .before)) (p .before .if2 .left) (p .place .ensures)
 
-opposite-below : (c : tie.After-opposite Inv-loop μ-loop Inv-rows μ-rows)
-    → c .opposite .result < length (start (row (at (c .before .before))) .args .ranks .now)
-opposite-below c = omega (arith, read (c .before .before) .opposite)
+-- the opposite's place
+other : (o : tie.After-place2 Inv-loop μ-loop Inv-rows μ-rows) → o .place2 .result ≡ opp (o .before .before .before .place .result)
+other o = opposite-is (read (o .before .before .before)) (o .before .opposite .ensures) (o .place2 .ensures)
+
+other-below : (o : tie.After-place2 Inv-loop μ-loop Inv-rows μ-rows)
+    → o .place2 .result < length (start (row (at (o .before .before .before))) .args .ranks .now)
+other-below o = omega (arith, other o, read (o .before .before .before) .opposite)
 
 -- the row in hand gives p exactly if p was seen, whether the row ended at a 0 or has eight literals
 row-seen : (c : tie.Left-loop Inv-loop μ-loop Inv-rows μ-rows) → let l = c .before in let a = start (row l) .args in
@@ -79,20 +84,27 @@ loop-holds c = let r = c .before in (search needs, rw (left-all (start r .args .
 place-requires : tie.Need-place-requires Inv-loop μ-loop Inv-rows μ-rows
 place-requires c κs = place-allowed (here (c .before)) (c .if2 .left)
 
+opposite-requires : tie.Need-opposite-requires Inv-loop μ-loop Inv-rows μ-rows
+opposite-requires c κs = opposite-allowed (read (c .before))
+
+place-requires-2 : tie.Need-place-requires-2 Inv-loop μ-loop Inv-rows μ-rows
+place-requires-2 c κs = opposite-place-allowed (read (c .before .before)) (c .opposite .ensures)
+
 mul-if4 : tie.Need-mul-if4 Inv-loop μ-loop Inv-rows μ-rows
-mul-if4 c = omega (arith, opposite-below c)
+mul-if4 c = omega (arith, other-below c)
 
 shared-slice-read-if4 : tie.Need-shared-slice-read-if4 Inv-loop μ-loop Inv-rows μ-rows
-shared-slice-read-if4 c = opposite-below (c .before)
+shared-slice-read-if4 c = other-below (c .before)
 
 rows-again : tie.Need-rows-again Inv-loop μ-loop Inv-rows μ-rows
 rows-again c =
     let o = c .before .before in
-    let p = o .before .before in
+    let e = o .before .before in
+    let p = e .before in
     let r = row (at p) in
     let a = start r .args in
-    let no = known-no (a .ranks .now) (a .k) (read p) (o .opposite .ensures) (c .if4 .taken) in
-    (omega arith, below-more _ _ (r .rows .inv .1) (seen-fails (rw (read p .first) at (at p .loop .inv .1)) (o .before .if3 .left) no))
+    let no = known-no (a .ranks .now) (a .k) (read p) (other o) (c .if4 .taken) in
+    (omega arith, below-more _ _ (r .rows .inv .1) (seen-fails (rw (read p .first) at (at p .loop .inv .1)) (e .if3 .left) no))
 
 loop-again : tie.Need-loop-again Inv-loop μ-loop Inv-rows μ-rows
 loop-again c =
@@ -102,7 +114,9 @@ loop-again c =
       omega arith,
       ⊎-elim
           (λ y. rw (y .1) (seen-same w (y .0 .taken)))
-          (λ y. rw (y .4) (seen-other w (y .0 .left) (known-yes (a .ranks .now) (a .k) (read p) (y .1 .ensures) (y .3 .left))))
+          (λ y. (let o : tie.After-place2 Inv-loop μ-loop Inv-rows μ-rows =
+          record { before = record { before = record { before = p; if3 = y .0 }; opposite = y .1 }; place2 = y .2 } in
+          rw (y .5) (seen-other w (y .0 .left) (known-yes (a .ranks .now) (a .k) (read p) (other o) (y .4 .left)))))
           (c .if3 .came),
     )
 
@@ -142,7 +156,8 @@ support-row-spec =
     (λ c. omega arith)
     (λ c. omega arith)
     place-requires
-    (λ c κs. omega arith)
+    opposite-requires
+    place-requires-2
     mul-if4
     shared-slice-read-if4
     (λ c. omega arith)

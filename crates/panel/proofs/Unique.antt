@@ -1,0 +1,31 @@
+-- Each public function's contract leaves one answer.
+use mathlib.Core.Path.{refl}
+use Rattle.meaning.proofs.Answers.{One, _&_}
+use Rattle.panel.proofs as panel
+
+one-open : One panel.tup_open.ended panel.tup_open.Reads.Post
+one-open κs a x y = (cc, refl)
+
+one-rule : One panel.tup_rule.ended panel.tup_rule.Reads.Post
+one-rule κs a x y = (cc, refl & (cc) & refl)
+
+one-hold : One panel.tup_hold.ended panel.tup_hold.Reads.Post
+one-hold κs a x y = (cc, refl)
+
+one-withdraw : One panel.tup_withdraw.ended panel.tup_withdraw.Reads.Post
+one-withdraw κs a x y = (cc, refl)
+
+one-settle : One panel.tup_settle.ended panel.tup_settle.Reads.Post
+one-settle κs a x y = (cc, refl & refl & (cc) & (cc) & (cc) & refl)
+
+one-ask : One panel.tup_ask.ended panel.tup_ask.Reads.Post
+one-ask κs a x y = (cc, refl)
+
+one-explain : One panel.tup_explain.ended panel.tup_explain.Reads.Post
+one-explain κs a x y = (cc, refl)
+
+one-ground : One panel.tup_ground.ended panel.tup_ground.Reads.Post
+one-ground κs a x y = (cc, refl & refl & refl & (cc) & refl)
+
+one-blame : One panel.tup_blame.ended panel.tup_blame.Reads.Post
+one-blame κs a x y = (cc, refl & refl & (cc) & refl)

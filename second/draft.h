@@ -1,0 +1,23 @@
+/* A sequence being drawn. Every step in it carries its own numbers. */
+#ifndef DRAFT_H
+#define DRAFT_H
+
+#include "random.h"
+#include "steps.h"
+
+enum { POOL = 65536 };
+
+typedef struct Draft {
+    Random random;
+    unsigned style, symbols, lean, setup, calls;
+    size_t usual;                        /* numbers of the clause table usually lent */
+    bool leaning[MOST_SYMBOLS + 1];      /* an assignment that rules and premises lean to, so that boards stay out of conflict */
+    Step steps[MOST_STEPS];
+    size_t count;
+    uint8_t pool[POOL];                  /* the bytes of its formulae */
+    size_t pooled;
+} Draft;
+
+Step *add_step(Draft *draft, Kind kind);
+
+#endif
