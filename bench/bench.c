@@ -37,11 +37,12 @@ typedef struct setting {
     size_t bytes;
 } setting;
 
-/* All that calls write. */
+/* All that calls write, and what is compared of what they return. */
 typedef struct outputs {
     uint8_t labels[TUP_MOST_SYMBOLS], marks[TUP_PLACES];
     uint16_t ranks[TUP_PLACES], supports[TUP_PLACES];
     int16_t table[NUMBERS];
+    size_t place;
     unsigned result;
 } outputs;
 
@@ -151,13 +152,19 @@ static double clock_ns(void) {
     return 1e9 * (double)time.tv_sec + (double)time.tv_nsec;
 }
 
+/* Notes a rule's place; the rows that it added. */
+static unsigned made_rule(tup_addition addition, outputs *out) {
+    out->place = addition.place;
+    return addition.added;
+}
+
 /* Makes one call on one side. */
 static unsigned make(const side *with, unsigned call, outputs *out, int16_t *table) {
     switch (call) {
     case SETTLE:
         return with->settle(now.board, table, NUMBERS, out->labels, sizeof out->labels, out->ranks, TUP_PLACES, out->supports, TUP_PLACES);
     case ASK: return with->ask(now.board, table, NUMBERS, now.literal).standing;
-    case RULE: return with->rule(now.board, table, NUMBERS, now.formula, now.bytes).added;
+    case RULE: return made_rule(with->rule(now.board, table, NUMBERS, now.formula, now.bytes), out);
     default: return with->ground(now.board, table, NUMBERS, now.literal, out->marks, sizeof out->marks);
     }
 }

@@ -194,16 +194,18 @@ typedef struct reader {
     bool used[256];
 } reader;
 
-/* Reads one operand; 0 or the refusal. */
+/* Reads one operand; 0 or the refusal. Refused, `at` stays where the formula breaks. */
 static uint8_t read_operand(reader *in, unsigned depth) {
     if (depth > DEEPEST) return 5;
     if (in->at == in->end) return 3;
-    uint8_t kind = *in->at++;
+    uint8_t kind = *in->at;
     if (kind < 0x10 || kind > 0x15) return 4;
+    in->at++;
     if (kind == 0x10) {
         if (in->at == in->end) return 3;
-        uint8_t symbol = *in->at++;
+        uint8_t symbol = *in->at;
         if (symbol == 0 || symbol > in->symbols) return 2;
+        in->at++;
         in->used[symbol] = true;
         return 0;
     }
@@ -296,9 +298,9 @@ static bool number_symbols(const reader *in, clauses *c, uint8_t *bit) {
     return true;
 }
 
-/* A refused rule. */
-static tup_addition refused(uint8_t refusal, const tup_board *board) {
-    return (tup_addition){refusal, 0, *board};
+/* A rule refused at a place of its formula, or at none. */
+static tup_addition refused(uint8_t refusal, size_t at, const tup_board *board) {
+    return (tup_addition){.refusal = refusal, .place = at, .added = 0, .board = *board};
 }
 
 tup_addition plain_rule(tup_board board, int16_t *table, size_t numbers, const uint8_t *formula, size_t bytes) {
@@ -307,17 +309,17 @@ tup_addition plain_rule(tup_board board, int16_t *table, size_t numbers, const u
     uint8_t bit[256];
     clauses c;
     unsigned count = 0;
-    if (!good(&board, table, numbers)) return refused(1, &board);
+    if (!good(&board, table, numbers)) return refused(1, TUP_NO_PLACE, &board);
     uint8_t refusal = read_operand(&in, 1);
-    if (refusal != 0) return refused(refusal, &board);
-    if (in.at != in.end) return refused(6, &board);
-    if (!number_symbols(&in, &c, bit)) return refused(7, &board);
+    if (refusal == 0 && in.at != in.end) refusal = 6;
+    if (refusal != 0) return refused(refusal, (size_t)(in.at - formula), &board);
+    if (!number_symbols(&in, &c, bit)) return refused(7, TUP_NO_PLACE, &board);
     memset(c.hit, 0, c.power[c.count]);
-    if (!hit_full(&c, formula, bit)) return refused(8, &board);
+    if (!hit_full(&c, formula, bit)) return refused(8, TUP_NO_PLACE, &board);
     spread(&c);
     for (unsigned length = 1; length <= c.count; length++) count = collect(&c, 0, length, 0, row, 0, out, count);
-    if (board.rows + count > lent(numbers)) return refused(9, &board);
+    if (board.rows + count > lent(numbers)) return refused(9, TUP_NO_PLACE, &board);
     if (count != 0) memcpy(table + WIDTH * board.rows, out, count * sizeof out[0]);
     board.rows = (uint16_t)(board.rows + count);
-    return (tup_addition){0, (uint16_t)count, board};
+    return (tup_addition){.refusal = 0, .place = TUP_NO_PLACE, .added = (uint16_t)count, .board = board};
 }

@@ -169,7 +169,7 @@ static const char *refusal_word(uint8_t refusal) {
         [TUP_DONE] = "done",
         [TUP_BAD_BOARD] = "bad board",
         [TUP_BAD_LITERAL] = "no such symbol",
-        [TUP_CUT_SHORT] = "formula cut short",
+        [TUP_CUT_SHORT] = "cut short",
         [TUP_UNKNOWN_KIND] = "unknown kind",
         [TUP_TOO_DEEP] = "too deep",
         [TUP_BYTES_LEFT_OVER] = "bytes left over",
@@ -290,14 +290,18 @@ static formula same(formula first, formula second) {
     return pair(0x15, first, second);
 }
 
-/* Adds a rule and prints the rows that it wrote, or why it was refused. */
+/* Adds a rule and prints the rows that it wrote, or why it was refused and where its formula breaks. */
 static void rule(screen *s, const char *meaning, formula whole) {
     tup_addition addition = tup_rule(s->board, s->table, NUMBERS, whole.bytes, whole.length);
     int before = s->board.rows;
     s->board = addition.board; /* a refused rule hands the board back as it was */
     printf("rule: %s", meaning);
     if (addition.refusal != TUP_DONE) {
-        printf(": refused %d, %s\n", addition.refusal, refusal_word(addition.refusal));
+        printf(": refused %d, %s", addition.refusal, refusal_word(addition.refusal));
+        if (addition.place != TUP_NO_PLACE) {
+            printf(", at byte %zu", addition.place);
+        }
+        printf("\n");
         s->rules_refused++;
         return;
     }
@@ -351,10 +355,13 @@ static void add_regenerator_rules(screen *s) {
          implies(and_(and_(sym(TC_7_HIGH), sym(TC_8_HIGH)), not_(sym(VALVE_CYCLING))), sym(VALVE_STUCK)));
 }
 
-/* Two slips of the pen, to show that the board refuses them and stays as it was. */
+/* Three slips of the pen, to show that the board refuses them, says where a formula breaks, and stays as it was. */
 static void add_slips(screen *s) {
     rule(s, "(a slip) the damper is open and is not", and_(sym(DAMPER_OPEN), not_(sym(DAMPER_OPEN))));
     rule(s, "(a slip) a symbol that this board does not have", implies(sym(SYMBOLS + 1), sym(TRIM_GAS)));
+    formula pasted = implies(and_(sym(TC_7_HIGH), sym(TC_8_HIGH)), sym(BURN_OFF_DUE));
+    pasted.length--;
+    rule(s, "(a slip) both sides high: burn-off due, pasted without its last byte", pasted);
 }
 
 /* ---- Marks and their grounds ---- */

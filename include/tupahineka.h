@@ -1,4 +1,5 @@
-/* Tupahineka: a proved truth-maintenance board behind a trend screen. The nine calls of document 01 for C and C++.
+/* Tupahineka: a proved truth-maintenance board behind a trend screen. The nine calls of document 01 for C and C++, with the places of
+ * document 02's first ticket.
  *
  * Link with libpanel.a (`make lib`). Every call ends, takes any numbers, and tests its own input. A call that is refused
  * returns one of the numbers below, hands the board back as it was given (a refused tup_open: S = 0, no rows, no premises)
@@ -8,7 +9,7 @@
  * - a pointer is valid for as many elements as the count after it says (with a count of 0 it may be null);
  * - a table that a call writes does not overlap another one lent to the same call.
  *
- * Places: the literal +s has place 2(s-1), and -s the next one. */
+ * Places of literals: +s has place 2(s-1), and -s the next one. Places of bytes: see tup_addition. */
 #ifndef TUPAHINEKA_H
 #define TUPAHINEKA_H
 
@@ -26,6 +27,9 @@ enum {
     TUP_MOST_ROWS = 2048,   /* rows used of a longer table */
     TUP_NONE = 65535        /* no rank, no support, no row */
 };
+
+/* No place in a formula: the largest size_t, which the place of a byte never is. */
+#define TUP_NO_PLACE ((size_t)-1)
 
 /* Numbers of the refusals; 0 is a call that is done. */
 enum {
@@ -63,8 +67,12 @@ typedef struct tup_change {
     tup_board board;
 } tup_change;
 
+/* Where a formula breaks, for refusals 2 to 6 of tup_rule; the formula's first byte has place 0. For 2: the symbol's number. For 3: the missing
+ * byte, so the count of bytes. For 4 and 5: where the operand was due. For 6: the first byte too many. For 3, and for 5 where no byte is left,
+ * formula[place] is one past the end: do not read it. */
 typedef struct tup_addition {
     uint8_t refusal;
+    size_t place;   /* TUP_NO_PLACE where done, and for refusals 1, 7, 8 and 9 */
     uint16_t added; /* rows appended, from row board.rows of the board given on; 0 where refused */
     tup_board board;
 } tup_addition;
@@ -85,7 +93,8 @@ typedef struct tup_reason {
 /* Opens a board of S symbols with no rows in use and no premises. Refused: 2. */
 tup_change tup_open(uint16_t symbols);
 
-/* Adds a rule, given in formula bytes: appends all its prime implicates, and no other row, to the table. Refused: 1, 2 to 6, 7, 8, 9. */
+/* Adds a rule, given in formula bytes: appends all its prime implicates, and no other row, to the table. Refused: 1, 2 to 6 (each with
+ * its place), 7, 8, 9. */
 tup_addition tup_rule(tup_board board, int16_t *table, size_t numbers, const uint8_t *formula, size_t bytes);
 
 /* Puts a literal into the premises. Refused: 1, 2, 10. */

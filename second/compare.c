@@ -18,9 +18,19 @@ static bool same(Play *play, const char *what, long place, unsigned theirs, unsi
     return theirs == ours || differs(play, what, place, theirs, ours);
 }
 
+/* Compares the byte places of a rule, all their bits; they do not fit the numbers above. */
+static bool same_place(Play *play, size_t theirs, size_t ours) {
+    char their_word[PLACE_WORD], our_word[PLACE_WORD];
+    if (theirs == ours) return true;
+    place_word(theirs, their_word);
+    place_word(ours, our_word);
+    snprintf(play->difference, sizeof play->difference, "place in the formula: library %s, model %s", their_word, our_word);
+    return false;
+}
+
 /* Compares what the two calls returned. */
 static bool same_outcome(Play *play, const Outcome *ours, const Outcome *theirs) {
-    return same(play, "refusal", NONE, theirs->refusal, ours->refusal) &&
+    return same(play, "refusal", NONE, theirs->refusal, ours->refusal) && same_place(play, theirs->place, ours->place) &&
            same(play, "rows added", NONE, theirs->added, ours->added) &&
            same(play, "standing", NONE, theirs->standing, ours->standing) &&
            same(play, "literals of the reason", NONE, theirs->literals, ours->literals) &&

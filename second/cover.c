@@ -24,8 +24,8 @@ static const char *const case_words[CASES] = {
     "explain by a row of one literal", "ground of a premise", "ground without a premise", "ground of 2 or more premises",
     "settle 13, labels", "settle 13, ranks", "settle 13, supports", "13 with one place missing", "done with no place to spare",
     "settled in conflict", "both signs held", "blame of 2 or more premises", "rule always true, done", "rule fills the rows lent",
-    "rule fills row 2,047", "rule of 7 symbols, done", "rule of 8 symbols, done", "rule of 128 rows", "rule of 200 rows or more", "rule of depth 16, done",
-    "rule of 500 bytes or more, done", "done with no number lent", "done with more than 2,048 rows lent", "-32768 given",
+    "rule fills row 2,047", "rule of 7 symbols, done", "rule of 8 symbols, done", "rule of 128 rows", "rule of 200 rows or more",
+    "rule of depth 16, done", "rule of 500 bytes or more, done", "done with no number lent", "done with more than 2,048 rows lent", "-32768 given",
     "done with held bytes beyond 1", "done with a length not of whole rows", "length lent changed between calls",
     "done with S lowered", "done with rows in use lowered", "done with noise beyond the rows in use", "done with S = 1",
     "done with S = 200", "settled 2,048 rows", "two faults or more at once", "demand 3 in conflict", "demand 3, a label not 0",
@@ -36,12 +36,26 @@ static const char *const damage_words[BAD_BOARDS] = {
     "", "S is 0", "S is 201", "S is 65535", "S above 201", "rows in use past lent", "table lent too short", "premise beyond S",
     "row with 0 in front", "row with 0 inside", "row falling", "row repeating", "row with -32768", "row beyond S"};
 
+/* How a formula breaks, and at which operand: for 2 to 5 the one that was due, for 6 the last one ahead of the bytes too many. */
+enum { BY_2, BY_3_KIND, BY_3_BODY, BY_4, BY_5, BY_6, BREAKS };
+enum { AT_WHOLE, AT_FIRST, AT_SECOND, AT_NESTED, AT_SECOND_TWICE, AT_256, SPOTS };
+
+static const char *const break_words[BREAKS] = {
+    "broken by 2", "broken by 3 for a kind", "broken by 3 for a body", "broken by 4", "broken by 5", "broken by 6"};
+static const char *const spot_words[SPOTS] = {"whole", "first", "second", "nested", "2 second", "from 256"};
+
+/* An operand's depth, and how often the way to it leads into a second operand. */
+typedef struct Spot {
+    unsigned depth, seconds;
+} Spot;
+
 /* The refusals that can come up, by call. */
 static const unsigned possible[CALLS][NUMBERS] = {
     [OPEN] = {2},         [RULE] = {1, 2, 3, 4, 5, 6, 7, 8, 9}, [HOLD] = {1, 2, 10},       [WITHDRAW] = {1, 2, 11}, [SETTLE] = {1, 13},
     [ASK] = {1, 2},       [EXPLAIN] = {1, 2, 12},               [GROUND] = {1, 2, 12, 13}, [BLAME] = {1, 12, 13}};
 
 static unsigned long calls[CALLS], refusals[CALLS][NUMBERS + 1], damaged[BAD_BOARDS][CALLS], cases[CASES];
+static unsigned long broken[BREAKS][SPOTS];
 static unsigned long labels_seen[4], demand_3, settled, rules_done, rows_added, acts;
 static unsigned highest_rank, most_rows;
 static size_t length_before;
@@ -121,11 +135,47 @@ static void cover_short(const Play *play, const Step *step) {
     cases[SHORT_SUPPORTS] += step->lent[0] >= symbols && step->lent[1] >= 2 * symbols && step->lent[2] + 1 == 2 * symbols;
 }
 
-/* Counts the refusals of a rule that come ahead of another one due as well. */
+/* The operand, from the one at *at on, that starts at the place or has its number there; depth 0 for none. *at is then its start. */
+static Spot spot_of(const uint8_t *bytes, size_t *at, size_t place, Spot here) {
+    if (*at == place || (bytes[*at] == 0x10 && *at + 1 == place)) return here;
+    uint8_t kind = bytes[(*at)++];
+    if (kind == 0x10) return (*at)++, (Spot){0, 0};
+    Spot found = spot_of(bytes, at, place, (Spot){here.depth + 1, here.seconds});
+    if (found.depth != 0 || kind == 0x11) return found;
+    return spot_of(bytes, at, place, (Spot){here.depth + 1, here.seconds + 1});
+}
+
+/* The way in which a formula broke; 3 where a kind is due, or where a body is. */
+static unsigned way_of(unsigned refusal, bool kind_due) {
+    switch (refusal) {
+    case 2: return BY_2;
+    case 3: return kind_due ? BY_3_KIND : BY_3_BODY;
+    case 4: return BY_4;
+    case 5: return BY_5;
+    default: return BY_6;
+    }
+}
+
+/* Counts where a formula broke. */
+static void cover_break(const Play *play, const Step *step) {
+    unsigned refusal = play->last.refusal;
+    size_t at = 0, place = play->last.place;
+    Spot spot = spot_of(step->formula, &at, refusal == 6 ? place - 1 : place, (Spot){1, 0});
+    unsigned way = way_of(refusal, at == place);
+    broken[way][AT_WHOLE] += spot.depth == 1;
+    broken[way][AT_FIRST] += spot.depth > 1 && spot.seconds == 0;
+    broken[way][AT_SECOND] += spot.seconds > 0;
+    broken[way][AT_NESTED] += spot.depth > 2;
+    broken[way][AT_SECOND_TWICE] += spot.seconds > 1;
+    broken[way][AT_256] += place >= 256;
+}
+
+/* Counts where the formula of a refused rule broke, and the refusals that come ahead of another one due as well. */
 static void cover_refused_rule(const Play *play, const Step *step) {
     uint8_t symbols[MOST_SYMBOLS];
     size_t lent = rows_lent(step->numbers);
     unsigned refusal = play->last.refusal, rows = play->board.rows;
+    if (refusal >= 2 && refusal <= 6) cover_break(play, step);
     if (refusal == 6) {
         size_t used = read_formula(step->formula, step->bytes, play->board.symbols).used;
         bool many = different_symbols(step->formula, used, symbols) > RULE_SYMBOLS;
@@ -236,10 +286,34 @@ static void print_damage(void) {
     }
 }
 
+/* True if a formula can break so at such an operand: what is due at depth 17 is not the whole formula. */
+static bool can_break(unsigned way, unsigned spot) {
+    return way != BY_5 || spot != AT_WHOLE;
+}
+
+/* Prints at which operands formulae broke in one way; a dot where they cannot. */
+static void print_break(unsigned way) {
+    printf("%-24s", break_words[way]);
+    for (unsigned s = 0; s < SPOTS; s++) {
+        if (can_break(way, s)) printf("%9lu", broken[way][s]);
+        else printf("%9s", ".");
+    }
+    printf("\n");
+}
+
+/* Prints where formulae broke. */
+static void print_breaks(void) {
+    printf("\n%-24s", "a formula's operand");
+    for (unsigned s = 0; s < SPOTS; s++) printf("%9s", spot_words[s]);
+    printf("\n");
+    for (unsigned b = 0; b < BREAKS; b++) print_break(b);
+}
+
 /* Prints all counts. */
 void cover_print(void) {
     print_refusals();
     print_damage();
+    print_breaks();
     printf("\n");
     for (unsigned c = 0; c < CASES; c++)
         printf("%-42s%9lu%s", case_words[c], cases[c], c % 2 == 0 ? "    " : "\n");
@@ -258,9 +332,17 @@ static bool came_up(unsigned long count, const char *what, const char *of, unsig
     return false;
 }
 
+/* True if formulae broke in every way at every sort of operand. */
+static bool breaks_are_whole(void) {
+    bool whole = true;
+    for (unsigned i = 0; i < BREAKS * SPOTS; i++)
+        if (can_break(i / SPOTS, i % SPOTS)) whole &= came_up(broken[i / SPOTS][i % SPOTS], spot_words[i % SPOTS], break_words[i / SPOTS], 0);
+    return whole;
+}
+
 /* True if all that can come up did; says what did not. */
 bool cover_is_whole(void) {
-    bool whole = true;
+    bool whole = breaks_are_whole();
     for (unsigned k = 0; k < CALLS; k++) {
         whole &= came_up(refusals[k][0], "done", kind_word((Kind)k), 0);
         for (unsigned n = 1; n < NUMBERS; n++)

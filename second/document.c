@@ -1,38 +1,70 @@
-/* The boards to try of document 01: what it says of each, held against the model and the library alike. */
+/* The boards to try of document 01 and the places of document 02's Ticket 1: what they say of each, held against the model and the
+ * library alike. */
 #include "document.h"
 
 #include <stdio.h>
 #include <string.h>
 
-/* A rule to try: its bytes, the refusal, and the rows. */
+/* A rule to try: its bytes, the refusal and its place, and the rows. */
 typedef struct Try {
     const char *words;
     const char *bytes;
     size_t length;
-    unsigned refusal, rows;
+    unsigned refusal;
+    size_t place;
+    unsigned rows;
     int16_t row[3][WIDTH];
 } Try;
+
+/* The longest formula with another end: its last symbol's two bytes, the bytes given, the refusal and its place. */
+typedef struct End {
+    const char *words;
+    uint8_t kind, number;
+    size_t length;
+    unsigned refusal;
+    size_t place;
+} End;
+
+/* 32,768 symbols at depth 16 and the 32,767 kinds above them. */
+enum { LONGEST = 98303 };
 
 #define BYTES(text) text, sizeof text - 1
 #define NOTS_5 "\x11\x11\x11\x11\x11"
 #define SEVEN_OR "\x13\x13\x13\x13\x13\x13\x13\x10\x01\x10\x02\x10\x03\x10\x04\x10\x05\x10\x06\x10\x07\x10\x08"
 
 static const Try tries[] = {
-    {"1 and not 1", BYTES("\x12\x10\x01\x11\x10\x01"), 8, 0, {{0}}},
-    {"1 or not 1", BYTES("\x13\x10\x01\x11\x10\x01"), 0, 0, {{0}}},
-    {"(1 implies 2) and (1 or 2)", BYTES("\x12\x14\x10\x01\x10\x02\x13\x10\x01\x10\x02"), 0, 1, {{2}}},
-    {"1 same 2", BYTES("\x15\x10\x01\x10\x02"), 0, 2, {{1, -2}, {-1, 2}}},
-    {"(1 or 2) and (not 1 or 3)", BYTES("\x12\x13\x10\x01\x10\x02\x13\x11\x10\x01\x10\x03"), 0, 3, {{1, 2}, {-1, 3}, {2, 3}}},
-    {"1 or (1 and 2)", BYTES("\x13\x10\x01\x12\x10\x01\x10\x02"), 0, 1, {{1}}},
-    {"fifteen nots and 1", BYTES(NOTS_5 NOTS_5 NOTS_5 "\x10\x01"), 0, 1, {{-1}}},
-    {"sixteen nots", BYTES(NOTS_5 NOTS_5 NOTS_5 "\x11"), 5, 0, {{0}}},
-    {"eight symbols", BYTES(SEVEN_OR), 0, 1, {{1, 2, 3, 4, 5, 6, 7, 8}}},
-    {"nine symbols", BYTES("\x13" SEVEN_OR "\x10\x09"), 7, 0, {{0}}},
+    {"1 and not 1", BYTES("\x12\x10\x01\x11\x10\x01"), 8, NO_PLACE, 0, {{0}}},
+    {"1 or not 1", BYTES("\x13\x10\x01\x11\x10\x01"), 0, NO_PLACE, 0, {{0}}},
+    {"(1 implies 2) and (1 or 2)", BYTES("\x12\x14\x10\x01\x10\x02\x13\x10\x01\x10\x02"), 0, NO_PLACE, 1, {{2}}},
+    {"1 same 2", BYTES("\x15\x10\x01\x10\x02"), 0, NO_PLACE, 2, {{1, -2}, {-1, 2}}},
+    {"(1 or 2) and (not 1 or 3)", BYTES("\x12\x13\x10\x01\x10\x02\x13\x11\x10\x01\x10\x03"), 0, NO_PLACE, 3, {{1, 2}, {-1, 3}, {2, 3}}},
+    {"1 or (1 and 2)", BYTES("\x13\x10\x01\x12\x10\x01\x10\x02"), 0, NO_PLACE, 1, {{1}}},
+    {"fifteen nots and 1", BYTES(NOTS_5 NOTS_5 NOTS_5 "\x10\x01"), 0, NO_PLACE, 1, {{-1}}},
+    {"sixteen nots", BYTES(NOTS_5 NOTS_5 NOTS_5 "\x11"), 5, 16, 0, {{0}}},
+    {"eight symbols", BYTES(SEVEN_OR), 0, NO_PLACE, 1, {{1, 2, 3, 4, 5, 6, 7, 8}}},
+    {"nine symbols", BYTES("\x13" SEVEN_OR "\x10\x09"), 7, NO_PLACE, 0, {{0}}},
+    {"1 implies a symbol without its number", BYTES("\x14\x10\x01\x10"), 3, 4, 0, {{0}}},
+    {"1 implies nothing", BYTES("\x14\x10\x01"), 3, 3, 0, {{0}}},
+    {"1 and an unknown kind", BYTES("\x12\x10\x01\x99"), 4, 3, 0, {{0}}},
+    {"1 or symbol 0", BYTES("\x13\x10\x01\x10\x00"), 2, 4, 0, {{0}}},
+    {"1 and a byte too many", BYTES("\x10\x01\x10"), 6, 2, 0, {{0}}},
+    {"1 and a formula too many", BYTES("\x10\x01\x11\x10\x02"), 6, 2, 0, {{0}}},
+    {"no bytes at all", BYTES(""), 3, 0, 0, {{0}}},
 };
 
-/* Says what the document and the program disagree on. */
+static const End ends[] = {
+    {"the longest formula", 0x10, 1, LONGEST, 0, NO_PLACE},
+    {"the longest formula, its last symbol beyond S", 0x10, 10, LONGEST, 2, LONGEST - 1},
+    {"the longest formula without its last byte", 0x10, 1, LONGEST - 1, 3, LONGEST - 1},
+    {"the longest formula without its last symbol", 0x10, 1, LONGEST - 2, 3, LONGEST - 2},
+    {"the longest formula, its last kind unknown", 0x16, 1, LONGEST, 4, LONGEST - 2},
+    {"the longest formula with not for its last symbol", 0x11, 1, LONGEST, 5, LONGEST - 1},
+    {"the longest formula and a byte too many", 0x10, 1, LONGEST + 1, 6, LONGEST},
+};
+
+/* Says what the documents and the program disagree on. */
 static bool wrong(const Play *play, const char *what) {
-    printf("second: not as document 01 says: %s; %s\n", what, play->difference[0] != 0 ? play->difference : "by the model");
+    printf("second: not as the documents say: %s; %s\n", what, play->difference[0] != 0 ? play->difference : "by the model");
     return false;
 }
 
@@ -43,10 +75,15 @@ static bool make(Play *play, Kind kind, int value, unsigned refusal) {
     return play_step(play, &step) && play->last.refusal == refusal;
 }
 
-/* Plays one rule with so many numbers lent. */
-static bool make_rule(Play *play, const char *bytes, size_t length, size_t numbers, unsigned refusal) {
-    Step step = {.kind = RULE, .numbers = numbers, .formula = (const uint8_t *)bytes, .bytes = length, .standing = length};
-    return play_step(play, &step) && play->last.refusal == refusal;
+/* Plays one rule with so many numbers lent; false where the sides differ, or the refusal or its place is another. */
+static bool make_rule(Play *play, const void *bytes, size_t length, size_t numbers, unsigned refusal, size_t place) {
+    Step step = {.kind = RULE, .numbers = numbers, .formula = bytes, .bytes = length, .standing = length};
+    return play_step(play, &step) && play->last.refusal == refusal && play->last.place == place;
+}
+
+/* Plays one rule that is done. */
+static bool add_rule(Play *play, const char *bytes, size_t length) {
+    return make_rule(play, bytes, length, TABLE_LENDABLE, 0, NO_PLACE);
 }
 
 /* Plays one ask. */
@@ -58,19 +95,49 @@ static bool ask(Play *play, int literal, unsigned standing) {
 static bool try_rule(Play *play, const Try *try) {
     size_t needed = WIDTH * try->rows;
     play_start(play, 1, true);
-    bool good = make(play, OPEN, 9, 0) && make_rule(play, try->bytes, try->length, TABLE_LENDABLE, try->refusal) &&
+    bool good = make(play, OPEN, 9, 0) && make_rule(play, try->bytes, try->length, TABLE_LENDABLE, try->refusal, try->place) &&
                 play->board.rows == try->rows && memcmp(play->ours.table + GUARD, try->row, needed * sizeof(int16_t)) == 0 &&
-                make(play, OPEN, 9, 0) && make_rule(play, try->bytes, try->length, needed, try->refusal) &&
-                make(play, OPEN, 9, 0) && (needed == 0 || make_rule(play, try->bytes, try->length, needed - 1, 9));
+                make(play, OPEN, 9, 0) && make_rule(play, try->bytes, try->length, needed, try->refusal, try->place) &&
+                make(play, OPEN, 9, 0) && (needed == 0 || make_rule(play, try->bytes, try->length, needed - 1, 9, NO_PLACE));
     return good || wrong(play, try->words);
+}
+
+/* Writes the formula that has symbols at the given depth and "and" everywhere above; returns its length. */
+static size_t write_full(uint8_t *bytes, unsigned depth) {
+    if (depth == 1) {
+        bytes[0] = 0x10;
+        bytes[1] = 1;
+        return 2;
+    }
+    bytes[0] = 0x12;
+    size_t first = 1 + write_full(bytes + 1, depth - 1);
+    return first + write_full(bytes + first, depth - 1);
+}
+
+/* Tries the longest formula with one end: places that need more than 16 bits. */
+static bool try_end(Play *play, const End *end) {
+    static uint8_t bytes[LONGEST + 1];
+    bool longest = write_full(bytes, DEEPEST) == LONGEST;
+    bytes[LONGEST - 2] = end->kind;
+    bytes[LONGEST - 1] = end->number;
+    play_start(play, 6, true);
+    bool good = longest && make(play, OPEN, 9, 0) && make_rule(play, bytes, end->length, TABLE_LENDABLE, end->refusal, end->place);
+    return good || wrong(play, end->words);
+}
+
+/* A board that is not good gives 1 and no place, whatever the formula is. */
+static bool try_bad_board(Play *play) {
+    play_start(play, 7, true);
+    bool good = make(play, OPEN, 0, 2) && make_rule(play, BYTES("\x12\x10\x01\x99"), TABLE_LENDABLE, 1, NO_PLACE);
+    return good || wrong(play, "an unknown kind, and no board");
 }
 
 /* Two rules that say 2 only together, then both in one. */
 static bool try_together(Play *play) {
     play_start(play, 2, true);
-    bool good = make(play, OPEN, 2, 0) && make_rule(play, BYTES("\x14\x10\x01\x10\x02"), TABLE_LENDABLE, 0) &&
-                make_rule(play, BYTES("\x14\x11\x10\x01\x10\x02"), TABLE_LENDABLE, 0) && ask(play, 2, IS_OPEN) &&
-                make_rule(play, BYTES("\x12\x14\x10\x01\x10\x02\x14\x11\x10\x01\x10\x02"), TABLE_LENDABLE, 0) &&
+    bool good = make(play, OPEN, 2, 0) && add_rule(play, BYTES("\x14\x10\x01\x10\x02")) &&
+                add_rule(play, BYTES("\x14\x11\x10\x01\x10\x02")) && ask(play, 2, IS_OPEN) &&
+                add_rule(play, BYTES("\x12\x14\x10\x01\x10\x02\x14\x11\x10\x01\x10\x02")) &&
                 ask(play, 2, STANDS) && make(play, EXPLAIN, 2, 0) && play->last.rank == 1;
     return good || wrong(play, "1 implies 2, not 1 implies 2");
 }
@@ -78,8 +145,8 @@ static bool try_together(Play *play) {
 /* A circle does not hold itself up. */
 static bool try_circle(Play *play) {
     play_start(play, 3, true);
-    bool good = make(play, OPEN, 2, 0) && make_rule(play, BYTES("\x14\x10\x01\x10\x02"), TABLE_LENDABLE, 0) &&
-                make_rule(play, BYTES("\x14\x10\x02\x10\x01"), TABLE_LENDABLE, 0) && make(play, HOLD, 1, 0) &&
+    bool good = make(play, OPEN, 2, 0) && add_rule(play, BYTES("\x14\x10\x01\x10\x02")) &&
+                add_rule(play, BYTES("\x14\x10\x02\x10\x01")) && make(play, HOLD, 1, 0) &&
                 ask(play, 2, STANDS) && make(play, WITHDRAW, 1, 0) && ask(play, 1, IS_OPEN) && ask(play, 2, IS_OPEN);
     return good || wrong(play, "a circle");
 }
@@ -95,7 +162,7 @@ static bool try_both_signs(Play *play) {
 }
 
 /* The lowest number, asked and in a row in use; and the counts at the ends. */
-static bool try_ends(Play *play) {
+static bool try_counts(Play *play) {
     Step row = {.kind = APPEND_ROW, .row = {-32768}};
     play_start(play, 5, true);
     bool good = make(play, OPEN, 0, 2) && make(play, OPEN, 201, 2) && make(play, OPEN, 200, 0) && make(play, ASK, -32768, 2) &&
@@ -103,9 +170,16 @@ static bool try_ends(Play *play) {
     return good || wrong(play, "-32768, S of 0, 200 and 201");
 }
 
-/* True if all boards to try come out as the document says. */
+/* Tries the longest formula with every end. */
+static bool try_longest(Play *play) {
+    bool good = true;
+    for (size_t i = 0; i < sizeof ends / sizeof ends[0]; i++) good = good && try_end(play, &ends[i]);
+    return good;
+}
+
+/* True if all boards to try, and all places, come out as the documents say. */
 bool document_agrees(Play *play) {
-    bool good = try_together(play) && try_circle(play) && try_both_signs(play) && try_ends(play);
+    bool good = try_together(play) && try_circle(play) && try_both_signs(play) && try_counts(play) && try_bad_board(play) && try_longest(play);
     for (size_t i = 0; i < sizeof tries / sizeof tries[0]; i++) good = good && try_rule(play, &tries[i]);
     return good;
 }

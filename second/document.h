@@ -1,4 +1,4 @@
-/* The boards to try of document 01, on both sides. */
+/* The boards to try of document 01 and the places of document 02's Ticket 1, on both sides. */
 #ifndef DOCUMENT_H
 #define DOCUMENT_H
 

@@ -225,7 +225,7 @@ static void draw_rule(Draft *draft, const Play *play, Step *step) {
     Random *random = &draft->random;
     start_ink(draft, play, &ink);
     write_formula(&ink, random_weighted(random, sort_weights[draft->style], SORTS));
-    if (random_chance(random, 16)) spoil_formula(&ink);
+    if (random_chance(random, 20)) spoil_formula(&ink);
     if (random_chance(random, 3)) append_noise(&ink);
     keep_formula(draft, step, &ink);
     if (step->kind != RULE || !random_chance(random, 12)) return;

@@ -1,4 +1,4 @@
-/* Formulae: reading with the refusals in document 01's order, and the truth of each assignment. */
+/* Formulae: reading with the refusals in document 01's order and the places of document 02's Ticket 1, and the truth of each assignment. */
 #include "model.h"
 
 enum { SYMBOL = 0x10, NOT = 0x11, AND = 0x12, OR = 0x13, IMPLIES = 0x14, SAME = 0x15 };
@@ -8,23 +8,29 @@ static unsigned operands(uint8_t kind) {
     return kind == SYMBOL ? 0 : kind == NOT ? 1 : 2;
 }
 
-/* A reading that goes no further. */
-static Reading stopped(unsigned refusal, size_t used) {
-    return (Reading){refusal, used};
+/* A reading that is good so far. */
+static Reading read_up_to(size_t used) {
+    return (Reading){.used = used, .place = NO_PLACE};
 }
 
-/* Reads the operand due at `at` and at `depth`: tests 5, 3, 4, 3 for the body, 2, then its own operands from the front. */
+/* A reading that goes no further. */
+static Reading broken(unsigned refusal, size_t place) {
+    return (Reading){.refusal = refusal, .place = place};
+}
+
+/* Reads the operand due at `at` and at `depth`: tests 5, 3, 4, 3 for the body, 2, then its own operands from the front.
+ * Ticket 1: the place is "where the operand was due for 4 and 5, of the symbol's number for 2, of the missing byte for 3". */
 static Reading read_operand(const uint8_t *bytes, size_t length, size_t at, unsigned depth, unsigned symbols) {
-    if (depth > DEEPEST) return stopped(5, at);
-    if (at >= length) return stopped(3, at);
+    if (depth > DEEPEST) return broken(5, at);
+    if (at >= length) return broken(3, at);
     uint8_t kind = bytes[at];
-    if (kind < SYMBOL || kind > SAME) return stopped(4, at);
+    if (kind < SYMBOL || kind > SAME) return broken(4, at);
     if (kind == SYMBOL) {
-        if (at + 1 >= length) return stopped(3, at);
-        if (bytes[at + 1] == 0 || bytes[at + 1] > symbols) return stopped(2, at);
-        return stopped(0, at + 2);
+        if (at + 1 >= length) return broken(3, at + 1);
+        if (bytes[at + 1] == 0 || bytes[at + 1] > symbols) return broken(2, at + 1);
+        return read_up_to(at + 2);
     }
-    Reading reading = stopped(0, at + 1);
+    Reading reading = read_up_to(at + 1);
     for (unsigned i = 0; i < operands(kind) && reading.refusal == 0; i++)
         reading = read_operand(bytes, length, reading.used, depth + 1, symbols);
     return reading;

@@ -1,11 +1,11 @@
-/* Random formulae: plant-like, trees, spines to depth 17, many symbols, never and always true, and spoilt ones. */
+/* Random formulae: plant-like, trees, spines to depth 17, many symbols, never and always true, and spoilt ones, at any place. */
 #include "formulae.h"
 
 enum { SYMBOL = 0x10, NOT = 0x11, AND = 0x12, OR = 0x13, IMPLIES = 0x14, SAME = 0x15 };
 
 /* Writes one byte, if there is room. */
 static void put(Ink *ink, unsigned byte) {
-    if (ink->length < FORMULA_LENDABLE) ink->bytes[ink->length++] = (uint8_t)byte;
+    if (ink->length < INK) ink->bytes[ink->length++] = (uint8_t)byte;
 }
 
 /* Writes a symbol. */
@@ -244,27 +244,74 @@ static void spoil_by_depth(Ink *ink) {
     if (random_chance(ink->random, 50)) ink->given = ink->length - random_below(ink->random, 2);
 }
 
+/* A number that is no symbol: 0 or one beyond S. */
+static unsigned bad_number(Ink *ink) {
+    return random_chance(ink->random, 30) ? 0 : random_between(ink->random, ink->symbols + 1, 255);
+}
+
 /* Changes one symbol's number into 0 or one beyond S. */
 static void spoil_symbol(Ink *ink) {
     for (size_t at = 0; at + 1 < ink->length; at += ink->bytes[at] == SYMBOL ? 2 : 1) {
         if (ink->bytes[at] != SYMBOL || !random_chance(ink->random, 60)) continue;
-        bool zero = random_chance(ink->random, 30);
-        ink->bytes[at + 1] = (uint8_t)(zero ? 0 : random_between(ink->random, ink->symbols + 1, 255));
+        ink->bytes[at + 1] = (uint8_t)bad_number(ink);
         return;
     }
 }
 
-/* Spoils a formula: cut, noise, bytes after it, a bad symbol, a bad kind, too deep. Bytes cut off still stand there. */
+/* Writes a first operand that a reader has to step over: mostly a few bytes, now and then hundreds. */
+static void put_ahead(Ink *ink, unsigned deepest) {
+    uint8_t symbols[MOST_SYMBOLS];
+    unsigned few = choose(ink, 3, symbols), depth = random_chance(ink->random, 20) ? 10 : random_between(ink->random, 1, 4);
+    put_tree(ink, symbols, few, depth < deepest ? depth : deepest, depth == 10 ? 0 : 30);
+}
+
+/* Writes the kinds that lead to an operand at a depth, and the first operands ahead of it; counts the second operands due after it. */
+static unsigned put_path(Ink *ink, unsigned depth) {
+    unsigned due = 0;
+    for (unsigned d = 1; d < depth; d++) {
+        bool second = d < DEEPEST && random_chance(ink->random, 40), one = !second && random_chance(ink->random, 50);
+        if (one) put(ink, NOT);
+        else put_binary(ink);
+        if (second) put_ahead(ink, DEEPEST - d);
+        else due += !one;
+    }
+    return due;
+}
+
+/* Writes what breaks where an operand is due: a bad symbol, the end ahead of a kind or a body, a bad kind, for one too deep a symbol or the
+ * end. Bytes after the end still stand there. */
+static void put_break(Ink *ink, unsigned sort) {
+    size_t from = ink->length;
+    bool low = random_chance(ink->random, 50);
+    if (sort == 3) put(ink, low ? random_below(ink->random, SYMBOL) : random_between(ink->random, SAME + 1, 255));
+    else put_symbol(ink, sort == 0 ? bad_number(ink) : random_between(ink->random, 1, ink->symbols));
+    ink->given = sort == 1 || (sort == 4 && low) ? from : sort == 2 ? from + 1 : INK;
+}
+
+/* Replaces what is there by a formula that breaks at some operand, or after its last one: 2, 3 twice, 4, 5, 6. */
+static void spoil_at_operand(Ink *ink) {
+    Random *random = ink->random;
+    unsigned sort = random_below(random, 6), depth = random_between(random, 1, random_chance(random, 50) ? 4 : DEEPEST);
+    ink->length = 0;
+    unsigned due = put_path(ink, sort == 4 ? DEEPEST + 1 : depth);
+    put_break(ink, sort);
+    for (; due > 0; due--) put_symbol(ink, random_between(random, 1, ink->symbols));
+    if (ink->given > ink->length) ink->given = ink->length;
+    if (sort == 5) append_noise(ink);
+}
+
+/* Spoils a formula: cut, noise, bytes after it, a bad symbol, a bad kind, too deep, broken anywhere. Bytes cut off still stand there. */
 void spoil_formula(Ink *ink) {
     Random *random = ink->random;
     unsigned length = (unsigned)ink->length;
     if (length == 0) return;
-    switch (random_below(random, 6)) {
+    switch (random_below(random, 10)) {
     case 0: ink->given = random_below(random, length); break;
     case 1: ink->bytes[random_below(random, length)] = (uint8_t)random_next(random); break;
     case 2: append_noise(ink); break;
     case 3: spoil_symbol(ink); break;
     case 4: ink->bytes[random_below(random, length)] = random_chance(random, 50) ? 0x0F : 0x16; break;
-    default: spoil_by_depth(ink);
+    case 5: spoil_by_depth(ink); break;
+    default: spoil_at_operand(ink);
     }
 }

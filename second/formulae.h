@@ -5,13 +5,15 @@
 #include "random.h"
 #include "steps.h"
 
+enum { INK = 4096 }; /* bytes of the longest formula drawn */
+
 /* A formula being written, and the assignment that its literals lean to. */
 typedef struct Ink {
     Random *random;
     const bool *leaning;
     unsigned symbols, lean;
     size_t length, given;
-    uint8_t bytes[FORMULA_LENDABLE];
+    uint8_t bytes[INK];
 } Ink;
 
 /* Sorts of formulae. */

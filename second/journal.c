@@ -1,4 +1,4 @@
-/* The journal program by document 01, over the model, and random journals for it. */
+/* The journal program by document 01, its lines with a place by document 02's Ticket 1, over the model; and random journals for it. */
 #include "journal.h"
 
 #include <stdio.h>
@@ -14,6 +14,7 @@ enum { STOP_END, STOP_KIND, STOP_BODY, STOP_FORMULA, STOP_BOARD, STOP_LONG, STOP
 static const char *const command_words[COMMANDS] = {"", "open", "rule", "hold", "drop", "ask", "why"};
 static const char *const stop_words[STOPS] = {"end of input", "unknown command", "body cut short", "formula", "refusal 1", "input too long"};
 static unsigned long lines[COMMANDS][15], standings[4], stops[STOPS], cut_bodies[COMMANDS];
+static unsigned long far_breaks[6], breaks_at_0; /* at places of two digits or more, by refusal; at place 0 */
 
 /* The refusals a command can give, its cut body apart. */
 static const unsigned can_give[COMMANDS][9] = {
@@ -39,19 +40,28 @@ typedef struct Script {
     size_t length;
 } Script;
 
+/* Prints where a formula broke, 2 to 5. */
+static void print_place(const Reader *reader, const Outcome *outcome) {
+    far_breaks[outcome->refusal] += outcome->place >= 10;
+    breaks_at_0 += outcome->place == 0;
+    fprintf(reader->out, " at %zu", outcome->place);
+}
+
 /* Runs a rule: finds where its formula ends, and gives the model just that. Says whether the program stops. */
 static int run_rule(Reader *reader) {
     const uint8_t *formula = reader->bytes + reader->at;
     size_t left = reader->length - reader->at, numbers = MOST_ROWS * WIDTH;
     unsigned before = reader->board.rows;
-    Reading reading = {0, 0};
+    Reading reading = {.place = NO_PLACE};
     bool good = board_is_good(&reader->board, reader->table, numbers);
     if (good) reading = read_formula(formula, left, reader->board.symbols);
-    Outcome outcome = {.refusal = good ? reading.refusal : 1};
+    Outcome outcome = {.refusal = good ? reading.refusal : 1, .place = reading.place};
     if (outcome.refusal == 0) outcome = model_rule(&reader->board, reader->table, numbers, formula, reading.used);
     lines[C_RULE][outcome.refusal]++;
-    if (outcome.refusal == 0) fprintf(reader->out, "rows %u %u\n", before, outcome.added);
-    else fprintf(reader->out, "no %u\n", outcome.refusal);
+    if (outcome.refusal == 0) fprintf(reader->out, "rows %u %u", before, outcome.added);
+    else fprintf(reader->out, "no %u", outcome.refusal);
+    if (outcome.place != NO_PLACE) print_place(reader, &outcome);
+    fprintf(reader->out, "\n");
     reader->at += reading.used;
     if (outcome.refusal == 1) return STOP_BOARD;
     return reading.refusal != 0 ? STOP_FORMULA : -1;
@@ -172,13 +182,13 @@ static void put_random(Script *script, bool first) {
     }
 }
 
-/* Writes an end: an unknown command or a spoilt rule with more after it, bytes cut off, a command with its body cut. */
+/* Writes an end: an unknown command with more after it, a spoilt rule, bytes cut off, a command with its body cut. */
 static void put_end(Script *script) {
     Random *random = &script->random;
     unsigned sort = random_below(random, 5);
     if (sort == 0) put(script, random_chance(random, 30) ? 0 : random_between(random, 7, 255));
     if (sort == 1) put_rule(script, TREE, true);
-    if (sort <= 1) put_random(script, false);
+    if (sort == 0 || (sort == 1 && random_chance(random, 60))) put_random(script, false);
     if (sort == 2 && script->length > 4) script->length -= random_below(random, 4);
     if (sort != 3) return;
     unsigned command = random_chance(random, 20) ? C_OPEN : random_between(random, C_HOLD, C_WHY);
@@ -203,6 +213,21 @@ static void put_nine(Script *script) {
     put(script, C_RULE);
     for (unsigned i = 1; i < 9; i++) put(script, 0x13);
     for (unsigned s = 1; s <= 9; s++) put(script, 0x10), put(script, s);
+}
+
+/* Writes a rule that breaks in the second operand of its second operand: a symbol beyond S, the end, a bad kind, one operand too deep. */
+static void write_broken(Script *script, unsigned refusal) {
+    static const uint8_t ahead[] = {0x13, 0x12, 0x10, 1, 0x10, 2, 0x13, 0x12, 0x10, 3, 0x10, 4};
+    put(script, C_OPEN);
+    put(script, 4);
+    put(script, C_RULE);
+    memcpy(script->bytes + script->length, ahead, sizeof ahead);
+    script->length += sizeof ahead;
+    for (unsigned depth = 3; refusal == 5 && depth <= DEEPEST; depth++) put(script, 0x11);
+    put(script, refusal == 4 ? 0x16 : 0x10);
+    if (refusal == 3) return;
+    put(script, refusal == 2 ? 5 : 1);
+    put_command(script, C_ASK, 1);
 }
 
 /* Fills all 2,048 rows, then rules that no longer fit, never fit, always do, and have nine symbols. */
@@ -252,6 +277,8 @@ static void write_script(Script *script, uint64_t seed, uint64_t n) {
     case 6: put(script, C_RULE); break;
     case 7: put(script, C_OPEN); break;
     case 8: put(script, C_OPEN), put(script, 0), put(script, C_RULE), put(script, 0x10), put(script, 1); break;
+    case 9: put(script, C_OPEN), put(script, 4), put(script, C_RULE); break;
+    case 10: case 11: case 12: case 13: write_broken(script, (unsigned)n - 8); break;
     default: write_random(script);
     }
 }
@@ -271,9 +298,16 @@ static bool came_up(unsigned long count, const char *what, const char *of, unsig
     return count != 0;
 }
 
+/* True if places of one and of more digits came up: 0, and for each of 2 to 5 one from 10 on. */
+static bool places_came_up(void) {
+    bool whole = came_up(breaks_at_0, "place", "rule", 0);
+    for (unsigned n = 2; n <= 5; n++) whole &= came_up(far_breaks[n], "a place of two digits or more for", "rule", n);
+    return whole;
+}
+
 /* True if every refusal, answer and way to stop came up. */
 static bool all_came_up(void) {
-    bool whole = true;
+    bool whole = places_came_up();
     for (unsigned c = C_OPEN; c < COMMANDS; c++) {
         whole &= came_up(lines[c][0], "done", command_words[c], 0);
         if (c != C_RULE) whole &= came_up(cut_bodies[c], "body cut, 3", command_words[c], 0);
@@ -294,6 +328,8 @@ static void print_counts(void) {
         for (unsigned n = 1; n <= 12; n++) printf("%7lu", lines[c][n] + (n == 3 ? cut_bodies[c] : 0));
         printf("\n");
     }
+    printf("places of two digits or more for 2 to 5: %lu %lu %lu %lu; places 0: %lu\n", far_breaks[2], far_breaks[3], far_breaks[4],
+           far_breaks[5], breaks_at_0);
     printf("ask open %lu, stands %lu, out %lu, conflict %lu\nstopped at:", standings[0], standings[1], standings[2], standings[3]);
     for (unsigned s = 0; s < STOPS; s++) printf(" %s %lu%s", stop_words[s], stops[s], s + 1 < STOPS ? "," : "\n");
 }

@@ -14,7 +14,7 @@ static Outcome changed(tup_change change, tup_board *board) {
 static Outcome call_rule(const Step *step, tup_board *board, int16_t *table, const uint8_t *formula) {
     tup_addition addition = tup_rule(*board, table, step->numbers, LENT(formula, step->bytes, step), step->bytes);
     *board = addition.board;
-    return (Outcome){.refusal = addition.refusal, .added = addition.added};
+    return (Outcome){.refusal = addition.refusal, .added = addition.added, .place = addition.place};
 }
 
 /* Settles. */

@@ -1,4 +1,4 @@
-/* The nine calls by document 01: what each tests, in its order, what it returns and what it writes. */
+/* The nine calls by document 01, a rule's places by document 02's Ticket 1: what each tests, in its order, what it returns and what it writes. */
 #include "model.h"
 
 #include <string.h>
@@ -57,28 +57,33 @@ Outcome model_open(Board *board, unsigned symbols) {
     return outcome(good ? 0 : 2);
 }
 
-/* The refusal of a formula by its bytes alone: 2 to 6, then 7. */
-static unsigned formula_tests(const uint8_t *formula, size_t bytes, unsigned symbols) {
+/* An outcome of a rule with a refusal, or with 0, and the place where the formula breaks. */
+static Outcome rule_outcome(unsigned refusal, size_t place) {
+    return (Outcome){.refusal = refusal, .place = place};
+}
+
+/* The refusal of a formula by its bytes alone: 2 to 6, each with its place, then 7. For 6 it is that "of the first byte too many". */
+static Outcome formula_tests(const uint8_t *formula, size_t bytes, unsigned symbols) {
     uint8_t different[MOST_SYMBOLS];
     Reading reading = read_formula(formula, bytes, symbols);
-    if (reading.refusal != 0) return reading.refusal;
-    if (reading.used < bytes) return 6;
-    return different_symbols(formula, bytes, different) > RULE_SYMBOLS ? 7 : 0;
+    if (reading.refusal != 0) return rule_outcome(reading.refusal, reading.place);
+    if (reading.used < bytes) return rule_outcome(6, reading.used);
+    return rule_outcome(different_symbols(formula, bytes, different) > RULE_SYMBOLS ? 7 : 0, NO_PLACE);
 }
 
 /* Appends the prime implicates of a rule. */
 Outcome model_rule(Board *board, int16_t *table, size_t numbers, const uint8_t *formula, size_t bytes) {
     static int16_t primes[MOST_CLAUSES][WIDTH];
-    if (!board_is_good(board, table, numbers)) return outcome(1);
-    unsigned refusal = formula_tests(formula, bytes, board->symbols);
-    if (refusal != 0) return outcome(refusal);
+    if (!board_is_good(board, table, numbers)) return rule_outcome(1, NO_PLACE);
+    Outcome tested = formula_tests(formula, bytes, board->symbols);
+    if (tested.refusal != 0) return tested;
     Rule rule = rule_of(formula, bytes);
-    if (rule.satisfying == 0) return outcome(8);
+    if (rule.satisfying == 0) return rule_outcome(8, NO_PLACE);
     unsigned count = prime_rows(&rule, primes);
-    if (board->rows + count > rows_lent(numbers)) return outcome(9);
+    if (board->rows + count > rows_lent(numbers)) return rule_outcome(9, NO_PLACE);
     if (count != 0) memcpy(table + WIDTH * board->rows, primes, count * sizeof primes[0]);
     board->rows += count;
-    return (Outcome){.added = count};
+    return (Outcome){.added = count, .place = NO_PLACE};
 }
 
 /* Puts a literal into the premises. */

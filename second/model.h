@@ -1,7 +1,7 @@
-/* Document 01 by brute force, for the independent second program.
+/* Document 01 with Ticket 1 of document 02 by brute force, for the independent second program.
  *
- * Written from document 01 and include/tupahineka.h alone. No other code of the project was read for it: what this
- * program and the library share is the document and nothing else. Slow and by definition, wherever a definition is there. */
+ * Written from these documents and include/tupahineka.h alone. No other code of the project was read for it: what this
+ * program and the library share is the documents and nothing else. Slow and by definition, wherever a definition is there. */
 #ifndef MODEL_H
 #define MODEL_H
 
@@ -21,6 +21,9 @@ enum {
     DEEPEST = 16         /* the depth an operand may stand at */
 };
 
+/* Where no byte place is told: the largest size_t, by the C interface. */
+#define NO_PLACE SIZE_MAX
+
 /* Answers to ask, by the numbers of the C interface. */
 enum { IS_OPEN, STANDS, RULED_OUT, IN_CONFLICT };
 
@@ -32,12 +35,13 @@ typedef struct Board {
 /* What any call returns but its board; what a call does not return is 0. */
 typedef struct Outcome {
     unsigned refusal, added, standing, literals, rank, row;
+    size_t place; /* of a rule: the byte where its formula breaks, or NO_PLACE */
 } Outcome;
 
-/* How reading a formula ended: the refusal or 0, and the bytes used. */
+/* How reading a formula ended: done, the bytes used and NO_PLACE; refused, the number and the place where it breaks. */
 typedef struct Reading {
     unsigned refusal;
-    size_t used;
+    size_t used, place;
 } Reading;
 
 /* What a rule says: its symbols in rising order, and whether each assignment (bit i for symbol[i]) satisfies it. */

@@ -1,6 +1,6 @@
-/* The independent second program of Tupahineka: random sequences of calls, the library against document 01 by brute force.
+/* The independent second program of Tupahineka: random sequences of calls, the library against the documents by brute force.
  *
- * Written from document 01 and include/tupahineka.h alone; no other code of the project was read for it.
+ * Written from document 01, Ticket 1 of document 02 and include/tupahineka.h alone; no other code of the project was read for it.
  *
  *   second SEED COUNT               plays COUNT sequences and compares everything after every call
  *   second show SEED NUMBER         prints sequence NUMBER in words, by the model alone
@@ -64,7 +64,7 @@ static bool play_sequence(uint64_t seed, uint64_t number, bool with_library) {
     return true;
 }
 
-/* Plays all sequences of a seed, then the boards that document 01 names. */
+/* Plays all sequences of a seed, then the boards that the documents name. */
 static int play_all(uint64_t seed, uint64_t count) {
     now_seed = seed;
     for (uint64_t n = 0; n < count; n++) {

@@ -10,8 +10,9 @@ enum {
     TABLE_LENDABLE = MOST_ROWS * WIDTH + 43,   /* more than 2,048 rows, and not a whole number of them */
     LABELS_LENDABLE = MOST_SYMBOLS + 9,
     PLACES_LENDABLE = PLACES + 9,
-    FORMULA_LENDABLE = 4096,
-    MOST_STEPS = 2600
+    FORMULA_LENDABLE = 98304,                  /* the longest formula of depth 16, and a byte too many */
+    MOST_STEPS = 2600,
+    PLACE_WORD = 24                            /* bytes for a place in words */
 };
 
 /* The nine calls, then what the caller may do between them. */
@@ -83,6 +84,7 @@ bool same_by_rules(Play *play);
 
 /* words.c */
 const char *kind_word(Kind kind);
+void place_word(size_t place, char out[PLACE_WORD]);
 void print_step(const Step *step, size_t ordinal);
 void print_outcome(const char *who, Kind kind, const Outcome *outcome);
 void print_board(const Play *play, size_t numbers);

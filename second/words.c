@@ -11,6 +11,12 @@ const char *kind_word(Kind kind) {
     return words[kind];
 }
 
+/* Writes a byte place in words: its digits, or "none". */
+void place_word(size_t place, char out[PLACE_WORD]) {
+    if (place == NO_PLACE) snprintf(out, PLACE_WORD, "none");
+    else snprintf(out, PLACE_WORD, "%zu", place);
+}
+
 /* Prints the operand at *at in brackets, and ??? where it is no formula. */
 static void print_operand(const uint8_t *bytes, size_t length, size_t *at, unsigned depth) {
     static const char *const joints[] = {" and ", " or ", " implies ", " same "};
@@ -86,6 +92,7 @@ void print_outcome(const char *who, Kind kind, const Outcome *outcome) {
     else if (kind == ASK) printf("%s", outcome->standing < 4 ? standings[outcome->standing] : "no standing");
     else if (kind == EXPLAIN) printf("rank %u, row %u of %u literals", outcome->rank, outcome->row, outcome->literals);
     else printf("done");
+    if (kind == RULE && outcome->place != NO_PLACE) printf(", at byte %zu", outcome->place);
     printf("\n");
 }
 

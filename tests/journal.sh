@@ -76,5 +76,11 @@ printf '%s\n' '1 open ok' '2 rule rows 0 2' '3 ask stands' '4 why rank 1 row 1: 
 run_x86 target/bin/journal <"$room/input" >"$room/wrote"
 held long-formula
 
+# the same formula without its last byte, at the end of the input
+printf '%b' "\\x01\\x02\\x02${first%\\x*}" >"$room/input"
+printf '%s\n' '1 open ok' '2 rule no 3 at 24574' >"$room/expected"
+run_x86 target/bin/journal <"$room/input" >"$room/wrote"
+held long-formula-cut
+
 echo "journal: $passed inputs print what is due, $failed do not"
 [ "$failed" -eq 0 ]

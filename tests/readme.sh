@@ -27,9 +27,9 @@ for crate in crates/*/; do
     }
 done
 
-# what the documents name: a word of the crates or of a file's name, and files of the crates
+# what the documents name: a word of the crates, of the header or of a file's name, and files of the crates
 for word in $(grep -oh '`[A-Za-z][A-Za-z0-9_-]*`' README.md docs/*.md | tr -d '`' | sort -u); do
-    grep -rqw -- "$word" crates crates.txt Makefile || [ -n "$(find crates -name "$word.*")" ] || {
+    grep -rqw -- "$word" crates crates.txt include Makefile || [ -n "$(find crates -name "$word.*")" ] || {
         echo "the documents name '$word', and nothing here has that name"
         exit 1
     }

@@ -1,8 +1,8 @@
 #!/usr/bin/env python3
-"""Writes examples/cases/NAME/{input.hex,expected}: journal inputs and what document 01 says they print. Run from anywhere:
-python3 tests/expected/journal_cases.py.
+"""Writes examples/cases/NAME/{input.hex,expected}: journal inputs and what document 01, with Ticket 1 of document 02, says they print.
+Run from anywhere: python3 tests/expected/journal_cases.py.
 
-The expected lines come from a small model of document 01, written from its text alone: it tries every clause and every assignment,
+The expected lines come from a small model of these documents, written from their text alone: it tries every clause and every assignment,
 and propagates round by round over sets, so that it shares nothing with the program.
 """
 import itertools
@@ -16,23 +16,25 @@ ROWS_LENT = 2048
 
 
 class Refused(Exception):
-    def __init__(self, number):
+    def __init__(self, number, place=None):
         self.number = number
+        self.place = place
 
 
 def read(data, at, symbols, depth):
-    """One formula from place `at`: (tree, place after it), or a refusal."""
+    """One formula from place `at`: (tree, place after it), or a refusal with the place where the data break."""
     if depth > 16:
-        raise Refused(5)
+        raise Refused(5, at)
     if at >= len(data):
-        raise Refused(3)
+        raise Refused(3, len(data))
     kind = data[at]
     if kind == 0x10:
-        if at + 1 >= len(data):
-            raise Refused(3)
-        s = data[at + 1]
+        number = at + 1
+        if number >= len(data):
+            raise Refused(3, len(data))
+        s = data[number]
         if s == 0 or s > symbols:
-            raise Refused(2)
+            raise Refused(2, number)
         return ("sym", s), at + 2
     if kind == 0x11:
         f, at = read(data, at + 1, symbols, depth + 1)
@@ -41,7 +43,7 @@ def read(data, at, symbols, depth):
         f, at = read(data, at + 1, symbols, depth + 1)
         g, at = read(data, at, symbols, depth + 1)
         return ({0x12: "and", 0x13: "or", 0x14: "imp", 0x15: "same"}[kind], f, g), at
-    raise Refused(4)
+    raise Refused(4, at)
 
 
 def names(f, seen):
@@ -149,10 +151,11 @@ def journal(data):
             elif kind == 2:
                 if not board.good():
                     raise Refused(1)
+                first = at
                 try:
-                    formula, at = read(data, at, board.symbols, 1)
+                    formula, at = read(data, first, board.symbols, 1)
                 except Refused as r:
-                    out.append("%d rule no %d" % (ordinal, r.number))
+                    out.append("%d rule no %d at %d" % (ordinal, r.number, r.place - first))
                     break
                 if len(names(formula, set())) > 8:
                     raise Refused(7)
@@ -260,6 +263,11 @@ def fold(kind, symbols):
     return f
 
 
+def full(level, symbols):
+    """Symbols in turn, joined by `and` in pairs at so many levels."""
+    return symbols[0] if level == 0 else ("and", full(level - 1, symbols), full(level - 1, symbols[1:] + symbols[:1]))
+
+
 def nots(count, f):
     for _ in range(count):
         f = ("not", f)
@@ -309,6 +317,54 @@ case("formula-deep-more", "Sixteen nots and a symbol: 5.", opens(4), raw("02 " +
 case("formula-first-fault", "The first fault met is the answer: 2 at the first operand, though the second is unknown.", opens(4), raw("02 12 10 09 17", "rule: 9 and something unknown"))
 case("fifteen-nots", "Fifteen nots then a symbol: accepted.", opens(2), rule(nots(15, 2), "rule: fifteen nots, 2"), ask(2), why(-2))
 
+# document 02, Ticket 1: where the formula breaks
+LONG = spell(("same", ("imp", ("or", 1, 2), ("and", 3, -4)), ("not", ("or", 3, ("and", 1, -2)))))
+FAR = spell(full(10, [1, 2, 3, 4])) + " " + spell(full(9, [1, 2, 3, 4]))
+
+case("place-symbol-nested", "The place of 2 is that of the symbol's number, here in the first operand of a first operand.",
+     opens(4), raw("02 14 12 10 05 10 01 10 02", "rule: (5 and 1) implies 2"), ask(1))
+case("place-symbol-second", "The place of 2 in a second operand counts the first one.",
+     opens(4), raw("02 14 12 10 01 10 02 10 00", "rule: (1 and 2) implies symbol 0"), ask(1))
+case("place-symbol-second-of-second", "2 in the second operand of a second operand, behind a long first one.",
+     opens(4), raw("02 13 10 01 12 " + LONG + " 11 10 05", "rule: 1 or (a long formula and not 5)"), ask(1))
+case("place-cut-kind-nested", "The place of 3 is that of the missing byte, here the kind of a first operand's first operand.",
+     opens(4), raw("02 14 12", "rule: an implication of an and, and no more"))
+case("place-cut-kind-second", "3 for the kind of a second operand.",
+     opens(4), raw("02 14 12 10 01 10 02", "rule: (1 and 2) implies"))
+case("place-cut-kind-second-of-second", "3 for the kind of a second operand's second operand, behind a long first one.",
+     opens(4), raw("02 13 10 01 12 " + LONG, "rule: 1 or (a long formula and"))
+case("place-cut-body-nested", "3 for the number of a symbol in the first operand of a first operand.",
+     opens(4), raw("02 15 13 10", "rule: a same of an or of a symbol without its number"))
+case("place-cut-body-second", "3 for the number of a symbol in a second operand.",
+     opens(4), raw("02 14 12 10 01 10 02 10", "rule: (1 and 2) implies a symbol without its number"))
+case("place-cut-body-second-of-second", "3 for the number of a symbol in a second operand's second operand, behind a long first one.",
+     opens(4), raw("02 13 10 01 12 " + LONG + " 10", "rule: 1 or (a long formula and a symbol without its number"))
+case("place-kind-nested", "The place of 4 is where the operand was due, here the first operand of a first operand.",
+     opens(4), raw("02 12 11 0F 10 01", "rule: not something unknown, and 1"), ask(1))
+case("place-kind-second", "4 in a second operand.",
+     opens(4), raw("02 15 11 10 01 99", "rule: not 1 same something unknown"), ask(1))
+case("place-kind-second-of-second", "4 in the second operand of a second operand, behind a long first one.",
+     opens(4), raw("02 13 10 01 12 " + LONG + " FF", "rule: 1 or (a long formula and something unknown)"), ask(1))
+case("place-kind-first", "4 at the formula's first byte, whose place is 0; a command's kind is no formula's.",
+     opens(4), rule(1), raw("02 01 04", "rule: something unknown, which would be an open"), ask(1))
+case("place-deep-nested", "The place of 5 is where the operand was due: sixteen two-operand kinds, and the first operand of the last.",
+     opens(4), raw("02 " + " ".join(["12", "13", "14", "15"] * 4) + " 10 01", "rule: sixteen kinds of two operands, 1"), ask(1))
+case("place-deep-second", "5 by way of second operands, each behind a first one; no byte is left, and still 5, not 3.",
+     opens(4), raw("02" + " 13 10 04" * 15 + " 11", "rule: 4 or (4 or ( ... fifteen times, not"))
+case("place-deep-second-of-second", "5 in the second operand of a second operand, behind a long first one.",
+     opens(4), raw("02 13 10 01 12 " + LONG + " 11" * 14 + " 10 01", "rule: 1 or (a long formula and fourteen nots, 1)"), ask(1))
+case("place-own-rule", "Places count from the rule's own first byte, whatever came before it; bytes of commands after it don't matter.",
+     opens(4), hold(1), rule(("imp", 1, 2)), ask(2), raw("02 13 10 01 10 05", "rule: 1 or 5"), hold(3), ask(3))
+case("place-first-fault", "Two faults in one formula: the place is that of the first one met.",
+     opens(4), raw("02 12 13 10 01 10 09 13 10 00 99", "rule: (1 or 9) and (symbol 0 or something unknown)"), ask(1))
+case("place-four-digits", "A formula of 4,607 bytes, its last symbol beyond S.",
+     opens(4), raw("02 12 " + FAR[:-2] + "05", "rule: 1,024 symbols joined by and, 511 more and 5"), ask(1))
+case("place-four-digits-cut", "The same formula without its last byte.",
+     opens(4), raw("02 12 " + FAR[:-3], "rule: 1,024 symbols joined by and, 511 more and one without its number"))
+case("place-none", "Refusals 7 and 8 of a rule and 2 of the other commands have no place; the first that has one ends it.",
+     opens(9), rule(fold("or", list(range(1, 10)))), rule(("and", 1, -1)), hold(10), drop(0), ask(-10), why(10), opens(201), opens(2),
+     raw("02 11 10 03", "rule: not 3"), ask(1))
+
 case("literals", "Literals 0, beyond S, -32768 and 32767: refusal 2, and the program goes on.",
      opens(3), ask(0), hold(0), hold(4), hold(-4), ask(-32768), hold(-32768), drop(-32768), why(-32768), ask(32767), hold(32767), ask(256), ask(-256), ask(3), ask(-3), hold(-3), ask(-3))
 
@@ -350,9 +406,17 @@ case("order-of-rows", "Fewer literals first, then the smaller symbol, then + bef
      opens(6), rule(("and", ("or", 3, ("or", 5, 6)), ("and", ("or", -2, 4), ("or", 2, 4)))), hold(-3), hold(-5), why(6), why(4), rule(("same", 1, ("same", 2, 3))), hold(1), hold(2), ask(3), ask(-3))
 
 
+def line(command, note):
+    """A command with its note; a long one has its note ahead of it, and 48 bytes a line."""
+    if len(command) <= 120:
+        return "%-40s # %s\n" % (command, note)
+    parts = [command[i:i + 144].strip() for i in range(0, len(command), 144)]
+    return "# %s\n" % note + "".join(part + "\n" for part in parts)
+
+
 def main(root):
     for name, (about, commands) in CASES.items():
-        text = "# " + about + "\n" + "".join("%-40s # %s\n" % c for c in commands)
+        text = "# " + about + "\n" + "".join(line(c, note) for c, note in commands)
         data = bytes(int(b, 16) for c, _ in commands for b in c.split())
         folder = os.path.join(root, "examples", "cases", name)
         os.makedirs(folder, exist_ok=True)

@@ -15,18 +15,19 @@ use Rattle.meaning.specs.Tests.{all, from}
 use Rattle.meaning.specs.Formulae.{Formula, occurs, symbolsOf, Rule, ruleOf}
 use Rattle.meaning.specs.Clauses.{assignments, rowsOf, satisfiable}
 use Rattle.meaning.proofs.Tests.{clash, all-of, keep-in, from-in}
+use Rattle.literals.specs.Refusals.{numberOf}
 use Rattle.literals.specs.declared.refusal.Refusal.{Refusal}
 use Rattle.literals.specs.declared.refusal.Refusal.the-variants.{BytesLeftOver}
 use Rattle.formula.specs.Parse.{Parsed, good, bad, parse, levels, ended, wholeOf}
-use Rattle.formula.specs.Answers.{readOf, isGood, padded, named, namesOf, truthOf}
-use Rattle.formula.specs.declared.reading.Answer.the-variants as reading
+use Rattle.formula.specs.Answers.{isGood, padded, named, namesOf, truthOf}
 use Rattle.formula.specs.declared.naming.Names.{Names}
+use Rattle.formula.proofs.Faults.{whole-faults}
 use Rattle.implicates.specs.Appending.{ruleBy, appended, answerOf, tableOf}
 use Rattle.implicates.specs.declared.Appended.{Appended}
 use Rattle.implicates.specs.declared.Appended.the-variants.{Rows, Unsatisfiable, Full}
 use Rattle.implicates.proofs.Rules.{answer-by-table, append-by-table}
 use Rattle.board.specs.Faults.{firstFault}
-use Rattle.board.specs.Rules.{whyOf, formulaOf, ruleFaults, rowsOfBytes, withRows, ruled, ruledTable}
+use Rattle.board.specs.Rules.{formulaOf, ruleFaults, noPlace, placeTold, rowsOfBytes, withRows, ruled, ruledTable}
 use Rattle.board.specs.declared.Board.{Board}
 use Rattle.board.specs.declared.Outcome.the-variants.{Done, Refused}
 
@@ -38,15 +39,12 @@ few-assignments n h = pow-mono h
 pub shifted : (n : ℕ) → n ≤ 8 → 1 * 2 ^ n % 2 ^ 64 ≡ 2 ^ n
 shifted n h = mod-eq-of-lt (rw one-mul (omega (arith, few-assignments n h))) ∙ one-mul (2 ^ n)
 
--- ---- reading tells whether the bytes are a formula, and if not, why
+-- ---- a fault of the formula is told with its place
 
-pub read-good : (p : Parsed) {used : ℕ} → readOf p ≡ reading.Used used → isGood p ≡ true
-read-good (good f n) e = refl
-read-good (bad why at) e = let z : _≡_ {A = ℕ} 0 1 = cc in absurd (omega arith)
-
-pub read-bad : (p : Parsed) {why : Refusal} {at : ℕ} → readOf p ≡ reading.Refused why at → (isGood p ≡ false) × (whyOf p ≡ why)
-read-bad (good f n) e = let z : _≡_ {A = ℕ} 0 1 = cc in absurd (omega arith)
-read-bad (bad why at) e = (refl, cc)
+pub place-told : (S : ℕ) (bytes : List ℕ) {why : Refusal} {at : ℕ} → wholeOf S bytes ≡ bad why at → placeTold (Refused why) (wholeOf S bytes) ≡ at
+place-told S bytes {why} e =
+    let numbers = rw e at (whole-faults S bytes) in
+    rw (e, le-leb 2 (numberOf why) (numbers .0), le-leb (numberOf why) 6 (numbers .1))
 
 -- ---- bytes that are a formula as a whole are one from the front
 
@@ -163,13 +161,14 @@ module _ (rule : Rule) (used lent : ℕ) where
 -- ---- the answer and the table after it, where adding is refused and where it is done
 
 module _ (table : List ℤ) (b : Board) (bytes : List ℕ) where
-  pub rule-refused : (why : Refusal) → firstFault (ruleFaults table b bytes) ≡ Refused why
-      → (record { outcome = Refused why; added = 0; board = b } ≡ ruled table b bytes) × (table ≡ ruledTable table b bytes)
+  pub rule-refused : (why : Refusal) {place : ℕ} → firstFault (ruleFaults table b bytes) ≡ Refused why
+      → placeTold (Refused why) (wholeOf (b .symbols) bytes) ≡ place
+      → (record { outcome = Refused why; place = place; added = 0; board = b } ≡ ruled table b bytes) × (table ≡ ruledTable table b bytes)
   unfolding ruled ruledTable
-  rule-refused why e = rw e (refl, refl)
+  rule-refused why e p = rw (e, sym p) (refl, refl)
 
   pub rule-done : firstFault (ruleFaults table b bytes) ≡ Done → let rows = rowsOfBytes (b .symbols) bytes in
-      (record { outcome = Done; added = length rows; board = withRows b (length rows) } ≡ ruled table b bytes)
+      (record { outcome = Done; place = noPlace; added = length rows; board = withRows b (length rows) } ≡ ruled table b bytes)
       × (appended table (b .rows) rows ≡ ruledTable table b bytes)
   unfolding ruled ruledTable
   rule-done e = rw e (refl, refl)

@@ -9,7 +9,8 @@ use lib.IntN.{ℤ}
 use Rattle.literals.specs.Refusals.{numberOf}
 use Rattle.literals.specs.declared.refusal.Refusal.{Refusal}
 use Rattle.board.specs.Faults.{Fault, firstFault, ifDone, numberIn}
-use Rattle.board.specs.Rules.{ruleFaults, ruled}
+use Rattle.formula.specs.Parse.{wholeOf}
+use Rattle.board.specs.Rules.{placeTold, ruleFaults, ruled}
 use Rattle.board.specs.declared.Board.{Board}
 use Rattle.board.specs.declared.Outcome.{Outcome}
 use Rattle.board.specs.declared.Outcome.the-variants.{Done, Refused}
@@ -24,6 +25,17 @@ told-by tell good refused (Refused why) g r = r why refl
 pub rule-told : (table : List ℤ) (b : Board) (bytes : List ℕ) → ruled table b bytes .outcome ≡ firstFault (ruleFaults table b bytes)
 unfolding ruled
 rule-told table b bytes = told-by (λ (a : Addition). a .outcome) _ _ (firstFault (ruleFaults table b bytes)) (λ e. refl) (λ why e. refl)
+
+-- and the place that it tells is by its outcome
+pub rule-place : (table : List ℤ) (b : Board) (bytes : List ℕ)
+    → ruled table b bytes .place ≡ placeTold (ruled table b bytes .outcome) (wholeOf (b .symbols) bytes)
+unfolding ruled
+rule-place table b bytes = go (firstFault (ruleFaults table b bytes)) refl
+  where
+    go : (o : Outcome) → firstFault (ruleFaults table b bytes) ≡ o
+        → ruled table b bytes .place ≡ placeTold (ruled table b bytes .outcome) (wholeOf (b .symbols) bytes)
+    go Done e = rw e
+    go (Refused why) e = rw e
 
 -- of some cases, none that is given has this number: so it is not answered
 abbrev pub Without : ℕ → List Fault → Type 0

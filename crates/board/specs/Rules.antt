@@ -1,6 +1,7 @@
 -- Add a rule: "For a rule: 1; then the formula from the front; then 6, 7, 8, 9." "An accepted rule appends exactly its prime implicates".
+-- 02, Ticket 1: "Refusals 2 to 6 for a rule shall also give the byte place".
 use Prim.Native.Nat.{ℕ, _+_}
-use mathlib.Core.Bool.{not}
+use mathlib.Core.Bool.{Bool, not, cond, _&&_}
 use mathlib.Core.List.{List, [], _∷_}
 use lib.Dec.{leb}
 use lib.IntN.{ℤ}
@@ -13,8 +14,9 @@ use Rattle.literals.specs.declared.refusal.Refusal.the-variants.{BadBoard, TooM
 use Rattle.formula.specs.Parse.{Parsed, good, bad, wholeOf}
 use Rattle.formula.specs.Answers.{isGood}
 use Rattle.implicates.specs.Appending.{appended}
-use Rattle.board.specs.Faults.{goodBoard, Fault, firstFault, ifDone}
+use Rattle.board.specs.Faults.{goodBoard, Fault, firstFault, ifDone, numberIn}
 use Rattle.board.specs.declared.Board.{Board}
+use Rattle.board.specs.declared.Outcome.{Outcome}
 use Rattle.board.specs.declared.rules.Addition.{Addition}
 
 -- why bytes are no formula (asked only of those that are none), and the formula that they are (asked only of those that are one)
@@ -37,6 +39,24 @@ ruleFaults table b bytes =
     ∷ record { given = not (leb (b .rows + length (rowsOf rule)) (rowsLent table)); refusal = TableFull }
     ∷ []
 
+-- what stands for a place where none is told: the largest number of 64 bits. A place that is told is at most the count of bytes, and no bytes
+-- lent are so many
+abbrev pub noPlace : ℕ
+noPlace = 0xffff_ffff_ffff_ffff
+
+-- where bytes are no formula (asked only of those that are none)
+abbrev pub breaksAt : Parsed → ℕ
+breaksAt (good f used) = noPlace
+breaksAt (bad why at) = at
+
+-- "Refusals 2 to 6", by the number that adding a rule answers
+abbrev pub hasPlace : ℕ → Bool
+hasPlace number = leb 2 number && leb number 6
+
+-- the place told beside an outcome
+abbrev pub placeTold : Outcome → Parsed → ℕ
+placeTold outcome read = cond (hasPlace (numberIn outcome)) (breaksAt read) noPlace
+
 -- the rows of the rule that the bytes are
 abbrev pub rowsOfBytes : ℕ → List ℕ → List (List ℕ)
 rowsOfBytes S bytes = rowsOf (ruleOf S (formulaOf (wholeOf S bytes)))
@@ -49,8 +69,10 @@ withRows b added = record { symbols = b .symbols; rows = b .rows + added; held =
 unfoldable pub ruled : List ℤ → Board → List ℕ → Addition
 ruled table b bytes =
     let outcome = firstFault (ruleFaults table b bytes) in
+    let place = placeTold outcome (wholeOf (b .symbols) bytes) in
     let added = length (rowsOfBytes (b .symbols) bytes) in
-    ifDone outcome (record { outcome = outcome; added = added; board = withRows b added }) (λ _. record { outcome = outcome; added = 0; board = b })
+    ifDone outcome (record { outcome = outcome; place = place; added = added; board = withRows b added })
+    (λ _. record { outcome = outcome; place = place; added = 0; board = b })
 
 unfoldable pub ruledTable : List ℤ → Board → List ℕ → List ℤ
 ruledTable table b bytes =

@@ -18,18 +18,24 @@ use formula::reading::Answer;
 use implicates::Appended;
 use literals::refusal::Refusal;
 
-// What adding a rule answers: how many rows it appended, 0 where it was refused.
+// What stands for a place where none is told: no bytes lent are so many that one of them has it.
+pub const NO_PLACE: usize = 0xffff_ffff_ffff_ffff;
+
+// What adding a rule answers: for refusals 2 to 6 the place in the formula's bytes, NO_PLACE otherwise; and how many rows it appended, 0
+// where it was refused.
 pub struct Addition {
     pub outcome: Outcome,
+    pub place: usize,
     pub added: usize,
     pub board: Board,
 }
 
-fn refused(board: Board, why: Refusal) -> Addition
-    ensures { λ r. ⌜ r ≡ record { outcome = Outcome.Refused why; added = 0; board = board } ⌝ }
+fn refused(board: Board, why: Refusal, place: usize) -> Addition
+    ensures { λ r. ⌜ r ≡ record { outcome = Outcome.Refused why; place = place; added = 0; board = board } ⌝ }
 {
     Addition {
         outcome: Outcome::Refused(why),
+        place,
         added: 0,
         board,
     }
@@ -58,18 +64,19 @@ fn add_formula(board: Board, table: &mut [i16], bytes: &[u8]) -> Addition
 {
     let names = formula::naming::symbols_of(bytes, board.symbols);
     if !names.fits {
-        return refused(board, Refusal::TooManySymbols);
+        return refused(board, Refusal::TooManySymbols, NO_PLACE);
     }
     let list = names.list;
     let count = names.count;
     match append(table, board.rows, bytes, board.symbols, &list[..count]) {
-        Appended::Unsatisfiable => refused(board, Refusal::NoAssignment),
-        Appended::Full => refused(board, Refusal::TableFull),
+        Appended::Unsatisfiable => refused(board, Refusal::NoAssignment, NO_PLACE),
+        Appended::Full => refused(board, Refusal::TableFull, NO_PLACE),
         Appended::Rows(added) => {
             let mut next = board;
             next.rows = board.rows + added;
             Addition {
                 outcome: Outcome::Done,
+                place: NO_PLACE,
                 added,
                 board: next,
             }
@@ -83,10 +90,10 @@ pub fn add_rule(board: Board, table: &mut [i16], bytes: &[u8]) -> Addition
     ensures { λ r. ⌜ now (table .exit) ≡ ruledTable (now (table .entry)) board (now (bytes .entry)) ⌝ }
 {
     if !good(board, table) {
-        return refused(board, Refusal::BadBoard);
+        return refused(board, Refusal::BadBoard, NO_PLACE);
     }
     match formula::reading::read_whole(bytes, board.symbols) {
-        Answer::Refused(why, _) => refused(board, why),
+        Answer::Refused(why, place) => refused(board, why, place),
         Answer::Used(_) => add_formula(board, table, bytes),
     }
 }

@@ -45,13 +45,13 @@ fn deep() {
 }
 
 // No byte, a symbol with no number, "1 implies" and then nothing, and a symbol with no number. Symbols 0, 201 and 255 of 200. Kinds
-// 0f and 16, and 00 as an operand. "0 implies" and then kind 16, and kind 16 ahead of symbol 0. A byte more after symbol 1, symbol 0,
-// and 1 and not 1, which by itself no assignment satisfies.
+// 0f and 16, and as second operands kinds 00 and 99 and symbol 0. "0 implies" and then kind 16, and kind 16 ahead of symbol 0. A byte
+// more after symbol 1, symbol 0, and 1 and not 1, which by itself no assignment satisfies.
 fn faults() {
     each(
         blank(200, 0),
         39,
-        b"/\x10/\x14\x10\x01/\x14\x10\x01\x10/\x10\x00/\x10\xc9/\x10\xff/\x0f\x01/\x16\x01/\x14\x10\x01\x00/\x14\x10\x00\x16/\x14\x16\x10\x00/\x10\x01\x10/\x10\x00\x10/\x12\x10\x01\x11\x10\x01/\x12\x10\x01\x11\x10\x01\x00/",
+        b"/\x10/\x14\x10\x01/\x14\x10\x01\x10/\x10\x00/\x10\xc9/\x10\xff/\x0f\x01/\x16\x01/\x14\x10\x01\x00/\x12\x10\x01\x99/\x13\x10\x01\x10\x00/\x14\x10\x00\x16/\x14\x16\x10\x00/\x10\x01\x10/\x10\x00\x10/\x12\x10\x01\x11\x10\x01/\x12\x10\x01\x11\x10\x01\x00/",
     );
 }
 

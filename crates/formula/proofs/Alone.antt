@@ -1,24 +1,20 @@
--- A formula is read from its own bytes alone: from them it is the same formula, and nothing follows it.
+-- Reading looks at no byte further than it says: a formula is the same from any bytes that begin with its own, and so is a fault from any that
+-- begin with those up to it. From just its own bytes nothing follows a formula.
 use mathlib.Core.Path.{_≡_, refl, ap, sym, _∙_}
-use mathlib.Core.Bool.{true, _&&_}
+use mathlib.Core.Logic.{_≢_}
 use mathlib.Core.List.{List, [], _∷_}
-use Prim.Native.Nat.{ℕ, zero, suc, _+_, _-_, _≤_}
+use Prim.Native.Nat.{ℕ, zero, suc, _-_, _≤_, _<_}
 use native.Mathlib.Nat.{sub-zero, suc-sub-suc}
 use native.Mathlib.Omega.{arith}
 use borrow.Author.Tests.{eq-eqb}
-use lib.Dec.{leb}
 use lib.ListN.{length, take, drop}
-use lib.Seq.{length-take-le, take-nil}
-use Rattle.meaning.specs.Formulae.{Formula, neg}
-use Rattle.formula.specs.Kinds.{kindOf, joined}
-use Rattle.formula.specs.Parse.{Parsed, good, bad, parse, bodyOf, symbolAt, after, secondOf, levels, wholeOf}
-use Rattle.formula.specs.Answers.{isGood, usedOf}
-use Rattle.formula.specs.declared.reading.Join.{Join}
-use Rattle.formula.specs.declared.reading.Kind.{Kind}
-use Rattle.formula.specs.declared.reading.Kind.the-variants.{Symbol, Not, Two, Unknown}
-use Rattle.formula.proofs.Extents.{parse-used}
-use Rattle.formula.proofs.Walk.{never, number-fits}
-use Rattle.formula.proofs.Widening.{parse-some}
+use lib.Seq.{length-take-le, take-nil, take-take}
+use Rattle.meaning.specs.Formulae.{Formula}
+use Rattle.literals.specs.Refusals.{numberOf}
+use Rattle.literals.specs.declared.refusal.Refusal.{Refusal}
+use Rattle.formula.specs.Parse.{good, parse, levels, wholeOf}
+use Rattle.formula.proofs.Steps.{Taken, one, not, two, Met, deep, short, unknown, missing, beyond, inner, left, right, taken, taken-told}
+use Rattle.formula.proofs.Extents.{taken-within}
 
 drop-take : (m n : ℕ) (l : List ℕ) → m ≤ n → drop m (take n l) ≡ take (n - m) (drop m l)
 drop-take zero n l h = rw sub-zero
@@ -26,57 +22,82 @@ drop-take (suc m) zero l h = absurd (omega arith)
 drop-take (suc m) (suc n) [] h = sym (take-nil (suc n - suc m))
 drop-take (suc m) (suc n) (x ∷ xs) h = rw suc-sub-suc (drop-take m n xs (omega arith))
 
-after-alone : (skipped : ℕ) (wrap : Formula → Formula) (p q : Parsed) (n : ℕ) → (isGood p ≡ true → usedOf p ≤ n - skipped → q ≡ p)
-    → isGood (after skipped wrap p) ≡ true → usedOf (after skipped wrap p) ≤ n → after skipped wrap q ≡ after skipped wrap p
-after-alone skipped wrap (good f used) q n alike e h = ap (after skipped wrap) (alike refl (omega arith))
-after-alone skipped wrap (bad why at) q n alike e h = never e
+-- ---- bytes that are alike up to some place
 
-after-past : (skipped : ℕ) (wrap : Formula → Formula) (p : Parsed) → isGood (after skipped wrap p) ≡ true → skipped ≤ usedOf (after skipped wrap p)
-after-past skipped wrap (good f used) e = omega arith
-after-past skipped wrap (bad why at) e = never e
+-- bytes whose front begins with k, and what follows it
+record Begun (l : List ℕ) (n k : ℕ) (t : List ℕ) : Type 0 where
+  pub rest : List ℕ
+  pub is : l ≡ k ∷ rest
+  pub front : take n rest ≡ t
 
-module _ (S : ℕ) where
-  symbol-alone : (body : List ℕ) (n : ℕ) → isGood (symbolAt S body) ≡ true → usedOf (symbolAt S body) ≤ suc n → symbolAt S (take n body) ≡ symbolAt S body
-  unfolding symbolAt
-  symbol-alone [] n e h = never e
-  symbol-alone (s ∷ rest) zero e h = absurd (omega (arith, rw (number-fits (leb 1 s && leb s S) s e) at h))
-  symbol-alone (s ∷ rest) (suc n) e h = refl
+begun : (n : ℕ) (l : List ℕ) {k : ℕ} {t : List ℕ} → take (suc n) l ≡ k ∷ t → Begun l n k t
+begun n [] e = let z : _≡_ {A = ℕ} 0 1 = ap length e ∙ cc in absurd (omega arith)
+begun n (x ∷ xs) e = record { rest = xs; is = cc; front = cc }
 
-  -- `p` reads one operand, from its own bytes alone
-  module _ (p : List ℕ → Parsed) (alone : (l : List ℕ) (n : ℕ) → isGood (p l) ≡ true → usedOf (p l) ≤ n → p (take n l) ≡ p l) where
-    second-alone : (join : Join) (body : List ℕ) (n : ℕ) (r t : Parsed) → (isGood r ≡ true → usedOf r ≤ n → t ≡ r)
-        → isGood (secondOf p join body r) ≡ true → usedOf (secondOf p join body r) ≤ suc n → secondOf p join (take n body) t ≡ secondOf p join body r
-    unfolding secondOf
-    second-alone join body n (good f used) t same e h =
-        let fits : used ≤ n = omega (arith, after-past (1 + used) (joined join f) (p (drop used body)) e) in
-        ap (secondOf p join (take n body)) (same refl fits)
-        ∙ after-alone (1 + used) (joined join f) (p (drop used body)) (p (drop used (take n body))) (suc n)
-        (λ g u. rw (drop-take used n body fits) (alone (drop used body) (n - used) g (omega arith)))
-        e
-        h
-    second-alone join body n (bad why at) t same e h = never e
+drop-alike : (used n : ℕ) (l bytes : List ℕ) → used ≤ n → take n l ≡ take n bytes → take (n - used) (drop used l) ≡ take (n - used) (drop used bytes)
+drop-alike used n l bytes h e = sym (drop-take used n l h) ∙ ap (drop used) e ∙ drop-take used n bytes h
 
-    body-alone : (kind : Kind) (body : List ℕ) (n : ℕ) → isGood (bodyOf S p kind body) ≡ true → usedOf (bodyOf S p kind body) ≤ suc n
-        → bodyOf S p kind (take n body) ≡ bodyOf S p kind body
-    unfolding bodyOf
-    body-alone Symbol body n e h = symbol-alone body n e h
-    body-alone Not body n e h = after-alone 1 neg (p body) (p (take n body)) (suc n) (λ g u. alone body n g (omega arith)) e h
-    body-alone (Two join) body n e h = second-alone join body n (p body) (p (take n body)) (alone body n) e h
-    body-alone Unknown body n e h = never e
+pub alike : {S depth used : ℕ} {bytes : List ℕ} {f : Formula} (n : ℕ) (l : List ℕ) → take n l ≡ take n bytes → used ≤ n → Taken S depth bytes f used
+    → Taken S depth l f used
+alike zero l e h (one k fits) = absurd (omega arith)
+alike (suc zero) l e h (one k fits) = absurd (omega arith)
+alike (suc (suc n)) l e h (one k fits) =
+    let a = begun (suc n) l e in
+    let b = begun n (a .rest) (a .front) in
+    rw (a .is, b .is) (one k fits)
+alike zero l e h (not k t) = absurd (omega arith)
+alike (suc n) l e h (not k t) = let a = begun n l e in rw (a .is) (not k (alike n (a .rest) (a .front) (omega arith) t))
+alike zero l e h (two k t u) = absurd (omega arith)
+alike (suc n) l e h (two {used = used} {body = body} k t u) =
+    let a = begun n l e in
+    let second = drop-alike used n (a .rest) body (omega arith) (a .front) in
+    rw (a .is) (two k (alike n (a .rest) (a .front) (omega arith) t) (alike (n - used) (drop used (a .rest)) second (omega arith) u))
 
-  -- a good formula is the same from any front of the bytes that holds all of its own
-  parse-alone : (depth : ℕ) (bytes : List ℕ) (n : ℕ) → isGood (parse S depth bytes) ≡ true → usedOf (parse S depth bytes) ≤ n
-      → parse S depth (take n bytes) ≡ parse S depth bytes
-  unfolding parse
-  parse-alone zero bytes n e h = never e
-  parse-alone (suc depth) [] n e h = never e
-  parse-alone (suc depth) (k ∷ body) zero e h = absurd (omega (arith, parse-some S (suc depth) (k ∷ body) e))
-  parse-alone (suc depth) (k ∷ body) (suc n) e h = body-alone (λ l. parse S depth l) (parse-alone depth) (kindOf k) body n e h
+ends-alike : (n : ℕ) (l : List ℕ) → take (suc n) l ≡ [] → l ≡ []
+ends-alike n [] e = refl
+ends-alike n (x ∷ xs) e = let z : _≡_ {A = ℕ} 1 0 = ap (λ (r : List ℕ). length (take 1 r)) e in absurd (omega arith)
 
-  -- and from just its own it is the whole
-  pub whole-alone : (bytes : List ℕ) (f : Formula) (used : ℕ) → parse S levels bytes ≡ good f used → wholeOf S (take used bytes) ≡ good f used
-  unfolding wholeOf
-  whole-alone bytes f used e =
-      let fits : used ≤ length bytes = omega (arith, ap usedOf e, parse-used S levels bytes) in
-      let again : parse S levels (take used bytes) ≡ good f used = parse-alone levels bytes used (ap isGood e) (omega (arith, ap usedOf e)) ∙ e in
-      rw (again, eq-eqb used (length (take used bytes)) (sym (length-take-le used bytes fits)))
+-- a fault of depth is met before the byte at its place is looked at, any other with that byte or its want
+pub met-again : {S depth at : ℕ} {bytes : List ℕ} {why : Refusal} (n : ℕ) (l : List ℕ) → take n l ≡ take n bytes → at ≤ n
+    → (numberOf why ≢ 5 → at < n) → Met S depth bytes why at → Met S depth l why at
+met-again n l e far seen deep = deep
+met-again zero l e far seen short = absurd (omega (arith, seen (λ five. omega arith)))
+met-again zero l e far seen (unknown k) = absurd (omega (arith, seen (λ five. omega arith)))
+met-again zero l e far seen (missing k) = absurd (omega arith)
+met-again zero l e far seen (beyond k fits) = absurd (omega arith)
+met-again zero l e far seen (inner k m) = absurd (omega arith)
+met-again zero l e far seen (left k m) = absurd (omega arith)
+met-again zero l e far seen (right k t m) = absurd (omega arith)
+met-again (suc n) l e far seen short = rw (ends-alike n l e) short
+met-again (suc n) l e far seen (unknown k) = rw (begun n l e .is) (unknown k)
+met-again (suc zero) l e far seen (missing k) = absurd (omega (arith, seen (λ five. omega arith)))
+met-again (suc (suc n)) l e far seen (missing k) =
+    let a = begun (suc n) l e in
+    rw (a .is, ends-alike n (a .rest) (a .front)) (missing k)
+met-again (suc zero) l e far seen (beyond k fits) = absurd (omega (arith, seen (λ five. omega arith)))
+met-again (suc (suc n)) l e far seen (beyond k fits) =
+    let a = begun (suc n) l e in
+    rw (a .is, begun n (a .rest) (a .front) .is) (beyond k fits)
+met-again (suc n) l e far seen (inner k m) =
+    let a = begun n l e in
+    rw (a .is) (inner k (met-again n (a .rest) (a .front) (omega arith) (λ other. omega (arith, seen other)) m))
+met-again (suc n) l e far seen (left k m) =
+    let a = begun n l e in
+    rw (a .is) (left k (met-again n (a .rest) (a .front) (omega arith) (λ other. omega (arith, seen other)) m))
+met-again (suc n) l e far seen (right {used = used} {body = body} k t m) =
+    let a = begun n l e in
+    let second = drop-alike used n (a .rest) body (omega arith) (a .front) in
+    rw (a .is)
+    (right k (alike n (a .rest) (a .front) (omega arith) t)
+    (met-again (n - used) (drop used (a .rest)) second (omega arith) (λ other. omega (arith, seen other)) m))
+
+-- ---- from just its own bytes it is the whole
+
+pub alone : {S depth used : ℕ} {bytes : List ℕ} {f : Formula} → Taken S depth bytes f used → Taken S depth (take used bytes) f used
+alone {used = used} {bytes = bytes} t = alike used (take used bytes) (take-take used used bytes (omega arith)) (omega arith) t
+
+pub whole-alone : (S : ℕ) (bytes : List ℕ) (f : Formula) (used : ℕ) → parse S levels bytes ≡ good f used → wholeOf S (take used bytes) ≡ good f used
+unfolding wholeOf
+whole-alone S bytes f used e =
+    let t = taken S e in
+    rw (taken-told S (alone t), eq-eqb used (length (take used bytes)) (sym (length-take-le used bytes (taken-within t))))

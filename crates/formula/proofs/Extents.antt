@@ -1,57 +1,39 @@
 -- No answer looks further than the bytes go: the bytes used and the places of faults are within the bytes that were parsed.
-use mathlib.Core.Bool.{Bool, true, false, cond, _&&_}
-use mathlib.Core.List.{List, [], _∷_}
-use Prim.Native.Nat.{ℕ, zero, suc, _+_, _-_, _≤_}
+use mathlib.Core.Path.{_≡_, refl}
+use mathlib.Core.List.{List}
+use Prim.Native.Nat.{ℕ, _+_, _-_, _≤_}
 use native.Mathlib.Omega.{arith}
-use lib.ListN.{length, drop, length-drop}
-use lib.Dec.{leb}
-use Rattle.meaning.specs.Formulae.{Formula, symbol, neg}
-use Rattle.literals.specs.declared.refusal.Refusal.the-variants.{BadLiteral}
-use Rattle.formula.specs.Kinds.{kindOf, joined}
-use Rattle.formula.specs.Parse.{Parsed, good, bad, parse, bodyOf, symbolAt, after, secondOf}
+use lib.ListN.{length, length-drop}
+use Rattle.meaning.specs.Formulae.{Formula}
+use Rattle.literals.specs.declared.refusal.Refusal.{Refusal}
+use Rattle.formula.specs.Parse.{Parsed, good, bad, parse}
 use Rattle.formula.specs.Answers.{readOf, extent, usedOf}
-use Rattle.formula.specs.declared.reading.Join.{Join}
 use Rattle.formula.specs.declared.reading.Kind.{Kind}
-use Rattle.formula.specs.declared.reading.Kind.the-variants.{Symbol, Not, Two, Unknown}
 use Rattle.formula.proofs.Parts.{onward, onward-length}
 use Rattle.formula.proofs.Parsing.{At, first, second}
+use Rattle.formula.proofs.Steps.{Taken, one, not, two, Met, deep, short, unknown, missing, beyond, inner, left, right, taken, met}
 
-pick-extent : (b : Bool) (p q : Parsed) (n : ℕ) → extent (readOf p) ≤ n → extent (readOf q) ≤ n → extent (readOf (cond b p q)) ≤ n
-pick-extent true p q n hp hq = hp
-pick-extent false p q n hp hq = hq
+pub taken-within : {S depth used : ℕ} {bytes : List ℕ} {f : Formula} → Taken S depth bytes f used → used ≤ length bytes
+taken-within (one e fits) = omega arith
+taken-within (not e t) = omega (arith, taken-within t)
+taken-within (two {used = used} {body = body} e t u) = omega (arith, taken-within t, taken-within u, length-drop used body)
 
-symbol-extent : (S : ℕ) (body : List ℕ) → extent (readOf (symbolAt S body)) ≤ suc (length body)
-unfolding symbolAt
-symbol-extent S [] = omega arith
-symbol-extent S (s ∷ rest) = pick-extent (leb 1 s && leb s S) (good (symbol s) 2) (bad BadLiteral 1) _ (omega arith) (omega arith)
-
-after-extent : (skipped : ℕ) (wrap : Formula → Formula) (p : Parsed) (n : ℕ) → extent (readOf p) ≤ n → extent (readOf (after skipped wrap p)) ≤ skipped + n
-after-extent skipped wrap (good f used) n h = omega arith
-after-extent skipped wrap (bad why at) n h = omega arith
-
-module _ (operand : List ℕ → Parsed) (within : (l : List ℕ) → extent (readOf (operand l)) ≤ length l) where
-  second-extent : (join : Join) (body : List ℕ) (p : Parsed) → extent (readOf p) ≤ length body → extent (readOf (secondOf operand join body p)) ≤ suc (length body)
-  unfolding secondOf
-  second-extent join body (good f used) h =
-      omega (
-        arith,
-        after-extent (1 + used) (joined join f) (operand (drop used body)) (length (drop used body)) (within (drop used body)),
-        length-drop used body,
-      )
-  second-extent join body (bad why at) h = omega arith
-
-  body-extent : (S : ℕ) (kind : Kind) (body : List ℕ) → extent (readOf (bodyOf S operand kind body)) ≤ suc (length body)
-  unfolding bodyOf
-  body-extent S Symbol body = symbol-extent S body
-  body-extent S Not body = omega (arith, after-extent 1 neg (operand body) (length body) (within body))
-  body-extent S (Two join) body = second-extent join body (operand body) (within body)
-  body-extent S Unknown body = omega arith
+pub met-within : {S depth at : ℕ} {bytes : List ℕ} {why : Refusal} → Met S depth bytes why at → at ≤ length bytes
+met-within deep = omega arith
+met-within short = omega arith
+met-within (unknown e) = omega arith
+met-within (missing e) = omega arith
+met-within (beyond e fits) = omega arith
+met-within (inner e m) = omega (arith, met-within m)
+met-within (left e m) = omega (arith, met-within m)
+met-within (right {used = used} {body = body} e t m) = omega (arith, taken-within t, met-within m, length-drop used body)
 
 parse-extent : (S depth : ℕ) (bytes : List ℕ) → extent (readOf (parse S depth bytes)) ≤ length bytes
-unfolding parse
-parse-extent S zero bytes = omega arith
-parse-extent S (suc depth) [] = omega arith
-parse-extent S (suc depth) (k ∷ body) = body-extent (λ l. parse S depth l) (parse-extent S depth) S (kindOf k) body
+parse-extent S depth bytes = go (parse S depth bytes) refl
+  where
+    go : (p : Parsed) → parse S depth bytes ≡ p → extent (readOf p) ≤ length bytes
+    go (good f used) e = taken-within (taken S e)
+    go (bad why at) e = met-within (met S e)
 
 -- ---- the same of a reader's first operand, and of both
 

@@ -1,11 +1,14 @@
 -- Facts that several proofs of the crate cite, and laws of its definitions.
 pub mod Parts
 pub mod Parsing
+pub mod Steps
 pub mod Extents
 pub mod Walk
 pub mod Widening
 pub mod Alone
 pub mod Faults
+pub mod Before
+pub mod Breaking
 pub mod Values
 pub mod Marking
 pub mod Gathering

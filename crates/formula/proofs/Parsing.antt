@@ -109,11 +109,11 @@ module _ (S : ℕ) {depth : ℕ} {bytes : List ℕ} where
 
 -- ---- a reader's answer from its operands' answers
 
-answer-good : (p : Parsed) {count : ℕ} → readOf p ≡ Used count → (f : Formula) × (p ≡ good f count)
+pub answer-good : (p : Parsed) {count : ℕ} → readOf p ≡ Used count → (f : Formula) × (p ≡ good f count)
 answer-good (good f used) {count} e = let same : used ≡ count = cc in (f, ap (good f) same)
 answer-good (bad why at) e = let z : _≡_ {A = ℕ} 0 1 = cc in absurd (omega arith)
 
-answer-bad : (p : Parsed) {why : Refusal} {at : ℕ} → readOf p ≡ Refused why at → p ≡ bad why at
+pub answer-bad : (p : Parsed) {why : Refusal} {at : ℕ} → readOf p ≡ Refused why at → p ≡ bad why at
 answer-bad (good f used) e = let z : _≡_ {A = ℕ} 0 1 = cc in absurd (omega arith)
 answer-bad (bad why′ at′) {why} {at} e = let same : why′ ≡ why = cc in let there : at′ ≡ at = cc in ap₂ bad same there
 

@@ -23,28 +23,33 @@ sixteen : wholeOf 1 (replicate 16 0x11) ≡ bad TooDeep 16
 unfolding wholeOf parse bodyOf symbolAt secondOf
 sixteen = refl
 
--- the faults and their places: no byte, a missing number, a missing kind, an unknown kind, a symbol beyond 3, a byte too many
+-- where a formula breaks: no byte at all, a kind missing, a number missing, a kind that is none, a symbol that is 0 and one beyond 3, a byte
+-- too many
 empty : wholeOf 3 [] ≡ bad CutShort 0
 unfolding wholeOf parse bodyOf symbolAt secondOf
 empty = refl
-
-no-number : wholeOf 3 (0x14 ∷ 0x10 ∷ 1 ∷ 0x10 ∷ []) ≡ bad CutShort 4
-unfolding wholeOf parse bodyOf symbolAt secondOf
-no-number = refl
 
 no-kind : wholeOf 3 (0x14 ∷ 0x10 ∷ 1 ∷ []) ≡ bad CutShort 3
 unfolding wholeOf parse bodyOf symbolAt secondOf
 no-kind = refl
 
-unknown : wholeOf 3 (0x14 ∷ 0x10 ∷ 1 ∷ 0x16 ∷ []) ≡ bad UnknownKind 3
+no-number : wholeOf 3 (0x14 ∷ 0x10 ∷ 1 ∷ 0x10 ∷ []) ≡ bad CutShort 4
+unfolding wholeOf parse bodyOf symbolAt secondOf
+no-number = refl
+
+unknown : wholeOf 3 (0x12 ∷ 0x10 ∷ 1 ∷ 0x99 ∷ []) ≡ bad UnknownKind 3
 unfolding wholeOf parse bodyOf symbolAt secondOf
 unknown = refl
+
+zero : wholeOf 3 (0x13 ∷ 0x10 ∷ 1 ∷ 0x10 ∷ 0 ∷ []) ≡ bad BadLiteral 4
+unfolding wholeOf parse bodyOf symbolAt secondOf
+zero = refl
 
 beyond : wholeOf 3 (0x14 ∷ 0x10 ∷ 1 ∷ 0x10 ∷ 4 ∷ []) ≡ bad BadLiteral 4
 unfolding wholeOf parse bodyOf symbolAt secondOf
 beyond = refl
 
-too-long : wholeOf 3 (0x11 ∷ 0x10 ∷ 1 ∷ 0x10 ∷ []) ≡ bad BytesLeftOver 3
+too-long : wholeOf 3 (0x10 ∷ 1 ∷ 0x10 ∷ []) ≡ bad BytesLeftOver 2
 unfolding wholeOf parse bodyOf symbolAt secondOf
 too-long = refl
 

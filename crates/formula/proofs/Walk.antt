@@ -1,5 +1,5 @@
 -- A walk over a formula that was read: it has a level, a kind byte and good operands, and its bytes are its operands'.
--- `parse 255` takes every number that a byte can hold for a symbol's; a formula that was read for fewer S is the same there (`wider` of `Widening`).
+-- `parse 255` takes every number that a byte can hold for a symbol's; a formula that was read for fewer S is the same there (`wide` of `Widening`).
 use mathlib.Core.Path.{_≡_, refl, ap, sym, _∙_}
 use mathlib.Core.Bool.{Bool, true, false, cond, _&&_, false≢true}
 use mathlib.Core.List.{List, [], _∷_}
@@ -34,7 +34,7 @@ long (suc depth) [] e = never e
 long (suc depth) (k ∷ body) e = omega arith
 
 -- the test of a symbol's number, which a good one passed
-pub number-fits : (b : Bool) (s : ℕ) → isGood (cond b (good (symbol s) 2) (bad BadLiteral 1)) ≡ true → b ≡ true
+number-fits : (b : Bool) (s : ℕ) → isGood (cond b (good (symbol s) 2) (bad BadLiteral 1)) ≡ true → b ≡ true
 number-fits true s e = refl
 number-fits false s e = e
 

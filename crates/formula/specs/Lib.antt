@@ -2,3 +2,4 @@
 pub mod Kinds
 pub mod Parse
 pub mod Answers
+pub mod Promises

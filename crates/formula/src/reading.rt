@@ -66,10 +66,7 @@ fn read_symbol(body: &[u8], symbols: usize) -> Answer
         return Answer::Refused(Refusal::CutShort, 1);
     }
     let number = body[0] as usize;
-    if number == 0 {
-        return Answer::Refused(Refusal::BadLiteral, 1);
-    }
-    if symbols < number {
+    if number == 0 || symbols < number {
         return Answer::Refused(Refusal::BadLiteral, 1);
     }
     Answer::Used(2)

@@ -8,18 +8,20 @@ use borrow.Author.Tests.{le-ltb, lt-ltb, ltb-false, ltb-true}
 use lib.IntN.{ℤ}
 use lib.Dec.{ltb}
 use lib.ListN.{length, take, drop, getD, length-drop}
+use Rattle.literals.specs.declared.refusal.Refusal.{Refusal}
 use Rattle.literals.specs.declared.refusal.Refusal.the-variants.{CutShort}
 use Rattle.board.specs.Faults.{ifDone}
 use Rattle.board.specs.Changes.{opened, held, withdrawn}
 use Rattle.board.specs.Rules.{ruled}
 use Rattle.board.specs.Asking.{asked, explained, reasoned}
 use Rattle.board.specs.declared.Board.{Board}
+use Rattle.board.specs.declared.Change.{Change}
 use Rattle.board.specs.declared.Outcome.{Outcome}
 use Rattle.board.specs.declared.Outcome.the-variants.{Done, Refused}
 use Rattle.board.specs.declared.asking.Standing.{Standing}
 use Rattle.board.specs.declared.asking.Standing.the-variants.{Conflict, Stands, RuledOut, Open as Unsettled, Refused as Unasked}
 use Rattle.lines.specs.Text.{okWord}
-use Rattle.lines.specs.Commands.{accepted, askSaid, bodyLength, bodySaid, commandAt, commandSaid, commandTable, formulaBytes, formulaLength, literalIn, ofBytes, ofCall, reasonText, refused, rowsText, said, wordOf}
+use Rattle.lines.specs.Commands.{accepted, askSaid, bodyLength, bodySaid, changeSaid, commandAt, commandSaid, commandTable, formulaBytes, formulaLength, literalIn, ofBytes, ofCall, reasonText, refused, refusedAt, rowsText, Said, said, wordOf}
 use Rattle.lines.specs.declared.commands.Command.{Command}
 use Rattle.lines.specs.declared.commands.Command.the-variants.{Open, Rule, Hold, Drop, Ask, Why, Other}
 use Rattle.lines.proofs.Reading.{formula-most}
@@ -57,9 +59,13 @@ module _ (b : Board) (table : List ℤ) (body : List ℕ) where
 -- ---- a command takes its kind byte at least, and no byte beyond the input
 
 -- however a call ends, its command takes as many bytes
-ending-used : (o : Outcome) (b : Board) (used last : ℕ) (text : List ℕ) → ifDone o (accepted b used text) (refused b used last) .used ≡ used
-ending-used Done b used last text = refl
-ending-used (Refused why) b used last text = refl
+ending-used : (o : Outcome) (b : Board) (used : ℕ) (text : List ℕ) (other : Refusal → Said) → ((why : Refusal) → other why .used ≡ used)
+    → ifDone o (accepted b used text) other .used ≡ used
+ending-used Done b used text other h = refl
+ending-used (Refused why) b used text other h = h why
+
+change-used : (used : ℕ) (c : Change) → changeSaid used c .used ≡ used
+change-used used c = ending-used (c .outcome) (c .board) used okWord (refused (c .board) used ofCall) (λ why. refl)
 
 standing-used : (b : Board) (s : Standing) → askSaid b s .used ≡ 3
 standing-used b Conflict = refl
@@ -73,18 +79,21 @@ Within most n = (1 ≤ n) × (n ≤ 1 + most)
 
 module _ (b : Board) (table : List ℤ) (body : List ℕ) where
   body-used : (command : Command) → bodyLength command ≤ length body → Within (length body) (bodySaid b table body command .used)
-  body-used Open h = let c = opened (getD body 0 0) in rw (ending-used (c .outcome) (c .board) 2 ofCall okWord) (omega arith, omega arith)
+  body-used Open h = rw (change-used 2 (opened (getD body 0 0))) (omega arith, omega arith)
   body-used Rule h =
       let size = formulaLength (b .symbols) body in
       let a = ruled table b (formulaBytes b body) in
-      rw (ending-used (a .outcome) (a .board) (1 + size) ofBytes (rowsText (b .rows) (a .added))) (omega arith, omega (arith, formula-most (b .symbols) body))
-  body-used Hold h = let c = held table b (literalIn body) in rw (ending-used (c .outcome) (c .board) 3 ofCall okWord) (omega arith, omega arith)
-  body-used Drop h = let c = withdrawn table b (literalIn body) in rw (ending-used (c .outcome) (c .board) 3 ofCall okWord) (omega arith, omega arith)
+      let rows = rowsText (b .rows) (a .added) in
+      rw (ending-used (a .outcome) (a .board) (1 + size) rows (refusedAt (a .board) (1 + size) (a .place)) (λ why. refl))
+      (omega arith, omega (arith, formula-most (b .symbols) body))
+  body-used Hold h = rw (change-used 3 (held table b (literalIn body))) (omega arith, omega arith)
+  body-used Drop h = rw (change-used 3 (withdrawn table b (literalIn body))) (omega arith, omega arith)
   body-used Ask h = rw (standing-used b (asked table b (literalIn body))) (omega arith, omega arith)
   body-used Why h =
       let r = reasoned table b (literalIn body) in
       let s = explained table b (literalIn body) in
-      rw (ending-used (r .outcome) b 3 ofCall (reasonText (r .rank) (r .row) (take (s .stop - s .start) (drop (s .start) table)))) (omega arith, omega arith)
+      let reason = reasonText (r .rank) (r .row) (take (s .stop - s .start) (drop (s .start) table)) in
+      rw (ending-used (r .outcome) b 3 reason (refused b 3 ofCall) (λ why. refl)) (omega arith, omega arith)
   body-used Other h = (omega arith, omega arith)
 
   command-used : (command : Command) → Within (length body) (commandSaid b table body command .used)

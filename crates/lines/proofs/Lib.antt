@@ -6,5 +6,6 @@ pub mod Bodies
 pub mod Lines
 pub mod Runs
 pub mod LeftOver
+pub mod Places
 mod Printed
 mod Unique

@@ -1,10 +1,12 @@
--- The case that document 01 prints, from its hex to its eleven lines, by computing the definition.
+-- From an input's bytes to its lines, by computing the definition: the case that document 01 prints, and 02's Ticket 1, where a formula breaks.
 use mathlib.Core.Path.{_≡_, refl}
 use mathlib.Core.Bool.{false}
-use mathlib.Core.List.{List, [], _∷_, _++_}
+use mathlib.Core.List.{List, [], _∷_, _++_, map}
 use Prim.Native.Nat.{ℕ}
+use Prim.Native.Char.{code}
+use Prim.Native.String.{String, [] as ends, _∷_ as _then_}
 use lib.IntN.{pos}
-use lib.ListN.{replicate}
+use lib.ListN.{length, replicate}
 use Rattle.board.specs.declared.Board.{Board}
 use Rattle.meaning.specs.Clauses.{hit, implicate, prime, ofSize}
 use Rattle.meaning.specs.Formulae.{value, occurs, symbolsOf}
@@ -15,7 +17,7 @@ use Rattle.literals.specs.Row.{numbersAt, zeros, rising, rowSound, rowsSound, d
 use Rattle.formula.specs.Parse.{symbolAt, secondOf, bodyOf, parse, wholeOf}
 use Rattle.implicates.specs.Appending.{appended}
 use Rattle.board.specs.Faults.{goodBoard}
-use Rattle.board.specs.Changes.{openFaults, opened, held, flagFaults, flagChanged}
+use Rattle.board.specs.Changes.{openFaults, opened, flagFaults, flagChanged}
 use Rattle.board.specs.Rules.{ruleFaults, ruled, ruledTable}
 use Rattle.board.specs.Asking.{askFaults, asked, explainFaults, reasoned, explained}
 use Rattle.lines.specs.Text.{digitsOf, literalList}
@@ -24,23 +26,42 @@ use Rattle.lines.specs.Commands.{literalIn, formulaLength, commandSaid, 
 abbrev start : Board
 start = record { symbols = 0; rows = 0; held = replicate 400 false }
 
-abbrev input : List ℕ
-input = 1 ∷ 4 ∷ 2 ∷ 20 ∷ 16 ∷ 1 ∷ 16 ∷ 2 ∷ 2 ∷ 20 ∷ 18 ∷ 16 ∷ 2 ∷ 16 ∷ 3 ∷ 16 ∷ 4 ∷ 3 ∷ 1 ∷ 0 ∷ 3 ∷ 3 ∷ 0 ∷ 5 ∷ 4 ∷ 0 ∷ 6 ∷ 4 ∷ 0 ∷ 4 ∷ 1 ∷ 0 ∷ 5 ∷ 4 ∷ 0 ∷ 3 ∷ 253 ∷ 255 ∷ 5 ∷ 4 ∷ 0 ∷ []
+-- a text's characters as bytes
+abbrev bytes : String → List ℕ
+bytes ends = []
+bytes (c then rest) = code c ∷ bytes rest
 
-abbrev lines : List ℕ
-lines =
-    (49 ∷ 32 ∷ 111 ∷ 112 ∷ 101 ∷ 110 ∷ 32 ∷ 111 ∷ 107 ∷ 10 ∷ [])
-    ++ (50 ∷ 32 ∷ 114 ∷ 117 ∷ 108 ∷ 101 ∷ 32 ∷ 114 ∷ 111 ∷ 119 ∷ 115 ∷ 32 ∷ 48 ∷ 32 ∷ 49 ∷ 10 ∷ [])
-    ++ (51 ∷ 32 ∷ 114 ∷ 117 ∷ 108 ∷ 101 ∷ 32 ∷ 114 ∷ 111 ∷ 119 ∷ 115 ∷ 32 ∷ 49 ∷ 32 ∷ 49 ∷ 10 ∷ [])
-    ++ (52 ∷ 32 ∷ 104 ∷ 111 ∷ 108 ∷ 100 ∷ 32 ∷ 111 ∷ 107 ∷ 10 ∷ [])
-    ++ (53 ∷ 32 ∷ 104 ∷ 111 ∷ 108 ∷ 100 ∷ 32 ∷ 111 ∷ 107 ∷ 10 ∷ [])
-    ++ (54 ∷ 32 ∷ 97 ∷ 115 ∷ 107 ∷ 32 ∷ 115 ∷ 116 ∷ 97 ∷ 110 ∷ 100 ∷ 115 ∷ 10 ∷ [])
-    ++ (55 ∷ 32 ∷ 119 ∷ 104 ∷ 121 ∷ 32 ∷ 114 ∷ 97 ∷ 110 ∷ 107 ∷ 32 ∷ 50 ∷ 32 ∷ 114 ∷ 111 ∷ 119 ∷ 32 ∷ 49 ∷ 58 ∷ 32 ∷ 45 ∷ 50 ∷ 32 ∷ 45 ∷ 51 ∷ 32 ∷ 52 ∷ 10 ∷ [])
-    ++ (56 ∷ 32 ∷ 100 ∷ 114 ∷ 111 ∷ 112 ∷ 32 ∷ 111 ∷ 107 ∷ 10 ∷ [])
-    ++ (57 ∷ 32 ∷ 97 ∷ 115 ∷ 107 ∷ 32 ∷ 111 ∷ 112 ∷ 101 ∷ 110 ∷ 10 ∷ [])
-    ++ (49 ∷ 48 ∷ 32 ∷ 104 ∷ 111 ∷ 108 ∷ 100 ∷ 32 ∷ 111 ∷ 107 ∷ 10 ∷ [])
-    ++ (49 ∷ 49 ∷ 32 ∷ 97 ∷ 115 ∷ 107 ∷ 32 ∷ 99 ∷ 111 ∷ 110 ∷ 102 ∷ 108 ∷ 105 ∷ 99 ∷ 116 ∷ 10 ∷ [])
+record Case : Type 0 where
+  input : List ℕ
+  lines : List ℕ
 
-printed : linesOf 40 1 start (replicate 16384 (pos 0)) input ≡ lines
+abbrev document : List ℕ
+document =
+    0x01 ∷ 0x04 ∷
+    0x02 ∷ 0x14 ∷ 0x10 ∷ 0x01 ∷ 0x10 ∷ 0x02 ∷
+    0x02 ∷ 0x14 ∷ 0x12 ∷ 0x10 ∷ 0x02 ∷ 0x10 ∷ 0x03 ∷ 0x10 ∷ 0x04 ∷
+    0x03 ∷ 0x01 ∷ 0x00 ∷ 0x03 ∷ 0x03 ∷ 0x00 ∷
+    0x05 ∷ 0x04 ∷ 0x00 ∷ 0x06 ∷ 0x04 ∷ 0x00 ∷
+    0x04 ∷ 0x01 ∷ 0x00 ∷ 0x05 ∷ 0x04 ∷ 0x00 ∷
+    0x03 ∷ 0xfd ∷ 0xff ∷ 0x05 ∷ 0x04 ∷ 0x00 ∷ []
+
+abbrev cases : List Case
+cases =
+    record {
+      input = document;
+      lines =
+          bytes "1 open ok\n2 rule rows 0 1\n3 rule rows 1 1\n4 hold ok\n5 hold ok\n6 ask stands\n"
+          ++ bytes "7 why rank 2 row 1: -2 -3 4\n8 drop ok\n9 ask open\n10 hold ok\n11 ask conflict\n";
+    }
+    ∷ record { input = 0x01 ∷ 0x04 ∷ 0x02 ∷ 0x13 ∷ 0x10 ∷ 0x04 ∷ 0x10 ∷ 0x05 ∷ []; lines = bytes "1 open ok\n2 rule no 2 at 4\n" }
+    ∷ record { input = 0x01 ∷ 0x04 ∷ 0x02 ∷ []; lines = bytes "1 open ok\n2 rule no 3 at 0\n" }
+    ∷ record { input = 0x01 ∷ 0x04 ∷ 0x02 ∷ 0x14 ∷ 0x10 ∷ 0x01 ∷ 0x10 ∷ []; lines = bytes "1 open ok\n2 rule no 3 at 4\n" }
+    ∷ record { input = 0x01 ∷ 0x04 ∷ 0x02 ∷ replicate 16 0x11; lines = bytes "1 open ok\n2 rule no 5 at 16\n" }
+    ∷ record { input = 0x01 ∷ 0x04 ∷ 0x02 ∷ 0x12 ∷ 0x10 ∷ 0x01 ∷ 0x99 ∷ []; lines = bytes "1 open ok\n2 rule no 4 at 3\n" }
+    ∷ record { input = 0x01 ∷ 0x04 ∷ 0x02 ∷ 0x12 ∷ 0x10 ∷ 0x01 ∷ 0x11 ∷ 0x10 ∷ 0x01 ∷ []; lines = bytes "1 open ok\n2 rule no 8\n" }
+    ∷ record { input = 0x01 ∷ 0x04 ∷ 0x03 ∷ 0x05 ∷ 0x00 ∷ []; lines = bytes "1 open ok\n2 hold no 2\n" }
+    ∷ []
+
+printed : map (λ (c : Case). linesOf (length (c .input)) 1 start (replicate 16384 (pos 0)) (c .input)) cases ≡ map (λ (c : Case). c .lines) cases
 unfolding hit implicate prime ofSize value occurs symbolsOf opp gives next reached rankBy firstGiver supportAt supportOf rankAbove placeOf literalAt numbersAt zeros rising rowSound rowsSound decode rowsIn encode symbolAt secondOf bodyOf parse wholeOf appended goodBoard openFaults opened flagFaults flagChanged ruleFaults ruled ruledTable askFaults asked explainFaults reasoned explained digitsOf literalList literalIn formulaLength commandSaid commandTable said saidTable linesOf
 printed = refl

@@ -12,7 +12,7 @@ use Rattle.literals.specs.declared.refusal.Refusal.the-variants.{CutShort, Unkn
 use Rattle.formula.specs.Parse.{Parsed, good, bad, levels, parse}
 use Rattle.board.specs.Faults.{ifDone}
 use Rattle.board.specs.Changes.{opened, held, withdrawn}
-use Rattle.board.specs.Rules.{ruled, ruledTable}
+use Rattle.board.specs.Rules.{hasPlace, ruled, ruledTable}
 use Rattle.board.specs.Asking.{asked, reasoned, explained}
 use Rattle.board.specs.declared.Board.{Board}
 use Rattle.board.specs.declared.Change.{Change}
@@ -22,7 +22,7 @@ use Rattle.board.specs.declared.asking.Standing.the-variants.{Conflict, Stands,
 use Rattle.lines.specs.declared.commands.Command.{Command}
 use Rattle.lines.specs.declared.commands.Command.the-variants.{Open, Rule, Hold, Drop, Ask, Why, Other}
 use Rattle.lines.specs.declared.saying.Progress.{Progress}
-use Rattle.lines.specs.Text.{Put, natural, literalList, openWord, ruleWord, holdWord, dropWord, askWord, whyWord, kindWord, okWord, noWord, rowsWord, standsWord, outWord, conflictWord, rankWord, rowWord, space, colon, lineEnd}
+use Rattle.lines.specs.Text.{Put, natural, literalList, openWord, ruleWord, holdWord, dropWord, askWord, whyWord, kindWord, okWord, noWord, atWord, rowsWord, standsWord, outWord, conflictWord, rankWord, rowWord, space, colon, lineEnd}
 
 -- ---- the commands
 
@@ -126,9 +126,18 @@ formulaBytes b body = take (formulaLength (b .symbols) body) body
 abbrev pub rowsText : (before added : ℕ) → List ℕ
 rowsText before added = (rowsWord ++ natural before) ++ (space ++ natural added)
 
+-- 02, Ticket 1: "the journal line (`no 3 at 7` ..)", for the refusals of a rule that have a place: 2 to 5, since 6 can't come up here
+abbrev pub placeText : Refusal → (place : ℕ) → List ℕ
+placeText why place = cond (hasPlace (numberOf why)) (atWord ++ natural place) []
+
+abbrev pub refusedAt : Board → (used place : ℕ) → Refusal → Said
+refusedAt b used place why =
+    let s = refused b used ofBytes why in
+    record { text = s .text ++ placeText why place; board = s .board; used = s .used; stops = s .stops }
+
 abbrev pub ruleSaid : (before used : ℕ) → Addition → Said
 ruleSaid before used a =
-    ifDone (a .outcome) (accepted (a .board) used (rowsText before (a .added))) (refused (a .board) used ofBytes)
+    ifDone (a .outcome) (accepted (a .board) used (rowsText before (a .added))) (refusedAt (a .board) used (a .place))
 
 -- each command, its own body whole
 abbrev pub bodySaid : Board → List ℤ → List ℕ → Command → Said

@@ -54,6 +54,9 @@ okWord = 32 ∷ 111 ∷ 107 ∷ []
 abbrev pub noWord : List ℕ
 noWord = 32 ∷ 110 ∷ 111 ∷ 32 ∷ []
 
+abbrev pub atWord : List ℕ
+atWord = 32 ∷ 97 ∷ 116 ∷ 32 ∷ []
+
 abbrev pub rowsWord : List ℕ
 rowsWord = 32 ∷ 114 ∷ 111 ∷ 119 ∷ 115 ∷ 32 ∷ []
 

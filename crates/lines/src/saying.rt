@@ -4,7 +4,7 @@ ghost use mathlib.Core.Path.{_≡_};
 ghost use Prim.Native.Nat.{_+_, _≤_};
 ghost use lib.ListN.{length};
 ghost use Rattle.lines.specs.Text.{Put};
-ghost use Rattle.lines.specs.Commands.{accepted, askSaid, bodyLength, bodySaid, changeSaid, commandSaid, commandTable, Did, reasonText, refused, rowsText, ruleSaid, said, saidTable, whySaid, wordOf};
+ghost use Rattle.lines.specs.Commands.{accepted, askSaid, bodyLength, bodySaid, changeSaid, commandSaid, commandTable, Did, placeText, reasonText, refused, refusedAt, rowsText, ruleSaid, said, saidTable, whySaid, wordOf};
 use crate::commands::Command;
 use crate::commands::body_length;
 use crate::commands::command_of;
@@ -94,7 +94,7 @@ fn accept(board: Board, used: usize, word: &[u8], out: &mut [u8], at: usize) -> 
 fn refuse(board: Board, used: usize, last: u8, why: Refusal, out: &mut [u8], at: usize) -> Progress
     requires { ⌜ at + 128 ≤ length (now out) ⌝ }
     ensures { λ r. ⌜ Did (refused board used last why) r (now (out .entry)) (now (out .exit)) at ⌝ }
-    ensures { λ r. ⌜ r .written ≤ at + 128 ⌝ }
+    ensures { λ r. ⌜ r .written ≤ at + 24 ⌝ }
 {
     let number = literals::refusal::number(why);
     let written = put_named(out, at, b" no ", number as usize);
@@ -157,6 +157,40 @@ fn say_why(board: Board, table: &[i16], l: i16, out: &mut [u8], at: usize) -> Pr
     }
 }
 
+// Writes the place where a formula breaks, for the refusals that have one.
+fn put_place(out: &mut [u8], at: usize, why: Refusal, place: usize) -> usize
+    requires { ⌜ at + 24 ≤ length (now out) ⌝ }
+    ensures { λ r. ⌜ Put (now (out .entry)) (now (out .exit)) at (placeText why place) r ⌝ }
+    ensures { λ r. ⌜ r ≤ at + 24 ⌝ }
+{
+    let number = literals::refusal::number(why);
+    if number < 2 {
+        return at;
+    }
+    if 6 < number {
+        return at;
+    }
+    put_named(out, at, b" at ", place)
+}
+
+// A rule that is refused.
+fn refuse_at(
+    board: Board,
+    used: usize,
+    place: usize,
+    why: Refusal,
+    out: &mut [u8],
+    at: usize,
+) -> Progress
+    requires { ⌜ at + 128 ≤ length (now out) ⌝ }
+    ensures { λ r. ⌜ Did (refusedAt board used place why) r (now (out .entry)) (now (out .exit)) at ⌝ }
+    ensures { λ r. ⌜ r .written ≤ at + 128 ⌝ }
+{
+    let told = refuse(board, used, OF_BYTES, why, out, at);
+    let written = put_place(out, told.written, why, place);
+    Progress { written, ..told }
+}
+
 // A rule, added or refused, on a board that had `before` rows.
 fn say_addition(
     before: usize,
@@ -172,7 +206,7 @@ fn say_addition(
     let outcome = addition.outcome;
     let board = addition.board;
     match outcome {
-        Outcome::Refused(why) => refuse(board, used, OF_BYTES, why, out, at),
+        Outcome::Refused(why) => refuse_at(board, used, addition.place, why, out, at),
         Outcome::Done => {
             let written = put_rows(out, at, before, addition.added);
             Progress {

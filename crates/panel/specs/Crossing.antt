@@ -43,7 +43,8 @@ abbrev pub changeOut : PanelBoard → Change → PanelChange
 changeOut given c = record { refusal = numberIn (c .outcome); board = nextOut given (c .outcome) (c .board) }
 
 abbrev pub additionOut : PanelBoard → Addition → PanelAddition
-additionOut given a = record { refusal = numberIn (a .outcome); added = a .added; board = nextOut given (a .outcome) (a .board) }
+additionOut given a =
+    record { refusal = numberIn (a .outcome); place = a .place; added = a .added; board = nextOut given (a .outcome) (a .board) }
 
 -- the header's numbers for how a literal stands: 0 open, 1 stands, 2 ruled out, 3 conflict; 0 where refused
 abbrev pub answerOut : Standing → PanelAnswer

@@ -111,6 +111,7 @@ pub fn addition_out(given: PanelBoard, addition: Addition) -> PanelAddition
     let next = addition.board;
     PanelAddition {
         refusal: number_of(outcome),
+        place: addition.place,
         added: addition.added as u16,
         board: next_board(given, outcome, next),
     }

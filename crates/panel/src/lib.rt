@@ -37,6 +37,7 @@ pub struct PanelChange {
 #[repr(C)]
 pub struct PanelAddition {
     pub refusal: u8,
+    pub place: usize,
     pub added: u16,
     pub board: PanelBoard,
 }

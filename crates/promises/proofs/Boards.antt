@@ -17,7 +17,7 @@ use Rattle.formula.specs.Parse.{symbolAt, secondOf, bodyOf, parse, wholeOf}
 use Rattle.implicates.specs.Appending.{appended}
 use Rattle.board.specs.Faults.{goodBoard, numberIn}
 use Rattle.board.specs.Changes.{openFaults, opened, emptyBoard, flagFaults, flagChanged}
-use Rattle.board.specs.Rules.{ruleFaults, ruled, ruledTable}
+use Rattle.board.specs.Rules.{noPlace, ruleFaults, ruled, ruledTable}
 use Rattle.board.specs.Settling.{settleFaults, settleOutcome, settledLabels}
 use Rattle.board.specs.Asking.{askFaults, asked, explainFaults, reasoned}
 use Rattle.board.specs.Grounds.{blameFaults, blameOutcome, blameMarks}
@@ -31,6 +31,8 @@ use Rattle.promises.specs.Demands.{rowsOfWorld}
 data Question : Type 0 where
   -- the number of the refusal of one call more
   refusal : Call → Question
+  -- where a formula breaks, added as a rule
+  breaks : List ℕ → Question
   -- the rows in use
   rows : Question
   -- the labels that settle writes
@@ -43,6 +45,7 @@ data Question : Type 0 where
 
 data Answer : Type 0 where
   number : ℕ → Answer
+  refused-at : (refusal place : ℕ) → Answer
   appended-rows : List (List ℕ) → Answer
   bytes : List ℕ → Answer
   standing : Standing → Answer
@@ -63,6 +66,7 @@ blank n = replicate n 9
 
 tell : World → Question → Answer
 tell w (refusal c) = number (numberIn (outcome w c))
+tell w (breaks formula) = let a = ruled (w .table) (w .board) formula in refused-at (numberIn (a .outcome)) (a .place)
 tell w rows = appended-rows (rowsOfWorld w)
 tell w labels =
     let S = w .board .symbols in bytes (settledLabels (w .table) (w .board) (blank S) (blank (2 * S)) (blank (2 * S)))
@@ -98,7 +102,7 @@ otherwise = rule (0x14 ∷ 0x11 ∷ 0x10 ∷ 1 ∷ 0x10 ∷ 2 ∷ [])
 abbrev back : Call
 back = rule (0x14 ∷ 0x10 ∷ 2 ∷ 0x10 ∷ 1 ∷ [])
 
--- Quoted from 01.
+-- Quoted from 01; the sentence on places from 02, Ticket 1.
 abbrev boards : List (List Call × List (Question × Answer))
 boards =
     -- "1 and not 1: refusal 8. 1 or not 1: no row."
@@ -133,6 +137,20 @@ boards =
       opens 3 ∷ hold (pos 3) ∷ hold (negsuc 2) ∷ [],
       (labels, bytes (0 ∷ 0 ∷ 3 ∷ [])) ∷ (ask (pos 1), standing Conflict) ∷ (marks, bytes (0 ∷ 0 ∷ 0 ∷ 0 ∷ 1 ∷ 1 ∷ [])) ∷ [],
     )
+    -- "where the operand was due for 4 and 5, of the symbol's number for 2, of the missing byte for 3, of the first byte too many for 6";
+    -- none for 8, and for 1 on a board that is not opened
+    ∷ (
+      opens 3 ∷ [],
+      (breaks (replicate 16 0x11), refused-at 5 16)
+          ∷ (breaks (0x14 ∷ 0x10 ∷ 1 ∷ 0x10 ∷ []), refused-at 3 4)
+          ∷ (breaks (0x12 ∷ 0x10 ∷ 1 ∷ 0x99 ∷ []), refused-at 4 3)
+          ∷ (breaks (0x13 ∷ 0x10 ∷ 1 ∷ 0x10 ∷ 0 ∷ []), refused-at 2 4)
+          ∷ (breaks (0x10 ∷ 1 ∷ 0x10 ∷ []), refused-at 6 2)
+          ∷ (breaks [], refused-at 3 0)
+          ∷ (breaks (0x12 ∷ 0x10 ∷ 1 ∷ 0x11 ∷ 0x10 ∷ 1 ∷ []), refused-at 8 noPlace)
+          ∷ [],
+    )
+    ∷ ([], (breaks (0x99 ∷ []), refused-at 1 noPlace) ∷ [])
     ∷ []
 
 -- what the calls answer, one after the other: 0 for each that is done

@@ -5,6 +5,7 @@ pub mod Changes
 mod Lent
 mod Tested
 pub mod Stored
+pub mod Places
 pub mod Told
 pub mod Explained
 mod History

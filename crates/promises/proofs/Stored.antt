@@ -19,7 +19,7 @@ use Rattle.literals.proofs.Encoding.{length-encode, decode-encode}
 use Rattle.implicates.specs.Appending.{encodeAll, appended}
 use Rattle.implicates.proofs.Appending.{length-encodeAll}
 use Rattle.board.specs.Faults.{firstFault}
-use Rattle.board.specs.Rules.{withRows, ruled, ruledTable}
+use Rattle.board.specs.Rules.{noPlace, withRows, ruled, ruledTable}
 use Rattle.board.specs.declared.Board.{Board}
 use Rattle.board.specs.declared.Outcome.the-variants.{Done}
 use Rattle.board.specs.declared.rules.Addition.{Addition}
@@ -123,7 +123,8 @@ module _ (w : World) (lent : ℕ) (bytes : List ℕ) (e : outcome w (adds lent b
   unfolding after faults ruledTable
   table-is = rw done
 
-  board-is : ruled (front w lent) (w .board) bytes ≡ record { outcome = Done; added = length new; board = withRows (w .board) (length new) }
+  board-is : ruled (front w lent) (w .board) bytes
+      ≡ record { outcome = Done; place = noPlace; added = length new; board = withRows (w .board) (length new) }
   unfolding faults ruled
   board-is = rw done
 

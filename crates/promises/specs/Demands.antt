@@ -1,6 +1,6 @@
--- The three demands, each as a type. `proofs/` has a proof of each, under the same name in small letters.
+-- The three demands, and what document 02 adds to them, each as a type. `proofs/` has a proof of each, under the same name in small letters.
 use mathlib.Core.Path.{_≡_}
-use mathlib.Core.Logic.{_↔_, _≢_}
+use mathlib.Core.Logic.{_↔_, _≢_, _⊎_}
 use mathlib.Core.Bool.{Bool, true, false, cond, _&&_}
 use mathlib.Core.List.{List, [], _∷_, _++_, map, List·Memᴰ as In}
 use Prim.Native.Nat.{ℕ, _+_, _-_, _*_, _≤_, _<_}
@@ -19,9 +19,10 @@ use Rattle.literals.specs.Literal.{placeOf}
 use Rattle.literals.specs.Row.{width, decode}
 use Rattle.literals.specs.Refusals.{numberOf}
 use Rattle.literals.specs.declared.refusal.Refusal.{Refusal}
+use Rattle.formula.specs.Promises.{Breaks}
 use Rattle.board.specs.Faults.{Fault, numberIn, goodBoard}
 use Rattle.board.specs.Changes.{emptyBoard, withFlag}
-use Rattle.board.specs.Rules.{ruled}
+use Rattle.board.specs.Rules.{noPlace, ruled}
 use Rattle.board.specs.Settling.{settledLabels, settledRanks, settledSupports}
 use Rattle.board.specs.Ranking.{rowsOn}
 use Rattle.board.specs.Asking.{derivedOn, rankOn, supportOn, asked, standing, reasoned, explained}
@@ -79,6 +80,18 @@ pub record HandedBack (w : World) (lent : ℕ) (why : Refusal) : Type 0 where
 
 abbrev pub RefusedHandsBack : Type 0
 RefusedHandsBack = (w : World) (lent : ℕ) (why : Refusal) → HandedBack w lent why
+
+-- 02, Ticket 1: "Refusals 2 to 6 for a rule shall also give the byte place": the formula breaks there and not before,
+abbrev pub RuleBreaks : Type 0
+RuleBreaks =
+    (w : World) (lent : ℕ) (bytes : List ℕ) (why : Refusal) → outcome w (adds lent bytes) ≡ Refused why → 2 ≤ numberOf why → numberOf why ≤ 6
+    → Breaks (w .board .symbols) bytes why (ruled (front w lent) (w .board) bytes .place)
+
+-- and every other answer has no place
+abbrev pub NoPlaceElse : Type 0
+NoPlaceElse =
+    (w : World) (lent : ℕ) (bytes : List ℕ) → let number = numberIn (outcome w (adds lent bytes)) in
+    (number < 2) ⊎ (6 < number) → ruled (front w lent) (w .board) bytes .place ≡ noPlace
 
 -- ---- demand 2: what the calls leave
 

@@ -32,7 +32,7 @@ fn added(before: Board, told: Addition, places: usize, table: &[i16]) {
     let next = told.board;
     match outcome {
         Outcome::Refused(why) => {
-            printing::refused_with(why, places == 0 && same_board(before, next));
+            printing::rule_refused(why, told.place, places == 0 && same_board(before, next));
         }
         Outcome::Done => {
             counted(b" rows", before.rows);

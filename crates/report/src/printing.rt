@@ -3,6 +3,7 @@
 ghost use Prim.Native.Nat.{_<_};
 use board::Board;
 use board::Outcome;
+use board::rules::NO_PLACE;
 use libc::STDOUT_FILENO;
 use literals::refusal::Refusal;
 use rounds::NONE;
@@ -156,12 +157,26 @@ pub fn outcome(o: Outcome) {
     }
 }
 
-// Why a call was refused, and whether it left everything as it was.
-pub fn refused_with(why: Refusal, same: bool) {
-    refused(why);
+// Whether a refused call left everything as it was.
+fn left(same: bool) {
     if same {
         text(b", as given");
     } else {
         text(b", changed");
     }
+}
+
+// Why a call was refused, and whether it left everything as it was.
+pub fn refused_with(why: Refusal, same: bool) {
+    refused(why);
+    left(same);
+}
+
+// The same of a rule, with the place where its formula breaks, if it does.
+pub fn rule_refused(why: Refusal, place: usize, same: bool) {
+    refused(why);
+    if place != NO_PLACE {
+        counted(b" at", place);
+    }
+    left(same);
 }

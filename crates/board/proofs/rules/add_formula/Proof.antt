@@ -1,6 +1,6 @@
 -- `rules::add_formula` meets its contract: what it tests are the last three faults of `ruleFaults`, in their order.
 use borrow.Author.Needs.{needs}
-use mathlib.Core.Path.{_≡_, sym, ap, _∙_}
+use mathlib.Core.Path.{_≡_, refl, sym, ap, _∙_}
 use mathlib.Core.Bool.{true}
 use Prim.Native.Nat.{_+_}
 use native.Mathlib.Omega.{arith}
@@ -68,7 +68,7 @@ returns c =
     let n = c .before .before .before in
     let s = n .before .before in
     let many = too-many (s .args .board .symbols) (read s) (s .pre .1) (names n) (not-true _ (c .before .if1 .taken)) in
-    let all = rule-refused (s .args .table .now) (s .args .board) (s .args .bytes .now) TooManySymbols (rw (s .pre .0, s .pre .1, many)) in
+    let all = rule-refused (s .args .table .now) (s .args .board) (s .args .bytes .now) TooManySymbols (rw (s .pre .0, s .pre .1, many)) refl in
     (c .refused .ensures ∙ all .0, all .1)
 
 array-share-prefix-list : tie.Need-array-share-prefix-list
@@ -102,7 +102,7 @@ returns-2 c =
     let b = s .args .board in
     let table = s .args .table .now in
     let r = because (rule s) (b .rows) (rowsLent table) (told a ∙ t .enum-told .given .1) in
-    let all = rule-refused table b (s .args .bytes .now) NoAssignment (rw (s .pre .0, s .pre .1, few e, r)) in
+    let all = rule-refused table b (s .args .bytes .now) NoAssignment (rw (s .pre .0, s .pre .1, few e, r)) refl in
     (c .refused2 .ensures ∙ all .0, after a ∙ sym (told-unsatisfiable (rule s) (b .rows) (rowsLent table) table r .1) ∙ all .1)
 
 returns-3 : tie.Need-returns-3
@@ -115,7 +115,7 @@ returns-3 c =
     let b = s .args .board in
     let table = s .args .table .now in
     let r = because (rule s) (b .rows) (rowsLent table) (told a ∙ t .enum-told2 .given .1) in
-    let all = rule-refused table b (s .args .bytes .now) TableFull (rw (s .pre .0, s .pre .1, few e, r .0, r .1)) in
+    let all = rule-refused table b (s .args .bytes .now) TableFull (rw (s .pre .0, s .pre .1, few e, r .0, r .1)) refl in
     (c .refused3 .ensures ∙ all .0, after a ∙ sym (told-full (rule s) (b .rows) (rowsLent table) table (r .0) (leb-false _ _ (r .1)) .1) ∙ all .1)
 
 returns-4 : tie.Need-returns-4

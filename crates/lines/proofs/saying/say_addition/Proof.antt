@@ -5,7 +5,7 @@ use Rattle.lines.proofs.saying.say_addition.Statement.{statement}
 use Rattle.lines.proofs.saying.say_addition.Tie as tie
 
 returns : tie.Need-returns
-returns c = rw (c .before .before .before .before .before .outcome .given .1) (c .before .before .refuse .ensures)
+returns c = rw (c .before .before .before .before .before .outcome .given .1) (c .before .before .refuse-at .ensures)
 
 returns-2 : tie.Need-returns-2
 returns-2 c =

@@ -84,7 +84,7 @@ returns-7 : tie.Need-returns-7
 unfolding commandTable
 returns-7 c =
     let y = c .before .before in
-    rw (y .before .before .enum-told7 .given .1) (y .refuse .ensures .0, (refl, y .refuse .ensures .1))
+    rw (y .before .before .enum-told7 .given .1) (y .refuse .ensures .0, (refl, omega (arith, y .refuse .ensures .1)))
 
 pub say-body-spec : {M : Type 1} → statement M
 say-body-spec =

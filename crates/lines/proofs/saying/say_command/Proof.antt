@@ -1,5 +1,6 @@
 -- `lines::saying::say_command` meets its contract: the body is cut short, or whole.
 use borrow.Author.Needs.{needs}
+use native.Mathlib.Omega.{arith}
 use Rattle.lines.proofs.Bodies.{cut-said, cut-table, whole-said}
 use Rattle.lines.proofs.saying.say_command.Statement.{statement}
 use Rattle.lines.proofs.saying.say_command.Tie as tie
@@ -10,7 +11,9 @@ returns c =
     let t = y .before .before in
     let a = t .before .before .before .before .args in
     let h = rw (t .before .body-length .ensures) at (t .if1 .taken) in
-    (rw (cut-said (a .board) (a .table .now) (a .body .now) (a .command) h) (y .refuse .ensures .0), (cut-table (a .board) (a .table .now) (a .body .now) (a .command) h, y .refuse .ensures .1))
+    let e = y .refuse .ensures in
+    let table = cut-table (a .board) (a .table .now) (a .body .now) (a .command) h in
+    (rw (cut-said (a .board) (a .table .now) (a .body .now) (a .command) h) (e .0), (table, omega (arith, e .1)))
 
 returns-2 : tie.Need-returns-2
 returns-2 c =

@@ -1,5 +1,6 @@
 -- `lines::saying::say_standing` meets its contract: by the standing.
 use borrow.Author.Needs.{needs}
+use native.Mathlib.Omega.{arith}
 use Rattle.lines.proofs.saying.say_standing.Statement.{statement}
 use Rattle.lines.proofs.saying.say_standing.Tie as tie
 
@@ -16,7 +17,9 @@ returns-4 : tie.Need-returns-4
 returns-4 c = rw (c .before .before .before .before .before .enum-told4 .given .1) (c .before .before .accept4 .ensures)
 
 returns-5 : tie.Need-returns-5
-returns-5 c = rw (c .before .before .before .before .before .standing .given .1) (c .before .before .refuse .ensures)
+returns-5 c =
+    let e = c .before .before .refuse .ensures in
+    rw (c .before .before .before .before .before .standing .given .1) (e .0, omega (arith, e .1))
 
 pub say-standing-spec : {M : Type 1} → statement M
 say-standing-spec =

@@ -40,7 +40,8 @@ put-reason-requires c κs =
 returns : tie.Need-returns
 returns c =
     let o = c .before .before .before .before .before in
-    rw (ap (λ (r : Reason). r .outcome) (sym (numbers (o .before .before))) ∙ o .outcome .given .1) (c .before .before .refuse .ensures)
+    let e = c .before .before .refuse .ensures in
+    rw (ap (λ (r : Reason). r .outcome) (sym (numbers (o .before .before))) ∙ o .outcome .given .1) (e .0, omega (arith, e .1))
 
 returns-2 : tie.Need-returns-2
 returns-2 c =
