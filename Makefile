@@ -37,12 +37,12 @@ install: $(ARCHIVE)
 	install -d $(DEST)/include $(DEST)/lib/pkgconfig
 	install -m 644 include/tupahineka.h $(DEST)/include/
 	install -m 644 $(ARCHIVE) $(DEST)/lib/
-	printf '%s\n' 'prefix=$(PREFIX)' 'Name: tupahineka' 'Description: A proved truth-maintenance board' 'Version: 2.0' \
+	printf '%s\n' 'prefix=$(PREFIX)' 'Name: tupahineka' 'Description: A proved truth-maintenance board' 'Version: 2.1' \
 	    'Cflags: -I$${prefix}/include' 'Libs: -L$${prefix}/lib -lpanel' >$(DEST)/lib/pkgconfig/tupahineka.pc
 
 target/trend: examples/trend.c
 target/second: $(wildcard second/*.c second/*.h)
-target/bench: bench/bench.c bench/plain.c bench/plain.h
+target/bench: $(wildcard bench/*.c bench/*.h)
 target/trend target/second target/bench: include/tupahineka.h $(ARCHIVE)
 	@$(KIT) build_c $@ $(filter %.c,$^)
 

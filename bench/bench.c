@@ -1,8 +1,10 @@
-/* The measure: settle, ask, rule and ground through the library, against the same four by hand in plain C (bench/plain.c).
+/* The measure: settle, ask, rule, ground, and DIMACS text in and out through the library, against the same by hand in plain C (bench/plain.c and
+ * bench/dimacs.c).
  *
  * Both sides in one program, one process, same inputs, same outputs (compared first), calls by the same kind of pointer.
  * A figure is the best of several runs, the sides taking turns within each run; times are the processor's, not the wall's.
- * "noting" is plain.c's settle with each support noted in its round, where "plain" searches for it as it is defined. */
+ * "other" is another way in plain C: settle with each support noted in its round, where "plain" searches for it as it is defined; reading in one
+ * pass with the rows kept aside, where "plain" tests the text in a pass of its own. */
 #define _POSIX_C_SOURCE 200809L
 #include <math.h>
 #include <stdbool.h>
@@ -14,27 +16,31 @@
 #include "plain.h"
 
 enum { WIDTH = TUP_ROW_WIDTH, NUMBERS = TUP_MOST_ROWS * WIDTH, RUNS = 15, SIDES = 3, BATCH_NS = 4000000 };
-enum { SETTLE, ASK, RULE, GROUND, CALLS };
+enum { SETTLE, ASK, RULE, GROUND, READ, WRITE, CALLS };
 
 typedef struct side {
     uint8_t (*settle)(tup_board, const int16_t *, size_t, uint8_t *, size_t, uint16_t *, size_t, uint16_t *, size_t);
     tup_answer (*ask)(tup_board, const int16_t *, size_t, int16_t);
     tup_addition (*rule)(tup_board, int16_t *, size_t, const uint8_t *, size_t);
     uint8_t (*ground)(tup_board, const int16_t *, size_t, int16_t, uint8_t *, size_t);
+    tup_reading (*read)(tup_board, int16_t *, size_t, const uint8_t *, size_t);
+    tup_writing (*write)(tup_board, const int16_t *, size_t, uint8_t *, size_t);
 } side;
 
-static const side sides[SIDES] = {{tup_settle, tup_ask, tup_rule, tup_ground},
-                                  {plain_settle, plain_ask, plain_rule, plain_ground},
-                                  {plain_settle_noting, NULL, NULL, NULL}};
-static const char *const call_words[CALLS] = {"settle", "ask", "rule", "ground"};
+static const side sides[SIDES] = {{tup_settle, tup_ask, tup_rule, tup_ground, tup_read_dimacs, tup_write_dimacs},
+                                  {plain_settle, plain_ask, plain_rule, plain_ground, plain_read_dimacs, plain_write_dimacs},
+                                  {plain_settle_noting, NULL, NULL, NULL, plain_read_dimacs_once, NULL}};
+static const char *const call_words[CALLS] = {"settle", "ask", "rule", "ground", "read", "write"};
 
-/* What a call is given: a board, its table, a literal, a formula. */
+/* What a call is given: a board, its table, a literal, a formula, a text. */
 typedef struct setting {
     tup_board board;
     int16_t table[NUMBERS];
     int16_t literal;
     const uint8_t *formula;
     size_t bytes;
+    uint8_t text[TUP_MOST_TEXT];
+    size_t text_bytes;
 } setting;
 
 /* All that calls write, and what is compared of what they return. */
@@ -42,6 +48,10 @@ typedef struct outputs {
     uint8_t labels[TUP_MOST_SYMBOLS], marks[TUP_PLACES];
     uint16_t ranks[TUP_PLACES], supports[TUP_PLACES];
     int16_t table[NUMBERS];
+    uint8_t text[TUP_MOST_TEXT];
+    tup_board board;
+    uint8_t refusal;
+    uint16_t clauses;
     size_t place;
     unsigned result;
 } outputs;
@@ -143,6 +153,22 @@ static void parity_rule(void) {
     now.bytes = sizeof parity;
 }
 
+/* The rows of the board as text, and an empty board to read it onto. */
+static void as_text(void) {
+    now.text_bytes = plain_write_dimacs(now.board, now.table, NUMBERS, now.text, sizeof now.text).bytes;
+    unsigned symbols = now.board.symbols;
+    memset(&now.board, 0, sizeof now.board);
+    now.board.symbols = (uint16_t)symbols;
+    memset(now.table, 0, sizeof now.table);
+}
+
+/* The text of so many rows of 2 to 4 literals. */
+static void text_of(unsigned rows) {
+    start(200);
+    while (now.board.rows < rows) add_random_row(1, 2 + draw(3));
+    as_text();
+}
+
 /* ---- Measuring ---- */
 
 /* The processor's time so far. */
@@ -158,6 +184,14 @@ static unsigned made_rule(tup_addition addition, outputs *out) {
     return addition.added;
 }
 
+/* Notes the whole answer of a reading; the rows that it added. */
+static unsigned made_reading(tup_reading reading, outputs *out) {
+    out->refusal = reading.refusal;
+    out->clauses = reading.clauses;
+    out->board = reading.board;
+    return reading.added;
+}
+
 /* Makes one call on one side. */
 static unsigned make(const side *with, unsigned call, outputs *out, int16_t *table) {
     switch (call) {
@@ -165,13 +199,20 @@ static unsigned make(const side *with, unsigned call, outputs *out, int16_t *tab
         return with->settle(now.board, table, NUMBERS, out->labels, sizeof out->labels, out->ranks, TUP_PLACES, out->supports, TUP_PLACES);
     case ASK: return with->ask(now.board, table, NUMBERS, now.literal).standing;
     case RULE: return made_rule(with->rule(now.board, table, NUMBERS, now.formula, now.bytes), out);
+    case READ: return made_reading(with->read(now.board, table, NUMBERS, now.text, now.text_bytes), out);
+    case WRITE: return (unsigned)with->write(now.board, table, NUMBERS, out->text, sizeof out->text).bytes;
     default: return with->ground(now.board, table, NUMBERS, now.literal, out->marks, sizeof out->marks);
     }
 }
 
 /* True if the side has the call. */
 static bool has(const side *with, unsigned call) {
-    return call == SETTLE || with->ask != NULL;
+    switch (call) {
+    case SETTLE: return true;
+    case READ: return with->read != NULL;
+    case WRITE: return with->write != NULL;
+    default: return with->ask != NULL;
+    }
 }
 
 /* Ends the program if a side writes or returns anything else than the library. */
@@ -224,7 +265,7 @@ static void print_call(const char *board, unsigned call) {
     double best[SIDES];
     measure(call, best);
     printf("%-28s%-8s%14.1f%14.1f%9.2f", board, call_words[call], best[0], best[1], best[0] / best[1]);
-    if (call == SETTLE) printf("%14.1f%9.2f", best[2], best[0] / best[2]);
+    if (has(&sides[2], call)) printf("%14.1f%9.2f", best[2], best[0] / best[2]);
     printf("\n");
 }
 
@@ -237,7 +278,7 @@ static void print_readers(const char *board) {
 
 /* The table of calls. */
 static void print_calls(void) {
-    printf("%-28s%-8s%14s%14s%9s%14s%9s\n", "ns per call", "call", "library", "plain", "ratio", "noting", "ratio");
+    printf("%-28s%-8s%14s%14s%9s%14s%9s\n", "ns per call", "call", "library", "plain", "ratio", "other", "ratio");
     full_board(false), print_readers("full, 2,048 rows of 2 to 4");
     full_board(true), print_call("full but for one row", RULE);
     chain(200), print_readers("chain of 200"), print_call("chain of 200", RULE);
@@ -245,6 +286,22 @@ static void print_calls(void) {
     long_rows(true), print_call("2,047 rows of 8", RULE);
     parity_rule(), print_call("parity of 8 symbols", RULE);
     empty_board(), print_readers("empty, 200 symbols"), print_call("empty, 200 symbols", RULE);
+    full_board(false), print_call("full, 2,048 rows of 2 to 4", WRITE), as_text(), print_call("text of 2,048 of 2 to 4", READ);
+    long_rows(false), print_call("2,048 rows of 8", WRITE), as_text(), print_call("text of 2,048 of 8", READ);
+}
+
+/* The table of reading by bytes: linear where the time of a byte stays as it is. */
+static void print_bytes(void) {
+    printf("\nread by bytes of the text: ns, and ns a byte\n");
+    printf("%8s%8s%14s%9s%14s%9s%14s%9s\n", "rows", "bytes", "library", "", "plain", "", "other", "");
+    for (unsigned rows = 256; rows <= TUP_MOST_ROWS; rows *= 2) {
+        double best[SIDES];
+        text_of(rows);
+        measure(READ, best);
+        printf("%8u%8zu", rows, now.text_bytes);
+        for (unsigned s = 0; s < SIDES; s++) printf("%14.1f%9.3f", best[s], best[s] / (double)now.text_bytes);
+        printf("\n");
+    }
 }
 
 /* Prints one line of growth: the times, and the exponent since the line before. */
@@ -265,10 +322,10 @@ static void print_growth(unsigned size, unsigned before, double last[SIDES]) {
 static void print_growths(void) {
     double last[SIDES];
     printf("\nsettle by rows, nine rounds: ns, and the exponent since the line before\n");
-    printf("%8s%14s%9s%14s%9s%14s%9s\n", "rows", "library", "", "plain", "", "noting", "");
+    printf("%8s%14s%9s%14s%9s%14s%9s\n", "rows", "library", "", "plain", "", "other", "");
     for (unsigned rows = 128, before = 0; rows <= TUP_MOST_ROWS; before = rows, rows *= 2) many_rows(rows), print_growth(rows, before, last);
     printf("\nsettle by symbols of a chain, rounds and rows growing alike\n");
-    printf("%8s%14s%9s%14s%9s%14s%9s\n", "symbols", "library", "", "plain", "", "noting", "");
+    printf("%8s%14s%9s%14s%9s%14s%9s\n", "symbols", "library", "", "plain", "", "other", "");
     for (unsigned symbols = 25, before = 0; symbols <= 200; before = symbols, symbols *= 2) chain(symbols), print_growth(symbols, before, last);
 }
 
@@ -276,5 +333,6 @@ static void print_growths(void) {
 int main(void) {
     print_calls();
     print_growths();
+    print_bytes();
     return 0;
 }

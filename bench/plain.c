@@ -2,7 +2,6 @@
  * that its definition describes, prime implicates by marking all 3^n clauses. The same tests, the same outputs, no proof. */
 #include "plain.h"
 
-#include <stdbool.h>
 #include <stdlib.h>
 #include <string.h>
 
@@ -21,7 +20,7 @@ static inline int16_t opposite(int16_t literal) {
 }
 
 /* Rows lent. */
-static size_t lent(size_t numbers) {
+size_t plain_rows_lent(size_t numbers) {
     return numbers / WIDTH < TUP_MOST_ROWS ? numbers / WIDTH : TUP_MOST_ROWS;
 }
 
@@ -40,8 +39,8 @@ static bool sound(const int16_t *row, int symbols) {
 }
 
 /* The test behind refusal 1. */
-static bool good(const tup_board *board, const int16_t *table, size_t numbers) {
-    if (board->symbols < 1 || board->symbols > TUP_MOST_SYMBOLS || board->rows > lent(numbers)) return false;
+bool plain_good(const tup_board *board, const int16_t *table, size_t numbers) {
+    if (board->symbols < 1 || board->symbols > TUP_MOST_SYMBOLS || board->rows > plain_rows_lent(numbers)) return false;
     for (size_t p = 2u * board->symbols; p < TUP_PLACES; p++)
         if (board->held[p] != 0) return false;
     for (size_t r = 0; r < board->rows; r++)
@@ -119,7 +118,7 @@ static void label_all(const tup_board *board, const uint16_t *ranks, uint8_t *la
 
 /* Tests of settle. */
 static uint8_t settle_tests(const tup_board *board, const int16_t *table, size_t numbers, size_t labels, size_t ranks, size_t supports) {
-    if (!good(board, table, numbers)) return 1;
+    if (!plain_good(board, table, numbers)) return 1;
     size_t s = board->symbols;
     return labels < s || ranks < 2 * s || supports < 2 * s ? 13 : 0;
 }
@@ -147,7 +146,7 @@ uint8_t plain_settle_noting(tup_board board, const int16_t *table, size_t number
 
 tup_answer plain_ask(tup_board board, const int16_t *table, size_t numbers, int16_t literal) {
     uint16_t ranks[TUP_PLACES];
-    if (!good(&board, table, numbers)) return (tup_answer){1, TUP_OPEN};
+    if (!plain_good(&board, table, numbers)) return (tup_answer){1, TUP_OPEN};
     if (!fits(literal, &board)) return (tup_answer){2, TUP_OPEN};
     rank_all(&board, table, ranks, NULL);
     if (conflict(&board, ranks)) return (tup_answer){0, TUP_CONFLICT};
@@ -160,7 +159,7 @@ uint8_t plain_ground(tup_board board, const int16_t *table, size_t numbers, int1
     uint16_t ranks[TUP_PLACES], waiting[TUP_PLACES];
     bool seen[TUP_PLACES] = {false};
     unsigned count = 0;
-    if (!good(&board, table, numbers)) return 1;
+    if (!plain_good(&board, table, numbers)) return 1;
     if (!fits(literal, &board)) return 2;
     if (mark_count < 2u * board.symbols) return 13;
     rank_all(&board, table, ranks, NULL);
@@ -309,7 +308,7 @@ tup_addition plain_rule(tup_board board, int16_t *table, size_t numbers, const u
     uint8_t bit[256];
     clauses c;
     unsigned count = 0;
-    if (!good(&board, table, numbers)) return refused(1, TUP_NO_PLACE, &board);
+    if (!plain_good(&board, table, numbers)) return refused(1, TUP_NO_PLACE, &board);
     uint8_t refusal = read_operand(&in, 1);
     if (refusal == 0 && in.at != in.end) refusal = 6;
     if (refusal != 0) return refused(refusal, (size_t)(in.at - formula), &board);
@@ -318,7 +317,7 @@ tup_addition plain_rule(tup_board board, int16_t *table, size_t numbers, const u
     if (!hit_full(&c, formula, bit)) return refused(8, TUP_NO_PLACE, &board);
     spread(&c);
     for (unsigned length = 1; length <= c.count; length++) count = collect(&c, 0, length, 0, row, 0, out, count);
-    if (board.rows + count > lent(numbers)) return refused(9, TUP_NO_PLACE, &board);
+    if (board.rows + count > plain_rows_lent(numbers)) return refused(9, TUP_NO_PLACE, &board);
     if (count != 0) memcpy(table + WIDTH * board.rows, out, count * sizeof out[0]);
     board.rows = (uint16_t)(board.rows + count);
     return (tup_addition){.refusal = 0, .place = TUP_NO_PLACE, .added = (uint16_t)count, .board = board};

@@ -1,14 +1,26 @@
-/* The measure's other side: settle, ask, rule and ground written by hand in plain C, with the contract of tupahineka.h. */
+/* The measure's other side: settle, ask, rule, ground, and DIMACS text in and out, by hand in plain C, with the contract of tupahineka.h. */
 #ifndef PLAIN_H
 #define PLAIN_H
 
+#include <stdbool.h>
+
 #include "tupahineka.h"
+
+/* Rows lent, and the test behind refusal 1. */
+size_t plain_rows_lent(size_t numbers);
+bool plain_good(const tup_board *board, const int16_t *table, size_t numbers);
 
 tup_addition plain_rule(tup_board board, int16_t *table, size_t numbers, const uint8_t *formula, size_t bytes);
 uint8_t plain_settle(tup_board board, const int16_t *table, size_t numbers, uint8_t *labels, size_t label_count,
                      uint16_t *ranks, size_t rank_count, uint16_t *supports, size_t support_count);
 tup_answer plain_ask(tup_board board, const int16_t *table, size_t numbers, int16_t literal);
 uint8_t plain_ground(tup_board board, const int16_t *table, size_t numbers, int16_t literal, uint8_t *marks, size_t mark_count);
+
+tup_reading plain_read_dimacs(tup_board board, int16_t *table, size_t numbers, const uint8_t *text, size_t bytes);
+tup_writing plain_write_dimacs(tup_board board, const int16_t *table, size_t numbers, uint8_t *text, size_t bytes);
+
+/* Reading once more, in one pass, with up to 2,048 rows kept aside until the text is known to be good. */
+tup_reading plain_read_dimacs_once(tup_board board, int16_t *table, size_t numbers, const uint8_t *text, size_t bytes);
 
 /* Settle once more, with each support noted in the round that gives the rank instead of searched for afterwards. */
 uint8_t plain_settle_noting(tup_board board, const int16_t *table, size_t numbers, uint8_t *labels, size_t label_count,

@@ -1,5 +1,5 @@
 /* Tupahineka: a proved truth-maintenance board behind a trend screen. The nine calls of document 01 for C and C++, with the places of
- * document 02's first ticket.
+ * document 02's first ticket and the two calls for DIMACS text of its second.
  *
  * Link with libpanel.a (`make lib`). Every call ends, takes any numbers, and tests its own input. A call that is refused
  * returns one of the numbers below, hands the board back as it was given (a refused tup_open: S = 0, no rows, no premises)
@@ -25,7 +25,8 @@ enum {
     TUP_PLACES = 400,       /* two for each symbol */
     TUP_ROW_WIDTH = 8,      /* numbers in a row of the clause table */
     TUP_MOST_ROWS = 2048,   /* rows used of a longer table */
-    TUP_NONE = 65535        /* no rank, no support, no row */
+    TUP_NONE = 65535,       /* no rank, no support, no row */
+    TUP_MOST_TEXT = 86031   /* no text that tup_write_dimacs writes has more bytes */
 };
 
 /* No place in a formula: the largest size_t, which the place of a byte never is. */
@@ -47,7 +48,8 @@ enum {
     TUP_NOT_HELD = 11,
     TUP_NOTHING_TO_SHOW = 12, /* explain: not derived, or held; ground: not derived; blame: no conflict */
     TUP_TABLE_TOO_SHORT = 13, /* a table to be written is shorter than stated */
-    TUP_RANK_TOO_HIGH = 14    /* never given: proved */
+    TUP_RANK_TOO_HIGH = 14,   /* never given: proved */
+    TUP_BAD_TEXT = 15         /* DIMACS text that breaks the form, has not the header's number of clauses, or a literal beyond its variables */
 };
 
 /* How a literal stands. */
@@ -77,6 +79,19 @@ typedef struct tup_addition {
     tup_board board;
 } tup_addition;
 
+/* Clauses count from 1: for refusals 2, 7, 8 and 9 the first clause at fault is number clauses + 1. */
+typedef struct tup_reading {
+    uint8_t refusal;
+    uint16_t clauses; /* clauses before the first at fault: all of the text's where done; 0 for refusals 1 and 15 */
+    uint16_t added;   /* rows appended, from row board.rows of the board given on; 0 where refused */
+    tup_board board;
+} tup_reading;
+
+typedef struct tup_writing {
+    uint8_t refusal;
+    size_t bytes; /* bytes written, from the front on; 0 where refused */
+} tup_writing;
+
 typedef struct tup_answer {
     uint8_t refusal;
     uint8_t standing; /* TUP_OPEN where refused */
@@ -96,6 +111,16 @@ tup_change tup_open(uint16_t symbols);
 /* Adds a rule, given in formula bytes: appends all its prime implicates, and no other row, to the table. Refused: 1, 2 to 6 (each with
  * its place), 7, 8, 9. */
 tup_addition tup_rule(tup_board board, int16_t *table, size_t numbers, const uint8_t *formula, size_t bytes);
+
+/* Reads DIMACS CNF text and adds each clause as one rule, in order: the clause itself as a row, its literals by rising symbols and each once, or no
+ * row where it has a literal and its opposite. All of the text or nothing is added: the whole text is tested before the table is written. The
+ * header may count more variables than S or fewer. Refused: 1; 15 for anything in the whole text; then for the first clause at fault 2, 7, 8 (no
+ * literal) or 9, which counts the rows of the clauses before it. */
+tup_reading tup_read_dimacs(tup_board board, int16_t *table, size_t numbers, const uint8_t *text, size_t bytes);
+
+/* Writes the rows in use as DIMACS CNF text: `p cnf`, S and the count of rows; then a line for each row in row order, single blanks, 0 last. Every
+ * line ends with a line feed, and there is no byte 0 at the end. Refused: 1, 13 (the text is longer than `bytes`). */
+tup_writing tup_write_dimacs(tup_board board, const int16_t *table, size_t numbers, uint8_t *text, size_t bytes);
 
 /* Puts a literal into the premises. Refused: 1, 2, 10. */
 tup_change tup_hold(tup_board board, const int16_t *table, size_t numbers, int16_t literal);

@@ -18,19 +18,21 @@ static bool same(Play *play, const char *what, long place, unsigned theirs, unsi
     return theirs == ours || differs(play, what, place, theirs, ours);
 }
 
-/* Compares the byte places of a rule, all their bits; they do not fit the numbers above. */
-static bool same_place(Play *play, size_t theirs, size_t ours) {
+/* Compares the byte places of a rule or the bytes of a text, all their bits; they do not fit the numbers above. */
+static bool same_place(Play *play, const char *what, size_t theirs, size_t ours) {
     char their_word[PLACE_WORD], our_word[PLACE_WORD];
     if (theirs == ours) return true;
     place_word(theirs, their_word);
     place_word(ours, our_word);
-    snprintf(play->difference, sizeof play->difference, "place in the formula: library %s, model %s", their_word, our_word);
+    snprintf(play->difference, sizeof play->difference, "%s: library %s, model %s", what, their_word, our_word);
     return false;
 }
 
 /* Compares what the two calls returned. */
 static bool same_outcome(Play *play, const Outcome *ours, const Outcome *theirs) {
-    return same(play, "refusal", NONE, theirs->refusal, ours->refusal) && same_place(play, theirs->place, ours->place) &&
+    return same(play, "refusal", NONE, theirs->refusal, ours->refusal) && same_place(play, "place in the formula", theirs->place, ours->place) &&
+           same(play, "clauses before the fault", NONE, theirs->clauses, ours->clauses) &&
+           same_place(play, "bytes written", theirs->written, ours->written) &&
            same(play, "rows added", NONE, theirs->added, ours->added) &&
            same(play, "standing", NONE, theirs->standing, ours->standing) &&
            same(play, "literals of the reason", NONE, theirs->literals, ours->literals) &&
@@ -38,12 +40,13 @@ static bool same_outcome(Play *play, const Outcome *ours, const Outcome *theirs)
            same(play, "row of the reason", NONE, theirs->row, ours->row);
 }
 
-/* Compares the boards handed back; a premise as held or not. */
-static bool same_board(Play *play) {
+/* Compares the boards handed back, every byte: held as 0 and 1 by a call that is done, as they were given by a refused one. */
+static bool same_board(Play *play, const Step *step) {
+    bool fresh = step->kind == OPEN || (step->kind < SETTLE && play->last.refusal == 0);
     bool alike = same(play, "board: S", NONE, play->library_board.symbols, play->board.symbols) &&
                  same(play, "board: rows in use", NONE, play->library_board.rows, play->board.rows);
     for (unsigned p = 0; p < PLACES && alike; p++)
-        alike = same(play, "board: held", p, play->library_board.held[p] != 0, play->board.held[p]);
+        alike = same(play, "board: held byte", p, play->library_board.held[p], fresh ? play->board.held[p] : play->given.held[p]);
     return alike;
 }
 
@@ -79,12 +82,13 @@ static bool same_tables(Play *play, const Step *step) {
            same_numbers(play, "ranks", theirs->ranks, ours->ranks, sizeof ours->ranks) &&
            same_numbers(play, "supports", theirs->supports, ours->supports, sizeof ours->supports) &&
            same_bytes(play, "marks", theirs->marks, ours->marks, sizeof ours->marks, GUARD) &&
-           same_bytes(play, "formula", theirs->formula, ours->formula, step->kind == RULE ? step->standing : 0, 0);
+           same_bytes(play, "formula", theirs->formula, ours->formula, step->kind == RULE ? step->standing : 0, 0) &&
+           same_bytes(play, "text", theirs->text, ours->text, text_window(step), GUARD);
 }
 
 /* Compares everything after a call. */
 bool same_everywhere(Play *play, const Step *step, const Outcome *ours, const Outcome *theirs) {
-    return same_outcome(play, ours, theirs) && same_board(play) && same_tables(play, step);
+    return same_outcome(play, ours, theirs) && same_board(play, step) && same_tables(play, step);
 }
 
 /* Demand 3 after a good settle: both ways find a conflict or neither does, and without one every label is the same. */

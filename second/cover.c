@@ -6,14 +6,14 @@
 
 #include "damage.h"
 
-enum { NUMBERS = 15 };
+enum { NUMBERS = 16 };
 
 /* Cases beyond the table of refusals, each of which has to come up. */
 enum {
     ASK_OPEN, ASK_STANDS, ASK_RULED_OUT, ASK_CONFLICT, EXPLAIN_HELD, EXPLAIN_NOT_DERIVED, EXPLAIN_ONE_LITERAL, GROUND_HELD,
     GROUND_NO_PREMISE, GROUND_MORE, SHORT_LABELS, SHORT_RANKS, SHORT_SUPPORTS, SHORT_BY_ONE, JUST_LONG_ENOUGH, CONFLICT_SETTLED,
     BOTH_SIGNS_HELD, BLAME_MORE, RULE_ALWAYS_TRUE, RULE_FILLS_TABLE, RULE_FILLS_2048, RULE_OF_7, RULE_OF_8, RULE_OF_128_ROWS, RULE_OF_200_ROWS,
-    RULE_DEPTH_16, RULE_LONG, NOTHING_LENT, BEYOND_2048, LOWEST_ASKED, ODD_BYTES_DONE, ODD_LENGTH, LENGTH_CHANGED, FEWER_SYMBOLS,
+    RULE_DEPTH_16, RULE_LONG, NOTHING_LENT, BEYOND_2048, LOWEST_ASKED, ODD_BYTES_DONE, ODD_BYTES_BACK, ODD_LENGTH, LENGTH_CHANGED, FEWER_SYMBOLS,
     FEWER_ROWS, UNUSED_NUMBER, SYMBOLS_1, SYMBOLS_200, FULL_BOARD, TWO_FAULTS, DEMAND_3_CONFLICT, DEMAND_3_LABELS, REFUSED_6_NOT_7,
     REFUSED_6_NOT_8, REFUSED_7_NOT_9, REFUSED_8_NOT_9, FULL_AND_MORE_LENT, PAST_2048_LENT, RANK_150, RANK_ABOVE_S,
     CASES
@@ -26,9 +26,9 @@ static const char *const case_words[CASES] = {
     "settled in conflict", "both signs held", "blame of 2 or more premises", "rule always true, done", "rule fills the rows lent",
     "rule fills row 2,047", "rule of 7 symbols, done", "rule of 8 symbols, done", "rule of 128 rows", "rule of 200 rows or more",
     "rule of depth 16, done", "rule of 500 bytes or more, done", "done with no number lent", "done with more than 2,048 rows lent", "-32768 given",
-    "done with held bytes beyond 1", "done with a length not of whole rows", "length lent changed between calls",
-    "done with S lowered", "done with rows in use lowered", "done with noise beyond the rows in use", "done with S = 1",
-    "done with S = 200", "settled 2,048 rows", "two faults or more at once", "demand 3 in conflict", "demand 3, a label not 0",
+    "done with held bytes beyond 1", "handed back with held bytes beyond 1", "done with a length not of whole rows",
+    "length lent changed between calls", "done with S lowered", "done with rows in use lowered", "done with noise beyond the rows in use",
+    "done with S = 1", "done with S = 200", "settled 2,048 rows", "two faults or more at once", "demand 3 in conflict", "demand 3, a label not 0",
     "6 where 7 is due as well", "6 where 8 is due as well", "7 with no row free", "8 with no row free", "9 at 2,048 rows with more lent",
     "rows in use past 2,048 with more lent", "boards with a rank of 150 or more", "boards with a rank above S"};
 
@@ -51,8 +51,9 @@ typedef struct Spot {
 
 /* The refusals that can come up, by call. */
 static const unsigned possible[CALLS][NUMBERS] = {
-    [OPEN] = {2},         [RULE] = {1, 2, 3, 4, 5, 6, 7, 8, 9}, [HOLD] = {1, 2, 10},       [WITHDRAW] = {1, 2, 11}, [SETTLE] = {1, 13},
-    [ASK] = {1, 2},       [EXPLAIN] = {1, 2, 12},               [GROUND] = {1, 2, 12, 13}, [BLAME] = {1, 12, 13}};
+    [OPEN] = {2},         [RULE] = {1, 2, 3, 4, 5, 6, 7, 8, 9}, [READ] = {1, 2, 7, 8, 9, 15}, [HOLD] = {1, 2, 10},
+    [SETTLE] = {1, 13},   [WITHDRAW] = {1, 2, 11},              [GROUND] = {1, 2, 12, 13},    [ASK] = {1, 2},
+    [BLAME] = {1, 12, 13}, [EXPLAIN] = {1, 2, 12},              [WRITE] = {1, 13}};
 
 static unsigned long calls[CALLS], refusals[CALLS][NUMBERS + 1], damaged[BAD_BOARDS][CALLS], cases[CASES];
 static unsigned long broken[BREAKS][SPOTS];
@@ -126,6 +127,7 @@ static void cover_rule(const Play *play, const Step *step) {
 /* Counts a refusal 13 by the table that was short. */
 static void cover_short(const Play *play, const Step *step) {
     size_t symbols = play->board.symbols;
+    if (step->kind == WRITE) return;
     if (step->kind != SETTLE) {
         cases[SHORT_BY_ONE] += step->lent[0] == 2 * symbols - 1;
         return;
@@ -194,7 +196,7 @@ static void cover_refused(const Play *play, const Step *step) {
     if (refusal == 13) cover_short(play, step);
     if (step->kind == RULE) cover_refused_rule(play, step);
     cases[PAST_2048_LENT] += refusal == 1 && play->board.rows > MOST_ROWS && play->board.rows <= step->numbers / WIDTH;
-    if (refusal == 2 && step->kind != RULE && step->value == -32768) cases[LOWEST_ASKED]++;
+    if (refusal == 2 && step->kind != RULE && step->kind != READ && step->value == -32768) cases[LOWEST_ASKED]++;
     if (refusal != 12 || step->kind != EXPLAIN) return;
     cases[play->board.held[place_of(step->value)] ? EXPLAIN_HELD : EXPLAIN_NOT_DERIVED]++;
 }
@@ -202,8 +204,8 @@ static void cover_refused(const Play *play, const Step *step) {
 /* Counts how the tables and the board of a call that was done looked. */
 static void cover_lent(const Play *play, const Step *step) {
     bool odd = false;
-    for (unsigned p = 0; p < PLACES && step->kind >= SETTLE; p++) odd |= play->library_board.held[p] > 1;
-    cases[ODD_BYTES_DONE] += odd;
+    for (unsigned p = 0; p < PLACES; p++) odd |= play->given.held[p] > 1;
+    cases[step->kind >= SETTLE ? ODD_BYTES_DONE : ODD_BYTES_BACK] += odd;
     cases[NOTHING_LENT] += step->numbers == 0;
     cases[BEYOND_2048] += step->numbers > WIDTH * MOST_ROWS;
     cases[ODD_LENGTH] += step->numbers % WIDTH != 0;
@@ -240,6 +242,7 @@ void cover_step(const Play *play, const Step *step) {
     }
     calls[step->kind]++;
     refusals[step->kind][play->last.refusal]++;
+    if (step->kind == READ || step->kind == WRITE) cover_text(play, step);
     cases[TWO_FAULTS] += step->faults > 1;
     if (play->last.refusal == 0) cover_done(play, step);
     else cover_refused(play, step);
@@ -317,14 +320,17 @@ void cover_print(void) {
     printf("\n");
     for (unsigned c = 0; c < CASES; c++)
         printf("%-42s%9lu%s", case_words[c], cases[c], c % 2 == 0 ? "    " : "\n");
-    printf("\nlabels 0, 1, 2, 3: %lu %lu %lu %lu\n", labels_seen[0], labels_seen[1], labels_seen[2], labels_seen[3]);
+    printf("%s", CASES % 2 == 0 ? "" : "\n");
+    cover_texts_print();
+    printf("labels 0, 1, 2, 3: %lu %lu %lu %lu\n", labels_seen[0], labels_seen[1], labels_seen[2], labels_seen[3]);
     printf("highest rank: %u; boards settled: %lu, of them in conflict: %lu\n", highest_rank, settled, cases[CONFLICT_SETTLED]);
     printf("rules accepted: %lu, rows they added: %lu, most of one rule: %u; the caller's own acts: %lu\n", rules_done, rows_added, most_rows, acts);
     printf("demand 3 compared: %lu boards, of them in conflict: %lu\n", demand_3, cases[DEMAND_3_CONFLICT]);
+    cover_texts_close();
 }
 
 /* Says what is missing of one thing that has to come up. */
-static bool came_up(unsigned long count, const char *what, const char *of, unsigned number) {
+bool came_up(unsigned long count, const char *what, const char *of, unsigned number) {
     if (count > 0) return true;
     printf("missing: %s %s", of, what);
     if (number != 0) printf(" %u", number);
@@ -343,6 +349,7 @@ static bool breaks_are_whole(void) {
 /* True if all that can come up did; says what did not. */
 bool cover_is_whole(void) {
     bool whole = breaks_are_whole();
+    whole &= cover_texts_are_whole();
     for (unsigned k = 0; k < CALLS; k++) {
         whole &= came_up(refusals[k][0], "done", kind_word((Kind)k), 0);
         for (unsigned n = 1; n < NUMBERS; n++)

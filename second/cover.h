@@ -8,5 +8,14 @@ void cover_step(const Play *play, const Step *step);
 void cover_print(void);
 bool cover_is_whole(void);
 unsigned long cover_calls(void);
+bool came_up(unsigned long count, const char *what, const char *of, unsigned number);
+
+/* covertext.c: the texts read and written. */
+void cover_text(const Play *play, const Step *step);
+void cover_trip(void);
+void cover_by_rules(void);
+void cover_texts_print(void);
+void cover_texts_close(void);
+bool cover_texts_are_whole(void);
 
 #endif

@@ -5,7 +5,7 @@
 #include "random.h"
 #include "steps.h"
 
-enum { POOL = 65536 };
+enum { POOL = 262144 };
 
 typedef struct Draft {
     Random random;
@@ -14,7 +14,7 @@ typedef struct Draft {
     bool leaning[MOST_SYMBOLS + 1];      /* an assignment that rules and premises lean to, so that boards stay out of conflict */
     Step steps[MOST_STEPS];
     size_t count;
-    uint8_t pool[POOL];                  /* the bytes of its formulae */
+    uint8_t pool[POOL];                  /* the bytes of its formulae and texts */
     size_t pooled;
 } Draft;
 

@@ -4,13 +4,15 @@
 #include <string.h>
 
 #include "damage.h"
+#include "drawtext.h"
 #include "formulae.h"
 
 /* Styles of sequences. */
-enum { FREE, PLANTS, CIRCLE, CHAIN, ROWS, FULL, TIGHT, BROAD, PACKED, STYLES };
+enum { FREE, PLANTS, CIRCLE, CHAIN, ROWS, FULL, TIGHT, BROAD, PACKED, TEXTS, STYLES };
 
 static const unsigned style_weights[STYLES] = {
-    [FREE] = 330, [PLANTS] = 230, [CIRCLE] = 80, [CHAIN] = 30, [ROWS] = 160, [FULL] = 14, [TIGHT] = 120, [BROAD] = 70, [PACKED] = 14};
+    [FREE] = 330, [PLANTS] = 230, [CIRCLE] = 80, [CHAIN] = 30, [ROWS] = 160, [FULL] = 14, [TIGHT] = 120, [BROAD] = 70, [PACKED] = 14,
+    [TEXTS] = 120};
 
 /* Which sorts of formulae a style has, in the order PLANT, TREE, SPINE, WIDE, PARITY, LITERALS, NEVER, ALWAYS, LONG, NOISE,
  * PARITY_OF_8, ANY_TRUTH, WIDE_TRUTH, TOO_MANY. */
@@ -23,17 +25,20 @@ static const unsigned sort_weights[STYLES][SORTS] = {
     [FULL] = {500, 200, 20, 2, 20, 50, 20, 20, 1, 20, 0, 60, 2, 10},
     [TIGHT] = {200, 300, 40, 10, 100, 200, 50, 50, 4, 20, 0, 100, 10, 80},
     [BROAD] = {50, 50, 30, 400, 100, 100, 80, 50, 0, 10, 10, 50, 600, 150},
-    [PACKED] = {10, 10, 0, 10, 10, 10, 5, 5, 0, 5, 60, 20, 20, 15}};
+    [PACKED] = {10, 10, 0, 10, 10, 10, 5, 5, 0, 5, 60, 20, 20, 15},
+    [TEXTS] = {800, 50, 5, 1, 5, 10, 5, 5, 0, 5, 0, 20, 1, 15}};
 
 /* How often each call comes: at first, and later on. */
 static const unsigned call_weights[2][CALLS] = {
-    {[OPEN] = 3, [RULE] = 90, [HOLD] = 60, [WITHDRAW] = 10, [SETTLE] = 20, [ASK] = 10, [EXPLAIN] = 10, [GROUND] = 10, [BLAME] = 5},
-    {[OPEN] = 5, [RULE] = 20, [HOLD] = 34, [WITHDRAW] = 20, [SETTLE] = 40, [ASK] = 28, [EXPLAIN] = 26, [GROUND] = 26, [BLAME] = 16}};
+    {[OPEN] = 3, [RULE] = 90, [READ] = 30, [HOLD] = 60, [WITHDRAW] = 10, [SETTLE] = 20, [ASK] = 10, [EXPLAIN] = 10, [GROUND] = 10, [BLAME] = 5,
+     [WRITE] = 10},
+    {[OPEN] = 5, [RULE] = 20, [READ] = 20, [HOLD] = 34, [WITHDRAW] = 20, [SETTLE] = 40, [ASK] = 28, [EXPLAIN] = 26, [GROUND] = 26, [BLAME] = 16,
+     [WRITE] = 16}};
 
 /* A count of symbols that suits the style. */
 static unsigned draw_symbols(Random *random, unsigned style) {
     switch (style) {
-    case PLANTS: return random_between(random, 3, random_chance(random, 80) ? 24 : 90);
+    case PLANTS: case TEXTS: return random_between(random, 3, random_chance(random, 80) ? 24 : style == PLANTS ? 90 : MOST_SYMBOLS);
     case CIRCLE: return random_between(random, 2, random_chance(random, 90) ? 12 : 60);
     case CHAIN: return random_chance(random, 40) ? MOST_SYMBOLS : random_between(random, 2, random_chance(random, 40) ? 20 : MOST_SYMBOLS);
     case ROWS: return random_between(random, 1, random_chance(random, 70) ? 20 : 80);
@@ -61,6 +66,7 @@ static unsigned draw_setup(Random *random, unsigned style, unsigned symbols) {
     case ROWS: return random_between(random, 1, random_chance(random, 70) ? 30 : 150);
     case FULL: return random_chance(random, 40) ? MOST_ROWS : random_between(random, 200, MOST_ROWS);
     case PACKED: return 16;
+    case TEXTS: return random_chance(random, 85) ? random_between(random, 1, 60) : random_between(random, 60, random_chance(random, 80) ? 400 : 3000);
     default: return 0;
     }
 }
@@ -177,6 +183,10 @@ static size_t draw_length(Draft *draft, Step *step, size_t need, size_t lendable
 /* Lends the tables that the call writes. */
 static void draw_lengths(Draft *draft, const Play *play, Step *step) {
     size_t symbols = play->board.symbols;
+    if (step->kind == WRITE) {
+        size_t needed = text_needed(play);
+        step->lent[0] = draw_length(draft, step, needed, needed + 40);
+    }
     if (step->kind == SETTLE) {
         step->lent[0] = draw_length(draft, step, symbols, LABELS_LENDABLE);
         step->lent[1] = draw_length(draft, step, 2 * symbols, PLACES_LENDABLE);
@@ -248,7 +258,8 @@ static void draw_call(Draft *draft, const Play *play, Step *step) {
     switch (step->kind) {
     case OPEN: step->value = draw_opening(draft); break;
     case RULE: draw_rule(draft, play, step); break;
-    case SETTLE: case BLAME: break;
+    case READ: draw_read(draft, play, step); break;
+    case SETTLE: case BLAME: case WRITE: break;
     default: draw_given_literal(draft, play, step);
     }
     draw_lengths(draft, play, step);
@@ -256,7 +267,7 @@ static void draw_call(Draft *draft, const Play *play, Step *step) {
 
 /* Adds one call with damage around it: any call but open, each as often. */
 static void add_damaged_call(Draft *draft, const Play *play) {
-    Step call = *add_step(draft, (Kind)random_between(&draft->random, RULE, BLAME)), undo[2];
+    Step call = *add_step(draft, (Kind)random_between(&draft->random, RULE, CALLS - 1)), undo[2];
     unsigned undone = 0;
     draft->count--;
     draw_call(draft, play, &call);
@@ -324,6 +335,10 @@ static void add_link(Draft *draft, unsigned from, bool turn) {
 static void add_setup(Draft *draft, const Play *play) {
     Random *random = &draft->random;
     unsigned symbols = draft->symbols, most = random_chance(random, 60) ? 4 : 8;
+    if (draft->style == TEXTS) {
+        add_reading(draft, play, draft->setup);
+        return;
+    }
     bool links = random_chance(random, 50), falling = random_chance(random, 50);
     for (unsigned i = 0; i < draft->setup; i++) {
         unsigned from = falling ? symbols - i : i + 1, to = from < symbols ? from + 1 : 1;

@@ -4,7 +4,9 @@
 #include <stdio.h>
 #include <string.h>
 
+#include "cover.h"
 #include "draw.h"
+#include "folder.h"
 #include "formulae.h"
 
 enum { MOST_BYTES = 32768, BUFFER = 40000, HELD = 64, WHOLE_FROM = 200 };
@@ -283,21 +285,6 @@ static void write_script(Script *script, uint64_t seed, uint64_t n) {
     }
 }
 
-/* Opens DIR/NNN.in or DIR/NNN.out. */
-static FILE *open_file(const char *directory, uint64_t n, const char *end) {
-    char name[4096];
-    snprintf(name, sizeof name, "%s/%03llu.%s", directory, (unsigned long long)n, end);
-    FILE *file = fopen(name, "wb");
-    if (file == NULL) perror(name);
-    return file;
-}
-
-/* Says what is missing; true if nothing is. */
-static bool came_up(unsigned long count, const char *what, const char *of, unsigned number) {
-    if (count == 0) printf("missing: %s %s %u\n", of, what, number);
-    return count != 0;
-}
-
 /* True if places of one and of more digits came up: 0, and for each of 2 to 5 one from 10 on. */
 static bool places_came_up(void) {
     bool whole = came_up(breaks_at_0, "place", "rule", 0);
@@ -338,7 +325,7 @@ static void print_counts(void) {
 int write_journals(const char *directory, uint64_t seed, uint64_t count) {
     static Script script;
     for (uint64_t n = 0; n < count; n++) {
-        FILE *in = open_file(directory, n, "in"), *out = open_file(directory, n, "out");
+        FILE *in = open_numbered(directory, n, "in"), *out = open_numbered(directory, n, "out");
         if (in == NULL || out == NULL) return 2;
         write_script(&script, seed, n);
         fwrite(script.bytes, 1, script.length, in);

@@ -17,6 +17,19 @@ static Outcome call_rule(const Step *step, tup_board *board, int16_t *table, con
     return (Outcome){.refusal = addition.refusal, .added = addition.added, .place = addition.place};
 }
 
+/* Reads a text. */
+static Outcome call_read(const Step *step, tup_board *board, int16_t *table, const uint8_t *text) {
+    tup_reading reading = tup_read_dimacs(*board, table, step->numbers, LENT(text, step->bytes, step), step->bytes);
+    *board = reading.board;
+    return (Outcome){.refusal = reading.refusal, .clauses = reading.clauses, .added = reading.added};
+}
+
+/* Writes a text. */
+static Outcome call_write(const Step *step, const tup_board *board, const int16_t *table, uint8_t *text) {
+    tup_writing writing = tup_write_dimacs(*board, table, step->numbers, LENT(text, step->lent[0], step), step->lent[0]);
+    return (Outcome){.refusal = writing.refusal, .written = writing.bytes};
+}
+
 /* Settles. */
 static Outcome call_settle(const Step *step, const tup_board *board, const int16_t *table, Tables *tables) {
     const size_t *lent = step->lent;
@@ -41,6 +54,8 @@ Outcome library_call(const Step *step, tup_board *board, Tables *tables) {
     switch (step->kind) {
     case OPEN: return changed(tup_open((uint16_t)step->value), board);
     case RULE: return call_rule(step, board, table, tables->formula);
+    case READ: return call_read(step, board, table, tables->text + GUARD);
+    case WRITE: return call_write(step, board, table, tables->text + GUARD);
     case HOLD: return changed(tup_hold(*board, table, step->numbers, literal), board);
     case WITHDRAW: return changed(tup_withdraw(*board, table, step->numbers, literal), board);
     case SETTLE: return call_settle(step, board, table, tables);

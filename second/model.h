@@ -1,4 +1,4 @@
-/* Document 01 with Ticket 1 of document 02 by brute force, for the independent second program.
+/* Document 01 with Tickets 1 and 2 of document 02 by brute force, for the independent second program.
  *
  * Written from these documents and include/tupahineka.h alone. No other code of the project was read for it: what this
  * program and the library share is the documents and nothing else. Slow and by definition, wherever a definition is there. */
@@ -18,7 +18,8 @@ enum {
     RULE_SYMBOLS = 8,    /* different symbols in a rule */
     ASSIGNMENTS = 256,
     MOST_CLAUSES = 6561, /* over eight symbols, the empty one included */
-    DEEPEST = 16         /* the depth an operand may stand at */
+    DEEPEST = 16,        /* the depth an operand may stand at */
+    MOST_TEXT = 86031    /* bytes of 2,048 rows of 8 literals such as -200, under the header of 200 symbols */
 };
 
 /* Where no byte place is told: the largest size_t, by the C interface. */
@@ -35,7 +36,9 @@ typedef struct Board {
 /* What any call returns but its board; what a call does not return is 0. */
 typedef struct Outcome {
     unsigned refusal, added, standing, literals, rank, row;
-    size_t place; /* of a rule: the byte where its formula breaks, or NO_PLACE */
+    unsigned clauses; /* of a text read: those before the first at fault */
+    size_t place;     /* of a rule: the byte where its formula breaks, or NO_PLACE */
+    size_t written;   /* of a text written: its bytes */
 } Outcome;
 
 /* How reading a formula ended: done, the bytes used and NO_PLACE; refused, the number and the place where it breaks. */
@@ -50,6 +53,19 @@ typedef struct Rule {
     uint8_t symbol[RULE_SYMBOLS];
     bool holds[ASSIGNMENTS];
 } Rule;
+
+/* What the header of a DIMACS text says, and where its body starts. */
+typedef struct Form {
+    unsigned variables, clauses;
+    size_t body;
+} Form;
+
+/* A clause of a text: which literals of symbols 1 to S it has, whether it has others, and how many words it was written with. */
+typedef struct Clause {
+    unsigned symbols; /* S */
+    bool beyond, has[PLACES];
+    size_t words;
+} Clause;
 
 /* What propagation finds, by place. */
 typedef struct Findings {
@@ -86,6 +102,18 @@ Outcome model_ask(const Board *board, const int16_t *table, size_t numbers, int 
 Outcome model_explain(const Board *board, const int16_t *table, size_t numbers, int literal);
 Outcome model_ground(const Board *board, const int16_t *table, size_t numbers, int literal, uint8_t *marks, size_t mark_count);
 Outcome model_blame(const Board *board, const int16_t *table, size_t numbers, uint8_t *marks, size_t mark_count);
+
+/* dimacs.c: text in and out, two calls more. */
+bool text_has_header(const uint8_t *text, size_t bytes, Form *form);
+bool text_keeps_form(const uint8_t *text, size_t bytes, Form *form);
+Clause next_clause(const uint8_t *text, size_t bytes, size_t *at, unsigned symbols);
+unsigned clause_symbols(const Clause *clause);
+bool clause_always_true(const Clause *clause);
+void clause_row(const Clause *clause, int16_t row[WIDTH]);
+Rule clause_rule(const Clause *clause);
+Outcome model_read(Board *board, int16_t *table, size_t numbers, const uint8_t *text, size_t bytes);
+size_t text_of_rows(const Board *board, const int16_t *table, char out[MOST_TEXT + 1]);
+Outcome model_write(const Board *board, const int16_t *table, size_t numbers, uint8_t *text, size_t bytes);
 
 /* byrule.c: demand 3's second way, without clauses. */
 void force_by_rules(const Rule *rules, size_t count, const bool held[PLACES], bool forced[PLACES]);

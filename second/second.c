@@ -1,29 +1,34 @@
 /* The independent second program of Tupahineka: random sequences of calls, the library against the documents by brute force.
  *
- * Written from document 01, Ticket 1 of document 02 and include/tupahineka.h alone; no other code of the project was read for it.
+ * Written from document 01, Tickets 1 and 2 of document 02 and include/tupahineka.h alone; no other code of the project was read for it.
  *
  *   second SEED COUNT               plays COUNT sequences and compares everything after every call
  *   second show SEED NUMBER         prints sequence NUMBER in words, by the model alone
- *   second journals DIR SEED COUNT  writes COUNT journals and what the journal program has to print for them */
+ *   second journals DIR SEED COUNT  writes COUNT journals and what the journal program has to print for them
+ *   second texts DIR SEED COUNT     writes COUNT texts and what the program cnf has to write and say of them */
 #include <signal.h>
 #include <stdio.h>
 #include <stdlib.h>
 #include <string.h>
 
+#include "cnf.h"
 #include "cover.h"
 #include "document.h"
 #include "draw.h"
 #include "journal.h"
+#include "texttrials.h"
 
 enum { WHOLE_FROM = 2000 };
 
 static Play play;
 static Draft draft;
 static volatile unsigned long long now_seed, now_number;
+static volatile bool in_trials; /* past the sequences */
 
 /* Says where the library ended the program, and ends it. */
 static void library_died(int number) {
-    printf("second: signal %d in sequence %llu; print it with: second show %llu %llu\n", number, now_number, now_seed, now_number);
+    if (in_trials) printf("second: signal %d in the boards and texts to try, seed %llu\n", number, now_seed);
+    else printf("second: signal %d in sequence %llu; print it with: second show %llu %llu\n", number, now_number, now_seed, now_number);
     fflush(stdout);
     _Exit(3);
 }
@@ -64,16 +69,31 @@ static bool play_sequence(uint64_t seed, uint64_t number, bool with_library) {
     return true;
 }
 
-/* Plays all sequences of a seed, then the boards that the documents name. */
+/* Plays one sequence, and writes the last board of every fourth as text and back; says where it differs. */
+static bool sequence_agrees(uint64_t seed, uint64_t number) {
+    now_number = number;
+    if (!play_sequence(seed, number, true)) {
+        report(seed, number);
+        return false;
+    }
+    if (number % 4 != 0 || trip_back(&play)) return true;
+    printf("second: the last board of sequence %llu; print it with: second show %llu %llu\n", now_number, now_seed, now_number);
+    return false;
+}
+
+/* The boards that the documents name, then the texts. */
+static bool trials_agree(uint64_t seed) {
+    in_trials = true;
+    return document_agrees(&play) && spellings_agree(&play) && torn_texts_agree(&play, seed) && long_texts_agree(&play) &&
+           rooms_agree(&play, seed) && rules_agree(&play, seed);
+}
+
+/* Plays all sequences of a seed, then what is to be tried besides. */
 static int play_all(uint64_t seed, uint64_t count) {
     now_seed = seed;
-    for (uint64_t n = 0; n < count; n++) {
-        now_number = n;
-        if (play_sequence(seed, n, true)) continue;
-        report(seed, n);
-        return 1;
-    }
-    if (!document_agrees(&play)) return 1;
+    for (uint64_t n = 0; n < count; n++)
+        if (!sequence_agrees(seed, n)) return 1;
+    if (!trials_agree(seed)) return 1;
     cover_print();
     if (count >= WHOLE_FROM && !cover_is_whole()) return 2;
     printf("second: %llu sequences, %lu calls, all agree\n", (unsigned long long)count, cover_calls());
@@ -97,6 +117,7 @@ int main(int argc, char **argv) {
     if (argc == 4 && strcmp(argv[1], "show") == 0) return show(strtoull(argv[2], NULL, 0), strtoull(argv[3], NULL, 0));
     if (argc == 5 && strcmp(argv[1], "journals") == 0)
         return write_journals(argv[2], strtoull(argv[3], NULL, 0), strtoull(argv[4], NULL, 0));
-    fprintf(stderr, "second SEED COUNT | second show SEED NUMBER | second journals DIR SEED COUNT\n");
+    if (argc == 5 && strcmp(argv[1], "texts") == 0) return write_texts(argv[2], strtoull(argv[3], NULL, 0), strtoull(argv[4], NULL, 0));
+    fprintf(stderr, "second SEED COUNT | second show SEED NUMBER | second journals DIR SEED COUNT | second texts DIR SEED COUNT\n");
     return 2;
 }

@@ -11,6 +11,12 @@ static void past_the_last_row(Tables *tables) {
         tables->table[GUARD + place] = place % WIDTH == 0;
 }
 
+/* Bytes of the text's table that a call may see, and the guards of one that is written. */
+size_t text_window(const Step *step) {
+    if (step->kind == READ) return GUARD + step->standing;
+    return step->kind == WRITE ? GUARD + step->lent[0] + GUARD : 0;
+}
+
 /* Both sides alike: no board, and noise in every place of every table. */
 void play_start(Play *play, uint64_t seed, bool with_library) {
     play->with_library = with_library;
@@ -25,12 +31,25 @@ void play_start(Play *play, uint64_t seed, bool with_library) {
     memcpy(play->theirs.table, play->ours.table, sizeof play->ours.table);
 }
 
+/* Fresh noise where a text is to be written, or the text to be read with what stands after it, on both sides. */
+static void lend_text(Play *play, const Step *step) {
+    uint8_t *ours = play->ours.text, *theirs = play->theirs.text;
+    if (step->kind == READ) {
+        memcpy(ours + GUARD, step->text, step->standing);
+        memcpy(theirs + GUARD, step->text, step->standing);
+    } else {
+        random_fill(step->noise, ours, text_window(step));
+        memcpy(theirs, ours, text_window(step));
+    }
+}
+
 /* Fresh noise in the tables that calls write, and the formula with what stands after it, on both sides. */
 static void lend(Play *play, const Step *step) {
     Tables *ours = &play->ours, *theirs = &play->theirs;
     size_t from = offsetof(Tables, ranks), bytes = offsetof(Tables, formula) - from;
     random_fill(step->noise, (char *)ours + from, bytes);
     memcpy((char *)theirs + from, (char *)ours + from, bytes);
+    if (step->kind == READ || step->kind == WRITE) lend_text(play, step);
     if (step->kind != RULE) return;
     memcpy(ours->formula, step->formula, step->standing);
     memcpy(theirs->formula, step->formula, step->standing);
@@ -43,6 +62,8 @@ static Outcome model_call(const Step *step, Board *board, Tables *tables) {
     switch (step->kind) {
     case OPEN: return model_open(board, (unsigned)step->value);
     case RULE: return model_rule(board, table, step->numbers, tables->formula, step->bytes);
+    case READ: return model_read(board, table, step->numbers, tables->text + GUARD, step->bytes);
+    case WRITE: return model_write(board, table, step->numbers, tables->text + GUARD, step->lent[0]);
     case HOLD: return model_hold(board, table, step->numbers, step->value);
     case WITHDRAW: return model_withdraw(board, table, step->numbers, step->value);
     case SETTLE:
@@ -82,7 +103,18 @@ static void caller_acts(Play *play, const Step *step) {
     }
 }
 
-/* Keeps the book of rules: a good open starts it, an accepted rule goes in with its rows. */
+/* Puts each clause of a text that was read into the book as a rule. */
+static void book_clauses(Book *book, const Step *step) {
+    Form form;
+    if (!text_keeps_form(step->text, step->bytes, &form)) return;
+    size_t at = form.body;
+    for (unsigned c = 0; c < form.clauses; c++) {
+        Clause clause = next_clause(step->text, step->bytes, &at, book->symbols);
+        book->rules[book->count++] = clause_rule(&clause);
+    }
+}
+
+/* Keeps the book of rules: a good open starts it, an accepted rule or text goes in with its rows. A book without room is closed. */
 static void keep_book(Play *play, const Step *step, const Outcome *outcome) {
     Book *book = &play->book;
     if (outcome->refusal != 0) return;
@@ -90,9 +122,13 @@ static void keep_book(Play *play, const Step *step, const Outcome *outcome) {
         book->symbols = play->board.symbols;
         book->rows = 0;
         book->count = 0;
-    } else if (step->kind == RULE && book->rows + outcome->added <= MOST_ROWS) {
+    } else if (step->kind == RULE || step->kind == READ) {
+        size_t rules = step->kind == RULE ? 1 : outcome->clauses;
+        if (book->count + rules > BOOK_RULES || book->rows + outcome->added > MOST_ROWS) book->symbols = 0;
+        if (book->symbols == 0) return;
         const int16_t *rows = play->ours.table + GUARD + WIDTH * (play->board.rows - outcome->added);
-        book->rules[book->count++] = rule_of(step->formula, step->bytes);
+        if (step->kind == READ) book_clauses(book, step);
+        else book->rules[book->count++] = rule_of(step->formula, step->bytes);
         memcpy(book->written + WIDTH * book->rows, rows, outcome->added * WIDTH * sizeof rows[0]);
         book->rows += outcome->added;
     }
@@ -113,6 +149,7 @@ bool play_step(Play *play, const Step *step) {
         return true;
     }
     lend(play, step);
+    play->given = play->library_board;
     play->last = model_call(step, &play->board, &play->ours);
     if (play->with_library) {
         play->library_last = library_call(step, &play->library_board, &play->theirs);

@@ -11,13 +11,15 @@ enum {
     LABELS_LENDABLE = MOST_SYMBOLS + 9,
     PLACES_LENDABLE = PLACES + 9,
     FORMULA_LENDABLE = 98304,                  /* the longest formula of depth 16, and a byte too many */
+    TEXT_LENDABLE = 1100000,                   /* a comment of a megabyte, and a text after it */
     MOST_STEPS = 2600,
+    BOOK_RULES = 12000,
     PLACE_WORD = 24                            /* bytes for a place in words */
 };
 
-/* The nine calls, then what the caller may do between them. */
+/* The eleven calls, those that hand a board back first; then what the caller may do between them. */
 typedef enum Kind {
-    OPEN, RULE, HOLD, WITHDRAW, SETTLE, ASK, EXPLAIN, GROUND, BLAME,
+    OPEN, RULE, READ, HOLD, WITHDRAW, SETTLE, ASK, EXPLAIN, GROUND, BLAME, WRITE,
     CALLS,
     SET_SYMBOLS = CALLS, /* the caller writes S = value into the board */
     SET_ROWS,            /* the caller writes rows in use = value */
@@ -33,11 +35,13 @@ typedef struct Step {
     unsigned place;
     int16_t row[WIDTH];
     size_t numbers;          /* numbers of the clause table lent */
-    size_t lent[3];          /* labels, ranks and supports; or marks */
-    const uint8_t *formula;
+    size_t lent[3];          /* labels, ranks and supports; or marks; or bytes for a text */
+    const uint8_t *formula;  /* of a rule */
+    const uint8_t *text;     /* to be read */
     size_t bytes, standing;  /* bytes given, and bytes that stand there: those past the given ones must not be read */
     uint64_t noise;          /* what stands in the tables to be written, before the call */
     unsigned damage, faults; /* for the counts only: what was spoilt ahead of this call, and how many things */
+    bool torn;               /* for the counts only: the text is a damaged one */
 } Step;
 
 /* Everything that can be lent, with its guards. */
@@ -48,13 +52,14 @@ typedef struct Tables {
     uint8_t labels[GUARD + LABELS_LENDABLE + GUARD];
     uint8_t marks[GUARD + PLACES_LENDABLE + GUARD];
     uint8_t formula[FORMULA_LENDABLE];
+    uint8_t text[GUARD + TEXT_LENDABLE + GUARD];
 } Tables;
 
-/* The rules accepted since the last good open and the rows they wrote. */
+/* The rules accepted since the last good open, clauses of texts among them, and the rows they wrote. */
 typedef struct Book {
     unsigned symbols, rows;
     size_t count;
-    Rule rules[MOST_STEPS];
+    Rule rules[BOOK_RULES];
     int16_t written[MOST_ROWS * WIDTH];
 } Book;
 
@@ -62,7 +67,7 @@ typedef struct Book {
 typedef struct Play {
     bool with_library;
     Board board;
-    tup_board library_board;
+    tup_board library_board, given; /* now, and as the last call was given it */
     Tables ours, theirs;
     Book book;
     Outcome last, library_last;
@@ -71,6 +76,7 @@ typedef struct Play {
 } Play;
 
 /* steps.c */
+size_t text_window(const Step *step);
 void play_start(Play *play, uint64_t seed, bool with_library);
 bool play_step(Play *play, const Step *step);
 bool book_covers(const Play *play);
@@ -85,6 +91,7 @@ bool same_by_rules(Play *play);
 /* words.c */
 const char *kind_word(Kind kind);
 void place_word(size_t place, char out[PLACE_WORD]);
+void print_text(const uint8_t *text, size_t bytes);
 void print_step(const Step *step, size_t ordinal);
 void print_outcome(const char *who, Kind kind, const Outcome *outcome);
 void print_board(const Play *play, size_t numbers);

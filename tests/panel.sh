@@ -1,5 +1,5 @@
 #!/usr/bin/env bash
-# Proves and builds the C boundary, and runs what stands on it: the trend demo, the independent second program, and the journals that
+# Proves and builds the C boundary, and runs what stands on it: the trend demo, the independent second program, and the journals and texts that
 # the second program writes. SEED and COUNT choose the second program's sequences.
 set -euo pipefail
 cd "$(dirname "$0")/.."
@@ -36,3 +36,20 @@ for input in "$room"/journals/*.in; do
     ran=$((ran + 1))
 done
 echo "journal: $ran journals of the second program, all as it expects"
+
+# the texts of the second program, by the proved cnf
+prove check cnf
+mkdir "$room/texts"
+run_c target/second texts "$room/texts" "${SEED:-1}" 120
+ran=0
+for input in "$room"/texts/*.in; do
+    run_x86 target/bin/cnf <"$input" >"$room/wrote" 2>"$room/said"
+    if ! cmp -s "$room/wrote" "${input%.in}.out" || ! cmp -s "$room/said" "${input%.in}.err"; then
+        echo "cnf: of the second program's $(basename "$input") it writes or says something else:"
+        diff "$room/wrote" "${input%.in}.out" | head -10 || true
+        diff "$room/said" "${input%.in}.err" | head -10 || true
+        exit 1
+    fi
+    ran=$((ran + 1))
+done
+echo "cnf: $ran texts of the second program, all as it expects"

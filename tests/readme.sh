@@ -8,6 +8,10 @@ example=$(awk -F '  +' '/^    0[1-6] / {print $2 "\t" $4}' README.md)
 diff <(cut -f 1 <<<"$example" | tr -s ' \n' '\n') <(sed 's/#.*//' examples/cases/printed/input.hex | tr -s ' \n' '\n' | sed '/^$/d')
 diff <(cut -f 2 <<<"$example") examples/cases/printed/expected
 
+# the text that cnf is given, and what it prints
+diff <(printf "$(sed -n "s,^    \$ printf '\(.*\)' | ./run cnf\$,\1,p" README.md)") crates/cnf/stdin
+diff <(sed -n '/| .\/run cnf$/,/^$/s/^    \([^$].*\)/\1/p' README.md) crates/cnf/stdout
+
 for target in $(grep -o 'make [a-z]*' README.md | sort -u | cut -d ' ' -f 2); do
     grep -q "^$target:" Makefile || {
         echo "README.md: 'make $target' is no target of the Makefile"

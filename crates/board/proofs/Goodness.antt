@@ -1,19 +1,20 @@
 -- `goodBoard`, a test at a time, and what a good board is known to be.
-use mathlib.Core.Path.{_≡_, refl}
+use mathlib.Core.Path.{_≡_, refl, ap, _∙_}
 use mathlib.Core.Bool.{Bool, true, false, not, _&&_}
 use mathlib.Core.List.{List, [], _∷_}
-use Prim.Native.Nat.{ℕ, zero, suc, _+_, _*_, _≤_, _<_}
+use Prim.Native.Nat.{ℕ, zero, suc, _+_, _*_, _≤_, _<_, zero-le}
 use native.Mathlib.Numerals.{add-one}
 use native.Mathlib.Omega.{arith}
 use borrow.Author.Tests.{le-leb, lt-leb, leb-true}
 use lib.Dec.{leb}
 use lib.IntN.{ℤ}
-use lib.ListN.{length, drop, getD}
+use lib.ListN.{length, drop, getD, replicate}
 use lib.Seq.{drop-cons}
 use Rattle.meaning.specs.Tests.{any}
 use Rattle.meaning.proofs.Tests.{both-true}
 use Rattle.literals.specs.Row.{rowsLent, rowsSound, Sound}
 use Rattle.board.specs.Faults.{goodBoard}
+use Rattle.board.specs.Changes.{emptyBoard}
 use Rattle.board.specs.declared.Board.{Board}
 
 -- ---- the scan for a premise beyond the symbols
@@ -79,3 +80,18 @@ good-is table b e =
       lent = fits;
       sound = record { symbols = leb-true (b .symbols) 200 (count .1); rows = omega arith; room = omega arith; sound = rows .1 };
     }
+
+-- ---- a board just opened
+
+-- of premises that start empty none is set
+unset : (n k : ℕ) → flagFrom (replicate n false) k ≡ false
+unset zero zero = refl
+unset zero (suc k) = refl
+unset (suc n) zero = unset n zero
+unset (suc n) (suc k) = unset n k
+
+pub empty-good : (table : List ℤ) (S : ℕ) → leb 1 S && leb S 200 ≡ true → goodBoard table (emptyBoard S) ≡ true
+unfolding rowsSound
+empty-good table S e =
+    let count = both-true (leb 1 S) (leb S 200) e in
+    by-flags table (emptyBoard S) (leb-true 1 S (count .0)) (leb-true S 200 (count .1)) zero-le refl ∙ ap not (unset 400 (2 * S))

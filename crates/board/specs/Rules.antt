@@ -28,16 +28,21 @@ abbrev pub formulaOf : Parsed → Formula
 formulaOf (good f used) = f
 formulaOf (bad why at) = symbol 0
 
+-- 7, 8 and 9, once the formula is read: `used` rows are in use and `lent` are lent
+abbrev pub formulaFaults : (S used lent : ℕ) → Formula → List Fault
+formulaFaults S used lent f =
+    let rule = ruleOf S f in
+    record { given = not (leb (length (rule .symbols)) 8); refusal = TooManySymbols }
+    ∷ record { given = not (satisfiable rule); refusal = NoAssignment }
+    ∷ record { given = not (leb (used + length (rowsOf rule)) lent); refusal = TableFull }
+    ∷ []
+
 unfoldable pub ruleFaults : List ℤ → Board → List ℕ → List Fault
 ruleFaults table b bytes =
     let read = wholeOf (b .symbols) bytes in
-    let rule = ruleOf (b .symbols) (formulaOf read) in
     record { given = not (goodBoard table b); refusal = BadBoard }
     ∷ record { given = not (isGood read); refusal = whyOf read }
-    ∷ record { given = not (leb (length (rule .symbols)) 8); refusal = TooManySymbols }
-    ∷ record { given = not (satisfiable rule); refusal = NoAssignment }
-    ∷ record { given = not (leb (b .rows + length (rowsOf rule)) (rowsLent table)); refusal = TableFull }
-    ∷ []
+    ∷ formulaFaults (b .symbols) (b .rows) (rowsLent table) (formulaOf read)
 
 -- what stands for a place where none is told: the largest number of 64 bits. A place that is told is at most the count of bytes, and no bytes
 -- lent are so many

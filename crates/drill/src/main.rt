@@ -1,4 +1,5 @@
-// Runs the calls of `board` over the boards that document 01 lists and over every refusal, and prints what each call answers.
+// Runs the calls of `board` over the boards that document 01 lists and over every refusal, and the two of `dimacs` over texts, and prints what each
+// call answers.
 
 mod faults;
 mod journal;
@@ -6,6 +7,7 @@ mod lengths;
 mod literals_given;
 mod opening;
 mod rules;
+mod texts;
 
 fn main() {
     opening::run();
@@ -14,4 +16,5 @@ fn main() {
     literals_given::run();
     lengths::run();
     journal::run();
+    texts::run();
 }

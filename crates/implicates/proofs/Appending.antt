@@ -39,7 +39,7 @@ written-more t at xs ys h =
 
 -- ---- rows
 
-encodeAll-append : (us vs : List (List ℕ)) → encodeAll (us ++ vs) ≡ encodeAll us ++ encodeAll vs
+pub encodeAll-append : (us vs : List (List ℕ)) → encodeAll (us ++ vs) ≡ encodeAll us ++ encodeAll vs
 encodeAll-append [] vs = refl
 encodeAll-append (u ∷ us) vs = ap (λ (l : List ℤ). encode u ++ l) (encodeAll-append us vs) ∙ sym (append-assoc (encode u) (encodeAll us) (encodeAll vs))
 

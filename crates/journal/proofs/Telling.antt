@@ -12,11 +12,11 @@ use lib.IntN.{ℤ}
 use lib.ListN.{length, take, drop, length-append, length-drop}
 use lib.Seq.{drop-drop, length-take-le, sets-eq, take-at}
 use Rattle.formula.proofs.Parts.{onward, onward-drop}
-use Rattle.lines.specs.Text.{Put}
+use Rattle.spelling.specs.Text.{Put}
 use Rattle.lines.specs.Commands.{Did, said, Said, saidTable}
 use Rattle.lines.specs.declared.saying.Progress.{Progress}
 use Rattle.lines.proofs.Bodies.{said-used}
-use Rattle.lines.proofs.Pieces.{put-length}
+use Rattle.spelling.proofs.Pieces.{put-length}
 use Rattle.lines.proofs.Runs.{lines-step}
 use Rattle.journal.specs.Told.{left, more, Runs, told}
 use Rattle.journal.specs.declared.Run.{Run}

@@ -20,7 +20,7 @@ use Rattle.board.specs.declared.Outcome.{Outcome}
 use Rattle.board.specs.declared.Outcome.the-variants.{Done, Refused}
 use Rattle.board.specs.declared.asking.Standing.{Standing}
 use Rattle.board.specs.declared.asking.Standing.the-variants.{Conflict, Stands, RuledOut, Open as Unsettled, Refused as Unasked}
-use Rattle.lines.specs.Text.{okWord}
+use Rattle.lines.specs.Words.{okWord}
 use Rattle.lines.specs.Commands.{accepted, askSaid, bodyLength, bodySaid, changeSaid, commandAt, commandSaid, commandTable, formulaBytes, formulaLength, literalIn, ofBytes, ofCall, reasonText, refused, refusedAt, rowsText, Said, said, wordOf}
 use Rattle.lines.specs.declared.commands.Command.{Command}
 use Rattle.lines.specs.declared.commands.Command.the-variants.{Open, Rule, Hold, Drop, Ask, Why, Other}

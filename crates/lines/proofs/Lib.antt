@@ -1,5 +1,4 @@
 -- Laws of the crate's definitions.
-pub mod Pieces
 pub mod Reading
 pub mod Explaining
 pub mod Bodies

@@ -5,11 +5,12 @@ use mathlib.Core.List.{List}
 use lib.IntN.{ℤ}
 use Rattle.formula.proofs.Parts.{onward, onward-drop}
 use Rattle.board.specs.declared.Board.{Board}
-use Rattle.lines.specs.Text.{Put, lineEnd, natural}
+use Rattle.spelling.specs.Text.{Put, natural}
+use Rattle.lines.specs.Words.{lineEnd}
 use Rattle.lines.specs.Commands.{commandAt, commandSaid, commandTable, Did, said, saidTable, wordOf}
 use Rattle.lines.specs.declared.commands.Command.{Command}
 use Rattle.lines.specs.declared.saying.Progress.{Progress}
-use Rattle.lines.proofs.Pieces.{put-put}
+use Rattle.spelling.proofs.Pieces.{put-put}
 
 module _ (ordinal : ℕ) (b : Board) (table : List ℤ) (input : List ℕ) {command : Command} (is : command ≡ commandAt input) where
   pub line-did : {before numbered named told after : List ℕ} {word text written : ℕ} {done : Progress}

@@ -3,8 +3,6 @@ use mathlib.Core.Path.{_≡_, refl}
 use mathlib.Core.Bool.{false}
 use mathlib.Core.List.{List, [], _∷_, _++_, map}
 use Prim.Native.Nat.{ℕ}
-use Prim.Native.Char.{code}
-use Prim.Native.String.{String, [] as ends, _∷_ as _then_}
 use lib.IntN.{pos}
 use lib.ListN.{length, replicate}
 use Rattle.board.specs.declared.Board.{Board}
@@ -20,16 +18,12 @@ use Rattle.board.specs.Faults.{goodBoard}
 use Rattle.board.specs.Changes.{openFaults, opened, flagFaults, flagChanged}
 use Rattle.board.specs.Rules.{ruleFaults, ruled, ruledTable}
 use Rattle.board.specs.Asking.{askFaults, asked, explainFaults, reasoned, explained}
-use Rattle.lines.specs.Text.{digitsOf, literalList}
+use Rattle.spelling.proofs.Ascii.{ascii}
+use Rattle.spelling.specs.Text.{digitsOf, literalList}
 use Rattle.lines.specs.Commands.{literalIn, formulaLength, commandSaid, commandTable, said, saidTable, linesOf}
 
 abbrev start : Board
 start = record { symbols = 0; rows = 0; held = replicate 400 false }
-
--- a text's characters as bytes
-abbrev bytes : String → List ℕ
-bytes ends = []
-bytes (c then rest) = code c ∷ bytes rest
 
 record Case : Type 0 where
   input : List ℕ
@@ -50,16 +44,16 @@ cases =
     record {
       input = document;
       lines =
-          bytes "1 open ok\n2 rule rows 0 1\n3 rule rows 1 1\n4 hold ok\n5 hold ok\n6 ask stands\n"
-          ++ bytes "7 why rank 2 row 1: -2 -3 4\n8 drop ok\n9 ask open\n10 hold ok\n11 ask conflict\n";
+          ascii "1 open ok\n2 rule rows 0 1\n3 rule rows 1 1\n4 hold ok\n5 hold ok\n6 ask stands\n"
+          ++ ascii "7 why rank 2 row 1: -2 -3 4\n8 drop ok\n9 ask open\n10 hold ok\n11 ask conflict\n";
     }
-    ∷ record { input = 0x01 ∷ 0x04 ∷ 0x02 ∷ 0x13 ∷ 0x10 ∷ 0x04 ∷ 0x10 ∷ 0x05 ∷ []; lines = bytes "1 open ok\n2 rule no 2 at 4\n" }
-    ∷ record { input = 0x01 ∷ 0x04 ∷ 0x02 ∷ []; lines = bytes "1 open ok\n2 rule no 3 at 0\n" }
-    ∷ record { input = 0x01 ∷ 0x04 ∷ 0x02 ∷ 0x14 ∷ 0x10 ∷ 0x01 ∷ 0x10 ∷ []; lines = bytes "1 open ok\n2 rule no 3 at 4\n" }
-    ∷ record { input = 0x01 ∷ 0x04 ∷ 0x02 ∷ replicate 16 0x11; lines = bytes "1 open ok\n2 rule no 5 at 16\n" }
-    ∷ record { input = 0x01 ∷ 0x04 ∷ 0x02 ∷ 0x12 ∷ 0x10 ∷ 0x01 ∷ 0x99 ∷ []; lines = bytes "1 open ok\n2 rule no 4 at 3\n" }
-    ∷ record { input = 0x01 ∷ 0x04 ∷ 0x02 ∷ 0x12 ∷ 0x10 ∷ 0x01 ∷ 0x11 ∷ 0x10 ∷ 0x01 ∷ []; lines = bytes "1 open ok\n2 rule no 8\n" }
-    ∷ record { input = 0x01 ∷ 0x04 ∷ 0x03 ∷ 0x05 ∷ 0x00 ∷ []; lines = bytes "1 open ok\n2 hold no 2\n" }
+    ∷ record { input = 0x01 ∷ 0x04 ∷ 0x02 ∷ 0x13 ∷ 0x10 ∷ 0x04 ∷ 0x10 ∷ 0x05 ∷ []; lines = ascii "1 open ok\n2 rule no 2 at 4\n" }
+    ∷ record { input = 0x01 ∷ 0x04 ∷ 0x02 ∷ []; lines = ascii "1 open ok\n2 rule no 3 at 0\n" }
+    ∷ record { input = 0x01 ∷ 0x04 ∷ 0x02 ∷ 0x14 ∷ 0x10 ∷ 0x01 ∷ 0x10 ∷ []; lines = ascii "1 open ok\n2 rule no 3 at 4\n" }
+    ∷ record { input = 0x01 ∷ 0x04 ∷ 0x02 ∷ replicate 16 0x11; lines = ascii "1 open ok\n2 rule no 5 at 16\n" }
+    ∷ record { input = 0x01 ∷ 0x04 ∷ 0x02 ∷ 0x12 ∷ 0x10 ∷ 0x01 ∷ 0x99 ∷ []; lines = ascii "1 open ok\n2 rule no 4 at 3\n" }
+    ∷ record { input = 0x01 ∷ 0x04 ∷ 0x02 ∷ 0x12 ∷ 0x10 ∷ 0x01 ∷ 0x11 ∷ 0x10 ∷ 0x01 ∷ []; lines = ascii "1 open ok\n2 rule no 8\n" }
+    ∷ record { input = 0x01 ∷ 0x04 ∷ 0x03 ∷ 0x05 ∷ 0x00 ∷ []; lines = ascii "1 open ok\n2 hold no 2\n" }
     ∷ []
 
 printed : map (λ (c : Case). linesOf (length (c .input)) 1 start (replicate 16384 (pos 0)) (c .input)) cases ≡ map (λ (c : Case). c .lines) cases

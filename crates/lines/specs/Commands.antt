@@ -22,7 +22,8 @@ use Rattle.board.specs.declared.asking.Standing.the-variants.{Conflict, Stands,
 use Rattle.lines.specs.declared.commands.Command.{Command}
 use Rattle.lines.specs.declared.commands.Command.the-variants.{Open, Rule, Hold, Drop, Ask, Why, Other}
 use Rattle.lines.specs.declared.saying.Progress.{Progress}
-use Rattle.lines.specs.Text.{Put, natural, literalList, openWord, ruleWord, holdWord, dropWord, askWord, whyWord, kindWord, okWord, noWord, atWord, rowsWord, standsWord, outWord, conflictWord, rankWord, rowWord, space, colon, lineEnd}
+use Rattle.spelling.specs.Text.{Put, natural, literalList}
+use Rattle.lines.specs.Words.{openWord, ruleWord, holdWord, dropWord, askWord, whyWord, kindWord, okWord, noWord, atWord, rowsWord, standsWord, outWord, conflictWord, rankWord, rowWord, space, colon, lineEnd}
 
 -- ---- the commands
 

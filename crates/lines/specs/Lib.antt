@@ -1,4 +1,4 @@
 -- 01, "The journal program": one command, and the line that it prints, as bytes.
-pub mod Text
+pub mod Words
 pub mod Commands
 pub mod Promises

@@ -11,7 +11,8 @@ use Rattle.formula.specs.Parse.{bad, levels, parse}
 use Rattle.board.specs.Faults.{numberIn, goodBoard}
 use Rattle.board.specs.Rules.{ruled}
 use Rattle.board.specs.declared.Board.{Board}
-use Rattle.lines.specs.Text.{natural, ruleWord, noWord, atWord, lineEnd}
+use Rattle.spelling.specs.Text.{natural}
+use Rattle.lines.specs.Words.{ruleWord, noWord, atWord, lineEnd}
 use Rattle.lines.specs.Commands.{formulaBytes, said}
 
 -- a rule command adds the rule of the formula at the front of its body; whatever the body, that is never refused for bytes left over

@@ -2,4 +2,3 @@
 
 mod commands;
 pub mod saying;
-mod text;

@@ -3,17 +3,13 @@
 ghost use mathlib.Core.Path.{_≡_};
 ghost use Prim.Native.Nat.{_+_, _≤_};
 ghost use lib.ListN.{length};
-ghost use Rattle.lines.specs.Text.{Put};
+ghost use Rattle.spelling.specs.Text.{Put};
 ghost use Rattle.lines.specs.Commands.{accepted, askSaid, bodyLength, bodySaid, changeSaid, commandSaid, commandTable, Did, placeText, reasonText, refused, refusedAt, rowsText, ruleSaid, said, saidTable, whySaid, wordOf};
 use crate::commands::Command;
 use crate::commands::body_length;
 use crate::commands::command_of;
 use crate::commands::formula_length;
 use crate::commands::literal_in;
-use crate::text::put_literals;
-use crate::text::put_named;
-use crate::text::put_natural;
-use crate::text::put_word;
 use board::Board;
 use board::Change;
 use board::Outcome;
@@ -22,6 +18,10 @@ use board::asking::Standing;
 use board::changes;
 use board::rules::Addition;
 use literals::refusal::Refusal;
+use spelling::put_literals;
+use spelling::put_named;
+use spelling::put_natural;
+use spelling::put_word;
 
 // What a command comes to: the board after it, how many bytes of the input it took, the place after its text, and whether the
 // program stops.

@@ -9,6 +9,7 @@ pub mod Primes
 pub mod Order
 pub mod OrderOfRows
 pub mod Rows
+pub mod ClauseRows
 pub mod SoundRows
 pub mod Rounds
 pub mod Gives

@@ -20,10 +20,10 @@ use Rattle.meaning.proofs.Order.{ofSize-of, belowSize-of}
 
 -- ---- lists whose elements stand in a relation to every later one
 
-abbrev Rel : Type 1
+abbrev pub Rel : Type 1
 Rel = List Digit → List Digit → Type 0
 
-abbrev Chain : Rel → List (List Digit) → Type 0
+abbrev pub Chain : Rel → List (List Digit) → Type 0
 Chain R [] = Unit {0}
 Chain R (v ∷ vs) = ((u : List Digit) → In u vs → R v u) × Chain R vs
 
@@ -111,7 +111,7 @@ clauses-chain m (s ∷ ss) a =
 -- ---- the prime implicates
 
 module _ (test : List Digit → Bool) (ss : List ℕ) (rise : Ascending 0 ss) where
-  abbrev Rows : Rel
+  abbrev pub Rows : Rel
   Rows u v = Precedes (rowOf ss u) (rowOf ss v)
 
   ofSize-chain : (k : ℕ) → Chain Rows (ofSize test (length ss) k)
@@ -124,7 +124,7 @@ module _ (test : List Digit → Bool) (ss : List ℕ) (rise : Ascending 0 ss) wh
       inr (length-rowOf ss x (omega (arith, a .0)) ∙ e ∙ sym (length-rowOf ss y (omega (arith, b .0))), f e))
       (unfold ofSize in chain-keep (Sorted ss) (λ u. eqb (size u) k && test u) (clauses (length ss)) (clauses-chain 0 ss rise))
 
-  belowSize-chain : (k : ℕ) → Chain Rows (belowSize test (length ss) k)
+  pub belowSize-chain : (k : ℕ) → Chain Rows (belowSize test (length ss) k)
   belowSize-chain zero = tt
   belowSize-chain (suc k) =
       chain-append Rows (belowSize test (length ss) k) (ofSize test (length ss) k) (belowSize-chain k) (ofSize-chain k)

@@ -43,7 +43,7 @@ row-rising m (s ∷ symbols) (denies x ∷ v) r = (later, row-rising s symbols v
         rw (t .3, place-half s (not x), place-half (t .0) (t .1)) (omega (arith, r .0, ascending-above s symbols (t .0) (r .1) (t .2)))
 row-rising m (s ∷ symbols) (out ∷ v) r = row-rising s symbols v (r .1)
 
-in-some : {q : ℕ} {l : List ℕ} → In q l → 1 ≤ length l
+pub in-some : {q : ℕ} {l : List ℕ} → In q l → 1 ≤ length l
 in-some (here e) = suc-le-suc zero-le
 in-some (there m) = suc-le-suc zero-le
 

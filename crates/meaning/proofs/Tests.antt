@@ -108,6 +108,15 @@ module _ {A : Type 0} where
   any-never [] = refl
   any-never (x ∷ xs) = any-never xs
 
+  -- some element fails the test just where not every one passes it
+  pub any-not : (f : A → Bool) (xs : List A) → any (λ x. not (f x)) xs ≡ not (all f xs)
+  any-not f [] = refl
+  any-not f (x ∷ xs) = go (f x) (any-not f xs)
+    where
+      go : (b : Bool) → any (λ y. not (f y)) xs ≡ not (all f xs) → not b || any (λ y. not (f y)) xs ≡ not (b && all f xs)
+      go true e = e
+      go false e = refl
+
   pub any-append : (f : A → Bool) (xs ys : List A) → any f (xs ++ ys) ≡ (any f xs || any f ys)
   any-append f [] ys = refl
   any-append f (x ∷ xs) ys = ap (λ (b : Bool). f x || b) (any-append f xs ys) ∙ sym (or-assoc (f x) (any f xs) (any f ys))

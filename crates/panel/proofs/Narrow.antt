@@ -15,6 +15,8 @@ use Rattle.board.specs.declared.Board.{Board}
 use Rattle.board.specs.declared.Outcome.{Outcome}
 use Rattle.board.specs.declared.Outcome.the-variants.{Done, Refused}
 use Rattle.board.proofs.Explaining.{none-given}
+use Rattle.dimacs.specs.Reading.{readAnswer, readFaults}
+use Rattle.dimacs.proofs.ClauseCount.{read-fits, told-few}
 use Rattle.panel.specs.Crossing.{Narrow}
 
 narrow-changed : (o : Outcome) (given next : Board) → Narrow given → Narrow next → Narrow (changed o given next .board)
@@ -55,3 +57,19 @@ module _ (table : List ℤ) (b : Board) (n : Narrow b) where
           let few = few-rows bytes e in
           rw e (record { symbols = n .symbols; rows = omega arith }, omega arith)
       go (Refused why) e = rw e (n, omega arith)
+
+  -- and so are the rows of a text's clauses
+  read-rows : (text : List ℕ) → Narrow (readAnswer table b text .board) × (readAnswer table b text .added < 65536)
+  unfolding readAnswer
+  read-rows text = go (firstFault (readFaults table b text)) refl
+    where
+      go : (o : Outcome) → firstFault (readFaults table b text) ≡ o
+          → Narrow (readAnswer table b text .board) × (readAnswer table b text .added < 65536)
+      go Done e =
+          let fits = read-fits table b text e in
+          rw e (record { symbols = n .symbols; rows = omega arith }, omega arith)
+      go (Refused why) e = rw e (n, omega arith)
+
+  -- its clauses are not more than a header can count
+  pub narrow-read : (text : List ℕ) → let r = readAnswer table b text in Narrow (r .board) × (r .clauses < 65536) × (r .added < 65536)
+  narrow-read text = (read-rows text .0, omega (arith, told-few table b text), read-rows text .1)

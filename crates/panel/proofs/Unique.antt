@@ -29,3 +29,9 @@ one-ground κs a x y = (cc, refl & refl & refl & (cc) & refl)
 
 one-blame : One panel.tup_blame.ended panel.tup_blame.Reads.Post
 one-blame κs a x y = (cc, refl & refl & (cc) & refl)
+
+one-read-dimacs : One panel.tup_read_dimacs.ended panel.tup_read_dimacs.Reads.Post
+one-read-dimacs κs a x y = (cc, refl & (cc) & refl)
+
+one-write-dimacs : One panel.tup_write_dimacs.ended panel.tup_write_dimacs.Reads.Post
+one-write-dimacs κs a x y = (cc, refl & refl & (cc) & refl)

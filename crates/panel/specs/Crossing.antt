@@ -13,11 +13,15 @@ use Rattle.board.specs.declared.rules.Addition.{Addition}
 use Rattle.board.specs.declared.asking.Reason.{Reason}
 use Rattle.board.specs.declared.asking.Standing.{Standing}
 use Rattle.board.specs.declared.asking.Standing.the-variants.{Conflict, Stands, RuledOut, Open, Refused}
+use Rattle.dimacs.specs.declared.reading.Reading.{Reading}
+use Rattle.dimacs.specs.declared.writing.Writing.{Writing}
 use Rattle.panel.specs.declared.PanelBoard.{PanelBoard}
 use Rattle.panel.specs.declared.PanelChange.{PanelChange}
 use Rattle.panel.specs.declared.PanelAddition.{PanelAddition}
 use Rattle.panel.specs.declared.PanelAnswer.{PanelAnswer}
 use Rattle.panel.specs.declared.PanelReason.{PanelReason}
+use Rattle.panel.specs.declared.PanelReading.{PanelReading}
+use Rattle.panel.specs.declared.PanelWriting.{PanelWriting}
 
 -- any byte other than 0 is a premise held
 abbrev pub flagOf : ℕ → Bool
@@ -45,6 +49,13 @@ changeOut given c = record { refusal = numberIn (c .outcome); board = nextOut gi
 abbrev pub additionOut : PanelBoard → Addition → PanelAddition
 additionOut given a =
     record { refusal = numberIn (a .outcome); place = a .place; added = a .added; board = nextOut given (a .outcome) (a .board) }
+
+abbrev pub readingOut : PanelBoard → Reading → PanelReading
+readingOut given r =
+    record { refusal = numberIn (r .outcome); clauses = r .clauses; added = r .added; board = nextOut given (r .outcome) (r .board) }
+
+abbrev pub writingOut : Writing → PanelWriting
+writingOut w = record { refusal = numberIn (w .outcome); bytes = w .bytes }
 
 -- the header's numbers for how a literal stands: 0 open, 1 stands, 2 ruled out, 3 conflict; 0 where refused
 abbrev pub answerOut : Standing → PanelAnswer

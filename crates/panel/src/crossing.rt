@@ -5,16 +5,20 @@ ghost use mathlib.Core.List.{map};
 ghost use Prim.Native.Nat.{_<_};
 ghost use Rattle.board.specs.Faults.{numberIn};
 ghost use Rattle.board.specs.Grounds.{byteOf};
-ghost use Rattle.panel.specs.Crossing.{flagOf, boardIn, boardOut, Narrow, nextOut, changeOut, additionOut, answerOut};
+ghost use Rattle.panel.specs.Crossing.{flagOf, boardIn, boardOut, Narrow, nextOut, changeOut, additionOut, answerOut, readingOut, writingOut};
 use crate::PanelAddition;
 use crate::PanelAnswer;
 use crate::PanelBoard;
 use crate::PanelChange;
+use crate::PanelReading;
+use crate::PanelWriting;
 use board::Board;
 use board::Change;
 use board::Outcome;
 use board::asking::Standing;
 use board::rules::Addition;
+use dimacs::reading::Reading;
+use dimacs::writing::Writing;
 use literals::refusal::number;
 
 // The premises that the bytes of a board hold.
@@ -114,6 +118,32 @@ pub fn addition_out(given: PanelBoard, addition: Addition) -> PanelAddition
         place: addition.place,
         added: addition.added as u16,
         board: next_board(given, outcome, next),
+    }
+}
+
+// What reading a text tells C.
+pub fn reading_out(given: PanelBoard, reading: Reading) -> PanelReading
+    requires { ⌜ Narrow (reading .board) × (reading .clauses < 65536) × (reading .added < 65536) ⌝ }
+    ensures { λ r. ⌜ r ≡ readingOut given reading ⌝ }
+{
+    let outcome = reading.outcome;
+    let next = reading.board;
+    PanelReading {
+        refusal: number_of(outcome),
+        clauses: reading.clauses as u16,
+        added: reading.added as u16,
+        board: next_board(given, outcome, next),
+    }
+}
+
+// What writing a text tells C.
+pub fn writing_out(writing: Writing) -> PanelWriting
+    ensures { λ r. ⌜ r ≡ writingOut writing ⌝ }
+{
+    let outcome = writing.outcome;
+    PanelWriting {
+        refusal: number_of(outcome),
+        bytes: writing.bytes,
     }
 }
 

@@ -1,4 +1,4 @@
-// The C boundary: each exported function is the board's call and nothing else. include/tupahineka.h declares them.
+// The C boundary: each exported function is a call of `board` or `dimacs` and nothing else. include/tupahineka.h declares them.
 
 mod crossing;
 
@@ -10,13 +10,17 @@ ghost use Rattle.board.specs.Rules.{ruled, ruledTable};
 ghost use Rattle.board.specs.Settling.{settleOutcome, settledLabels, settledRanks, settledSupports};
 ghost use Rattle.board.specs.Asking.{asked, reasoned, explained};
 ghost use Rattle.board.specs.Grounds.{groundOutcome, groundMarks, blameOutcome, blameMarks};
-ghost use Rattle.panel.specs.Crossing.{boardIn, boardOut, changeOut, additionOut, answerOut, reasonOut};
+ghost use Rattle.dimacs.specs.Reading.{readAnswer, readTable};
+ghost use Rattle.dimacs.specs.Writing.{writeAnswer, writeBytes};
+ghost use Rattle.panel.specs.Crossing.{boardIn, boardOut, changeOut, additionOut, answerOut, reasonOut, readingOut, writingOut};
 use crate::crossing::addition_out;
 use crate::crossing::answer_out;
 use crate::crossing::board_in;
 use crate::crossing::board_out;
 use crate::crossing::change_out;
 use crate::crossing::number_of;
+use crate::crossing::reading_out;
+use crate::crossing::writing_out;
 use board::Outcome;
 use literals::WIDTH;
 
@@ -40,6 +44,20 @@ pub struct PanelAddition {
     pub place: usize,
     pub added: u16,
     pub board: PanelBoard,
+}
+
+#[repr(C)]
+pub struct PanelReading {
+    pub refusal: u8,
+    pub clauses: u16,
+    pub added: u16,
+    pub board: PanelBoard,
+}
+
+#[repr(C)]
+pub struct PanelWriting {
+    pub refusal: u8,
+    pub bytes: usize,
 }
 
 #[repr(C)]
@@ -76,6 +94,24 @@ pub extern "C" fn tup_rule(given: PanelBoard, table: &mut [i16], bytes: &[u8]) -
 {
     let addition = board::rules::add_rule(board_in(given), table, bytes);
     addition_out(given, addition)
+}
+
+#[no_mangle]
+pub extern "C" fn tup_read_dimacs(given: PanelBoard, table: &mut [i16], text: &[u8]) -> PanelReading
+    ensures { λ r. ⌜ r ≡ readingOut given (readAnswer (now (table .entry)) (boardIn given) (now (text .entry))) ⌝ }
+    ensures { λ _. ⌜ now (table .exit) ≡ readTable (now (table .entry)) (boardIn given) (now (text .entry)) ⌝ }
+{
+    let reading = dimacs::reading::read(board_in(given), table, text);
+    reading_out(given, reading)
+}
+
+#[no_mangle]
+pub extern "C" fn tup_write_dimacs(given: PanelBoard, table: &[i16], out: &mut [u8]) -> PanelWriting
+    ensures { λ r. ⌜ r ≡ writingOut (writeAnswer (now (table .entry)) (boardIn given) (now (out .entry))) ⌝ }
+    ensures { λ _. ⌜ now (out .exit) ≡ writeBytes (now (table .entry)) (boardIn given) (now (out .entry)) ⌝ }
+{
+    let writing = dimacs::writing::write(board_in(given), table, out);
+    writing_out(writing)
 }
 
 #[no_mangle]

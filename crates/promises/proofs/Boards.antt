@@ -1,11 +1,11 @@
--- 01's boards "Marked P: to be proved", together: what 01 says of each, and that the calls come to the same. Rules are given as 01's
--- bytes, and each board is opened over a table of 8 rows of zeros.
+-- 01's boards "Marked P: to be proved", together: what 01 says of each, and that the calls come to the same; and one of a text, by 02's
+-- Ticket 2. Rules are given as 01's bytes, and each board is opened over a table of 8 rows of zeros.
 use mathlib.Core.Path.{_≡_, refl}
 use mathlib.Core.Bool.{true, false}
 use mathlib.Core.List.{List, [], _∷_, map}
 use Prim.Native.Nat.{ℕ, _*_}
 use lib.IntN.{ℤ, pos, negsuc}
-use lib.ListN.{replicate}
+use lib.ListN.{replicate, take}
 use Rattle.meaning.specs.Literals.{place, opp}
 use Rattle.meaning.specs.Formulae.{value, occurs, symbolsOf}
 use Rattle.meaning.specs.Clauses.{hit, implicate, prime, ofSize}
@@ -23,7 +23,14 @@ use Rattle.board.specs.Asking.{askFaults, asked, explainFaults, reasoned}
 use Rattle.board.specs.Grounds.{blameFaults, blameOutcome, blameMarks}
 use Rattle.board.specs.declared.asking.Standing.{Standing}
 use Rattle.board.specs.declared.asking.Standing.the-variants.{Conflict, Stands, Open}
-use Rattle.promises.specs.Calls.{Call, opens, adds, holds, withdraws, World, outcome, after, run}
+use Rattle.spelling.specs.Text.{digitsOf}
+use Rattle.spelling.proofs.Ascii.{ascii}
+use Rattle.dimacs.specs.Words.{upTo, since, wordsIn, decimal, numberOf, literalOf}
+use Rattle.dimacs.specs.Form.{pastComments, startsWith, countsIn, headerIn, clausesIn, parseText}
+use Rattle.dimacs.specs.Clauses.{oneOf, clauseFaults, clausesFaults, passed}
+use Rattle.dimacs.specs.Reading.{textFaults, readFaults, readAnswer, readTable}
+use Rattle.dimacs.specs.Writing.{spaced, clauseLines, textOf, literalsOf, clausesAt, textOn, writeFaults, writeOutcome, writeAnswer, writeBytes}
+use Rattle.promises.specs.Calls.{Call, opens, adds, holds, withdraws, reads, World, outcome, after, run}
 use Rattle.promises.specs.Demands.{rowsOfWorld}
 
 -- ---- what is asked of the board that some calls leave, and what the answers are
@@ -42,10 +49,17 @@ data Question : Type 0 where
   rank : ℤ → Question
   -- the marks that blame writes, for each symbol + and then −
   marks : Question
+  -- how many clauses come before the first at fault, in a text
+  stops : List ℕ → Question
+  -- the text that is written
+  written : Question
+  -- what is asked once one call more is made
+  past : Call → Question → Question
 
 data Answer : Type 0 where
   number : ℕ → Answer
   refused-at : (refusal place : ℕ) → Answer
+  stopped : (refusal clauses : ℕ) → Answer
   appended-rows : List (List ℕ) → Answer
   bytes : List ℕ → Answer
   standing : Standing → Answer
@@ -73,6 +87,9 @@ tell w labels =
 tell w (ask l) = standing (asked (w .table) (w .board) l)
 tell w (rank l) = number (reasoned (w .table) (w .board) l .rank)
 tell w marks = bytes (blameMarks (w .table) (w .board) (blank (2 * w .board .symbols)))
+tell w (stops text) = let a = readAnswer (w .table) (w .board) text in stopped (numberIn (a .outcome)) (a .clauses)
+tell w written = bytes (take (writeAnswer (w .table) (w .board) (blank 100) .bytes) (writeBytes (w .table) (w .board) (blank 100)))
+tell w (past c question) = tell (after w c) question
 
 -- ---- the boards
 
@@ -102,7 +119,14 @@ otherwise = rule (0x14 ∷ 0x11 ∷ 0x10 ∷ 1 ∷ 0x10 ∷ 2 ∷ [])
 abbrev back : Call
 back = rule (0x14 ∷ 0x10 ∷ 2 ∷ 0x10 ∷ 1 ∷ [])
 
--- Quoted from 01; the sentence on places from 02, Ticket 1.
+-- 1 implies 2, 2 implies 3, as clauses of a text; and a text that says that it has another clause
+abbrev chain : Call
+chain = reads lent (ascii "c a chain\np cnf 3 2\n-1 2 0 -2\n 03 0\n")
+
+abbrev short : Call
+short = reads lent (ascii "p cnf 3 2\n-3 0\n")
+
+-- Quoted from 01; the sentence on places from 02, Ticket 1, those on texts from Ticket 2.
 abbrev boards : List (List Call × List (Question × Answer))
 boards =
     -- "1 and not 1: refusal 8. 1 or not 1: no row."
@@ -151,6 +175,27 @@ boards =
           ∷ [],
     )
     ∷ ([], (breaks (0x99 ∷ []), refused-at 1 noPlace) ∷ [])
+    -- "Each clause is added as one rule, in order." 3 stands by both. "Write the rows in use too"
+    ∷ (
+      opens 3 ∷ chain ∷ hold (pos 1) ∷ [],
+      (rows, appended-rows ((minus 1 ∷ plus 2 ∷ []) ∷ (minus 2 ∷ plus 3 ∷ []) ∷ []))
+          ∷ (ask (pos 3), standing Stands)
+          ∷ (rank (pos 3), number 2)
+          ∷ (written, bytes (ascii "p cnf 3 2\n-1 2 0\n-2 3 0\n"))
+          ∷ [],
+    )
+    -- "15 .. ahead of all others but 1; then, for the first clause at fault, 2, 7, 8, 9 as for rules, an empty clause giving 8". "A refused reading
+    -- changes nothing."
+    ∷ (
+      opens 3 ∷ chain ∷ hold (pos 1) ∷ [],
+      (refusal short, number 15)
+          ∷ (past short rows, appended-rows ((minus 1 ∷ plus 2 ∷ []) ∷ (minus 2 ∷ plus 3 ∷ []) ∷ []))
+          ∷ (past short labels, bytes (1 ∷ 1 ∷ 1 ∷ []))
+          ∷ (stops (ascii "p cnf 4 3\n-3 0\n3 -3 0\n-4 0\n"), stopped 2 2)
+          ∷ (stops (ascii "p cnf 3 2\n-3 0\n0\n"), stopped 8 1)
+          ∷ (refusal (reads 16 (ascii "p cnf 3 1\n-3 0\n")), number 9)
+          ∷ [],
+    )
     ∷ []
 
 -- what the calls answer, one after the other: 0 for each that is done
@@ -167,5 +212,5 @@ abbrev due : List Call × List (Question × Answer) → List ℕ × List Answer
 due b = (map (λ c. 0) (b .0), map (λ q. q .1) (b .1))
 
 boards-hold : map found boards ≡ map due boards
-unfolding tell outcome after opp value occurs symbolsOf hit implicate prime ofSize gives next reached rankBy labelsOf rankAbove reachesIn reaches blamed blame placeOf literalAt numbersAt zeros rising rowSound rowsSound decode rowsIn encode symbolAt secondOf bodyOf parse wholeOf appended goodBoard openFaults opened flagFaults flagChanged ruleFaults ruled ruledTable settleFaults settleOutcome settledLabels askFaults asked explainFaults reasoned blameFaults blameOutcome blameMarks
+unfolding tell outcome after opp value occurs symbolsOf hit implicate prime ofSize gives next reached rankBy labelsOf rankAbove reachesIn reaches blamed blame placeOf literalAt numbersAt zeros rising rowSound rowsSound decode rowsIn encode symbolAt secondOf bodyOf parse wholeOf appended goodBoard openFaults opened flagFaults flagChanged ruleFaults ruled ruledTable settleFaults settleOutcome settledLabels askFaults asked explainFaults reasoned blameFaults blameOutcome blameMarks digitsOf upTo since wordsIn decimal numberOf literalOf pastComments startsWith countsIn headerIn clausesIn parseText oneOf clauseFaults clausesFaults passed textFaults readFaults readAnswer readTable spaced clauseLines textOf literalsOf clausesAt textOn writeFaults writeOutcome writeAnswer writeBytes
 boards-hold = refl

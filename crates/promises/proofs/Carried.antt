@@ -7,9 +7,12 @@ use lib.IntN.{ℤ}
 use lib.ListN.{drop}
 use Rattle.board.specs.Changes.{opened, held, withdrawn}
 use Rattle.board.specs.Rules.{ruled, ruledTable}
+use Rattle.board.specs.declared.Board.{Board}
 use Rattle.board.specs.declared.Change.{Change}
 use Rattle.board.specs.declared.rules.Addition.{Addition}
-use Rattle.promises.specs.Calls.{opens, adds, holds, withdraws, asks, explains, settles, grounds, blames, World, front, after}
+use Rattle.dimacs.specs.Reading.{readAnswer, readTable}
+use Rattle.dimacs.specs.declared.reading.Reading.{Reading}
+use Rattle.promises.specs.Calls.{opens, adds, holds, withdraws, asks, explains, settles, grounds, blames, reads, writes, World, front, after}
 
 module _ (w : World) where
   -- the world with the board of an answer
@@ -21,11 +24,19 @@ module _ (w : World) where
   open-carried S r e = ap with-board e
 
   module _ (lent : ℕ) where
-    rule-carried : (bytes : List ℕ) (r : Addition) (t : List ℤ) → r ≡ ruled (front w lent) (w .board) bytes → t ≡ ruledTable (front w lent) (w .board) bytes
-        → _≡_ {A = World} (record { board = r .board; table = t ++ drop lent (w .table) }) (after w (adds lent bytes))
-    unfolding after
-    rule-carried bytes r t e f =
-        ap₂ (λ (a : Addition) (x : List ℤ). let v : World = record { board = a .board; table = x ++ drop lent (w .table) } in v) e f
+    -- with that board, and the part that was lent as the call left it
+    with-part : Board → List ℤ → World
+    with-part b part = record { board = b; table = part ++ drop lent (w .table) }
+
+    rule-carried : (bytes : List ℕ) (r : Addition) (t : List ℤ) → r ≡ ruled (front w lent) (w .board) bytes
+        → t ≡ ruledTable (front w lent) (w .board) bytes → with-part (r .board) t ≡ after w (adds lent bytes)
+    unfolding after with-part
+    rule-carried bytes r t e f = ap₂ (λ (a : Addition). with-part (a .board)) e f
+
+    read-carried : (text : List ℕ) (r : Reading) (t : List ℤ) → r ≡ readAnswer (front w lent) (w .board) text
+        → t ≡ readTable (front w lent) (w .board) text → with-part (r .board) t ≡ after w (reads lent text)
+    unfolding after with-part
+    read-carried text r t e f = ap₂ (λ (a : Reading). with-part (a .board)) e f
 
     hold-carried : (l : ℤ) (r : Change) → r ≡ held (front w lent) (w .board) l → with-board r ≡ after w (holds lent l)
     unfolding after with-board
@@ -54,3 +65,7 @@ module _ (w : World) where
     blame-changes-nothing : (marks : List ℕ) → after w (blames lent marks) ≡ w
     unfolding after
     blame-changes-nothing marks = refl
+
+    write-changes-nothing : (out : List ℕ) → after w (writes lent out) ≡ w
+    unfolding after
+    write-changes-nothing out = refl

@@ -4,42 +4,37 @@ use mathlib.Core.Logic.{⊎-elim}
 use mathlib.Core.Bool.{Bool, true, false, not, _&&_}
 use mathlib.Core.List.{List, [], _∷_, _++_, append-assoc}
 use mathlib.Core.List.{List·Memᴰ as In, List·Memᴰ·head as here, List·Memᴰ·tail as there}
-use Prim.Native.Nat.{ℕ, zero, suc, _+_, _-_, _*_, _≤_, _<_, zero-le}
+use Prim.Native.Nat.{ℕ, zero, suc, _+_, _-_, _*_, _≤_, _<_}
 use native.Mathlib.Omega.{arith}
 use borrow.Author.Tests.{leb-true, ltb-true, ltb-false, not-false}
 use lib.Dec.{leb, ltb}
 use lib.IntN.{ℤ, natAbs}
-use lib.ListN.{length, take, drop, replicate, length-append}
+use lib.ListN.{length, take, drop, length-append}
 use lib.Seq.{drop-drop, take-at, drop-at, drop-set-lt}
 use Rattle.meaning.specs.Tests.{all, any, from}
-use Rattle.meaning.specs.Formulae.{ruleOf}
-use Rattle.meaning.specs.Clauses.{rowsOf}
+use Rattle.meaning.specs.Formulae.{Formula}
 use Rattle.meaning.proofs.Tests.{true-or-false, both-true, clash, all-of, from-in}
-use Rattle.meaning.proofs.SoundRows.{rows-sound}
-use Rattle.meaning.proofs.Forced.{accepted-words}
 use Rattle.literals.specs.Literal.{inRange, placeOf}
 use Rattle.literals.specs.Row.{width, rowsLent, numbersAt, rowSound, rowsSound, encode, Sound}
-use Rattle.literals.specs.declared.refusal.Refusal.{Refusal}
 use Rattle.literals.proofs.Places.{place-bound}
 use Rattle.literals.proofs.Decoding.{sound-at}
 use Rattle.literals.proofs.Encoding.{length-encode, encode-sound}
 use Rattle.implicates.specs.Appending.{encodeAll, appended}
 use Rattle.implicates.proofs.Appending.{length-appended}
 use Rattle.board.specs.Faults.{goodBoard}
-use Rattle.board.specs.Changes.{emptyBoard, openFaults, opened, holdFaults, withdrawFaults, withFlag, flagFaults}
-use Rattle.board.specs.Rules.{withRows, ruled, ruledTable}
+use Rattle.board.specs.Changes.{openFaults, opened, holdFaults, withdrawFaults, withFlag, flagFaults}
+use Rattle.board.specs.Rules.{withRows}
 use Rattle.board.specs.declared.Board.{Board}
-use Rattle.board.specs.declared.Outcome.the-variants.{Done, Refused}
-use Rattle.board.proofs.Goodness.{flagFrom, by-flags, good-is}
+use Rattle.board.specs.declared.Outcome.the-variants.{Done}
+use Rattle.board.proofs.Goodness.{flagFrom, by-flags, empty-good, good-is}
 use Rattle.board.proofs.Explaining.{none-given}
-use Rattle.promises.specs.Calls.{Call, opens, adds, holds, withdraws, asks, explains, settles, grounds, blames, World, front, faults, outcome, after, run, formulaIn, notOpen}
+use Rattle.promises.specs.Calls.{Call, opens, adds, holds, withdraws, asks, explains, settles, grounds, blames, reads, writes, World, front, faults, outcome, after, run, notOpen}
 use Rattle.promises.specs.Demands.{StaysGood}
-use Rattle.promises.proofs.Refusals.{cases, refused-untouched}
+use Rattle.promises.proofs.Refusals.{cases, so-after}
 use Rattle.promises.proofs.Changes.{hold-puts, withdraw-takes}
-use Rattle.promises.proofs.Tested.{added}
+use Rattle.promises.proofs.Tested.{rowsFor, Added, sound-rows, rule-added, text-added}
 use Rattle.promises.proofs.Lent.{numbers-front, numbers-lent}
 use Rattle.promises.proofs.Stored.{kept, after-them, whole, kept-long}
-use Rattle.promises.proofs.History.{done-or-refused}
 
 -- ---- rows appended to a table of sound rows
 
@@ -100,20 +95,6 @@ module _ (S : ℕ) where
 no-flags : (table : List ℤ) (b : Board) → goodBoard table b ≡ true → not (flagFrom (b .held) (2 * b .symbols)) ≡ true
 no-flags table b g = let k = good-is table b g in sym (by-flags table b (k .some) (k .sound .symbols) (k .lent) (k .sound .sound)) ∙ g
 
--- of premises that start empty none is set
-unset : (n k : ℕ) → flagFrom (replicate n false) k ≡ false
-unset zero zero = refl
-unset zero (suc k) = refl
-unset (suc n) zero = unset n zero
-unset (suc n) (suc k) = unset n k
-
--- a board just opened
-empty-good : (table : List ℤ) (S : ℕ) → leb 1 S && leb S 200 ≡ true → goodBoard table (emptyBoard S) ≡ true
-unfolding rowsSound
-empty-good table S e =
-    let count = both-true (leb 1 S) (leb S 200) e in
-    by-flags table (emptyBoard S) (leb-true 1 S (count .0)) (leb-true S 200 (count .1)) zero-le refl ∙ ap not (unset 400 (2 * S))
-
 -- the flag of a literal in range
 flag-good : (table : List ℤ) (b : Board) (l : ℤ) (flag : Bool) → goodBoard table b ≡ true → inRange (b .symbols) l ≡ true
     → goodBoard table (withFlag b l flag) ≡ true
@@ -136,10 +117,6 @@ unfolding after opened openFaults
 opened-good w S e = rw e (empty-good (w .table) S e)
 
 module _ (w : World) (g : Whole w) where
-  -- a refused call changes nothing
-  refused : (c : Call) → notOpen c ≡ true → (r : (why : Refusal) × (outcome w c ≡ Refused why)) → Whole (after w c)
-  refused c n r = rw (refused-untouched w c (r .0) (r .1), n) g
-
   -- a good hold or withdraw is of a literal in range
   flagged : (l : ℤ) (flag : Bool) → not (inRange (w .board .symbols) l) ≡ false → Whole (record { board = withFlag (w .board) l flag; table = w .table })
   flagged l flag e = flag-good (w .table) (w .board) l flag g (not-false (inRange (w .board .symbols) l) e)
@@ -152,38 +129,36 @@ module _ (w : World) (g : Whole w) where
   unfolding faults flagFaults
   withdraw-good lent l e = rw (withdraw-takes w lent l e) (flagged l false (none-given (withdrawFaults (front w lent) (w .board) l) (cases w (withdraws lent l) e) 1))
 
-  -- the rows of a good rule are sound, and lie in the part that it was lent
-  rule-good : (lent : ℕ) (bytes : List ℕ) → outcome w (adds lent bytes) ≡ Done → Whole (after w (adds lent bytes))
-  unfolding after faults ruled ruledTable
-  rule-good lent bytes e =
-      let t = added w lent bytes e in
+  -- the rows of accepted rules are sound, and lie in the part that the call was lent
+  added-good : {next : World} {lent : ℕ} {fs : List Formula} {count : ℕ} → Added w next lent fs count → Whole next
+  added-good {lent = lent} {fs = fs} a =
       let S = w .board .symbols in
-      let f = formulaIn S bytes in
-      let rows = rowsOf (ruleOf S f) in
-      let sat = accepted-words S f (t .accepted) .2 in
+      let rows = rowsFor w fs in
       let part = front w lent in
       let rest = drop lent (w .table) in
-      let room : width * (w .board .rows + length rows) ≤ length part = omega (arith, t .fits) in
+      let room : width * (w .board .rows + length rows) ≤ length part = omega (arith, a .fits) in
       let fine : (row : List ℕ) → In row rows → rowSound S (encode row) ≡ true =
-      λ row m. let x = rows-sound S f row sat m in encode-sound S row (x .some) (x .rising) (x .below) in
+      λ row m. let x = sound-rows S fs (a .accepted) row m in encode-sound S row (x .some) (x .rising) (x .below) in
       let fits : w .board .rows + length rows ≤ rowsLent (appended part (w .board .rows) rows ++ rest) =
-      omega (arith, t .fits, length-append (appended part (w .board .rows) rows) rest, length-appended part (w .board .rows) rows room) in
-      rw (cases w (adds lent bytes) e)
-      (by-flags (appended part (w .board .rows) rows ++ rest) (withRows (w .board) (length rows)) (t .board .some) (t .board .sound .symbols) fits
-      (appended-sound S part rest (w .board .rows) rows room fine (t .board .sound))
+      omega (arith, a .fits, length-append (appended part (w .board .rows) rows) rest, length-appended part (w .board .rows) rows room) in
+      rw (a .board, a .table)
+      (by-flags (appended part (w .board .rows) rows ++ rest) (withRows (w .board) (length rows)) (a .good .some) (a .good .sound .symbols) fits
+      (appended-sound S part rest (w .board .rows) rows room fine (a .good .sound))
       ∙ no-flags (w .table) (w .board) g)
 
   step : (c : Call) → notOpen c ≡ true → Whole (after w c)
   unfolding after
   step (opens S) n = clash n refl
-  step (adds lent bytes) n = ⊎-elim (rule-good lent bytes) (refused (adds lent bytes) refl) (done-or-refused (outcome w (adds lent bytes)))
-  step (holds lent l) n = ⊎-elim (hold-good lent l) (refused (holds lent l) refl) (done-or-refused (outcome w (holds lent l)))
-  step (withdraws lent l) n = ⊎-elim (withdraw-good lent l) (refused (withdraws lent l) refl) (done-or-refused (outcome w (withdraws lent l)))
+  step (adds lent bytes) n = so-after Whole w (adds lent bytes) refl g (λ e. added-good (rule-added w lent bytes e))
+  step (holds lent l) n = so-after Whole w (holds lent l) refl g (hold-good lent l)
+  step (withdraws lent l) n = so-after Whole w (withdraws lent l) refl g (withdraw-good lent l)
   step (asks lent l) n = g
   step (explains lent l) n = g
   step (settles lent labels ranks supports) n = g
   step (grounds lent l marks) n = g
   step (blames lent marks) n = g
+  step (reads lent text) n = so-after Whole w (reads lent text) refl g (λ e. added-good (text-added w lent text e))
+  step (writes lent out) n = g
 
 -- ---- any calls but an open
 

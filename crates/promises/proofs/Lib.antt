@@ -6,7 +6,9 @@ mod Lent
 mod Tested
 pub mod Stored
 pub mod Places
+pub mod Stops
 pub mod Told
+pub mod Texts
 pub mod Explained
 mod History
 pub mod Good

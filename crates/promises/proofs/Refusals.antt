@@ -3,12 +3,13 @@ use mathlib.Core.Path.{_≡_, refl, sym, ap, _∙_}
 use mathlib.Core.Bool.{Bool, true, false, cond}
 use mathlib.Core.List.{List, [], _∷_, List·Memᴰ as In, List·Memᴰ·head as head, List·Memᴰ·tail as tail}
 use mathlib.Core.List.{List·Memᴰ·cases-cons as in-cons, List·Memᴰ·not-nil as in-nil}
-use mathlib.Core.Logic.{_⊎_, inl, inr}
+use mathlib.Core.Logic.{_⊎_, inl, inr, ⊎-elim}
 use Prim.Native.Nat.{ℕ, _<_}
 use native.Mathlib.Omega.{arith}
 use lib.ListN.{take-append-drop}
 use Rattle.meaning.specs.Literals.{opp, has, conflict}
 use Rattle.literals.specs.Literal.{placeOf}
+use Rattle.literals.specs.declared.refusal.Refusal.{Refusal}
 use Rattle.board.specs.Faults.{Fault, firstFault, numberIn}
 use Rattle.board.specs.Changes.{opened, flagChanged}
 use Rattle.board.specs.Rules.{ruled, ruledTable}
@@ -19,7 +20,10 @@ use Rattle.board.specs.declared.Outcome.{Outcome}
 use Rattle.board.specs.declared.asking.Reason.{Reason}
 use Rattle.board.specs.declared.Outcome.the-variants.{Done, Refused}
 use Rattle.board.proofs.Answered.{told-by, rule-told}
-use Rattle.promises.specs.Calls.{Call, opens, adds, holds, withdraws, asks, explains, settles, grounds, blames, World, front, faults, askOutcome, outcome, after}
+use Rattle.dimacs.specs.Reading.{readFaults, readAnswer, readTable}
+use Rattle.dimacs.specs.Writing.{writeOutcome, writeAnswer, writeBytes}
+use Rattle.dimacs.specs.declared.reading.Reading.{Reading}
+use Rattle.promises.specs.Calls.{Call, opens, adds, holds, withdraws, asks, explains, settles, grounds, blames, reads, writes, World, front, faults, askOutcome, outcome, after, notOpen}
 use Rattle.promises.specs.Demands.{FirstGiven, here, later, RefusedExactly, DoneExactly, RefusedUntouched, RefusedUnwritten, RefusedHandsBack}
 
 -- ---- what a call answers
@@ -35,7 +39,7 @@ stands-done known p = go (conflict known) (has known p) (has known (opp p)) refl
     go false false false ea eb ec = rw (ea, eb, ec)
 
 pub first-case : (w : World) (c : Call) → outcome w c ≡ firstFault (faults w c)
-unfolding outcome faults opened flagChanged asked reasoned settleOutcome groundOutcome blameOutcome
+unfolding outcome faults opened flagChanged asked reasoned settleOutcome groundOutcome blameOutcome readAnswer writeAnswer writeOutcome
 first-case w (opens S) = refl
 first-case w (adds lent bytes) = rule-told (front w lent) (w .board) bytes
 first-case w (holds lent l) = refl
@@ -47,6 +51,9 @@ first-case w (explains lent l) = told-by (λ (r : Reason). r .outcome) _ _ (firs
 first-case w (settles lent labels ranks supports) = refl
 first-case w (grounds lent l marks) = refl
 first-case w (blames lent marks) = refl
+first-case w (reads lent text) =
+    told-by (λ (r : Reading). r .outcome) _ _ (firstFault (readFaults (front w lent) (w .board) text)) (λ e. refl) (λ why e. refl)
+first-case w (writes lent out) = refl
 
 -- so what is known of the answer is known of the cases
 pub cases : (w : World) (c : Call) {o : Outcome} → outcome w c ≡ o → firstFault (faults w c) ≡ o
@@ -94,7 +101,7 @@ done-exactly w c = (λ e. none-of (faults w c) (cases w c e), λ h. first-case w
 -- ---- what it leaves
 
 pub refused-untouched : RefusedUntouched
-unfolding after faults opened ruled ruledTable flagChanged
+unfolding after faults opened ruled ruledTable flagChanged readAnswer readTable
 refused-untouched w (opens S) why e = rw (cases w (opens S) e)
 refused-untouched w (adds lent bytes) why e = rw (cases w (adds lent bytes) e, take-append-drop)
 refused-untouched w (holds lent l) why e = rw (cases w (holds lent l) e)
@@ -104,20 +111,39 @@ refused-untouched w (explains lent l) why e = refl
 refused-untouched w (settles lent labels ranks supports) why e = refl
 refused-untouched w (grounds lent l marks) why e = refl
 refused-untouched w (blames lent marks) why e = refl
+refused-untouched w (reads lent text) why e = rw (cases w (reads lent text) e, take-append-drop)
+refused-untouched w (writes lent out) why e = refl
+
+-- a call is done or refused
+pub done-or-refused : (o : Outcome) → (o ≡ Done) ⊎ ((why : Refusal) × (o ≡ Refused why))
+done-or-refused Done = inl refl
+done-or-refused (Refused why) = inr (why, refl)
+
+-- what is so before a call but an open is so after it: where it is refused,
+module _ (So : World → Type 0) (w : World) (c : Call) (n : notOpen c ≡ true) (before : So w) where
+  pub so-refused : (why : Refusal) × (outcome w c ≡ Refused why) → So (after w c)
+  so-refused r = rw (refused-untouched w c (r .0) (r .1), n) before
+
+  -- and anyhow, if it is where it is done
+  pub so-after : (outcome w c ≡ Done → So (after w c)) → So (after w c)
+  so-after good = ⊎-elim good so-refused (done-or-refused (outcome w c))
 
 pub refused-unwritten : RefusedUnwritten
-unfolding outcome settledLabels settledRanks settledSupports groundMarks blameMarks
+unfolding outcome settledLabels settledRanks settledSupports groundMarks blameMarks writeAnswer writeBytes
 refused-unwritten w lent why =
     record {
       settle = λ labels ranks supports e. (rw e, rw e, rw e);
       ground = λ l marks e. rw e;
       blame = λ marks e. rw e;
+      write = λ out e. rw e;
     }
 
 pub refused-hands-back : RefusedHandsBack
-unfolding faults ruled reasoned explained
+unfolding faults ruled reasoned explained readAnswer outcome writeAnswer
 refused-hands-back w lent why =
     record {
       rule = λ bytes e. rw (cases w (adds lent bytes) e);
       explain = λ l e. (let f = cases w (explains lent l) e in (rw f, rw f, rw f, rw f));
+      read = λ text e. rw (cases w (reads lent text) e);
+      write = λ out e. rw e;
     }

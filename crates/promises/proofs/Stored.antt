@@ -1,32 +1,26 @@
--- Demand 2, the rows stored for a rule: after a good rule call the rows in use are those before it, and then the rule's; nothing else changes.
-use mathlib.Core.Path.{_≡_, refl, sym, ap, ap₂, _∙_}
-use mathlib.Core.List.{List, [], _∷_, _++_, append-assoc}
+-- Demand 2, the rows stored for rules: after a good call that adds them the rows in use are those before it, and then the rules'; nothing else
+-- changes.
+use mathlib.Core.Path.{_≡_, refl, sym, ap, ap₂, subst, _∙_}
+use mathlib.Core.List.{List, [], _∷_, _++_, append-assoc, append-nil}
 use mathlib.Core.List.{List·Memᴰ as In, List·Memᴰ·head as here, List·Memᴰ·tail as there}
 use Prim.Native.Nat.{ℕ, zero, suc, _+_, _*_, _≤_}
 use native.Mathlib.Omega.{arith}
 use native.Mathlib.Nat.{zero-add, suc-add}
-use borrow.Author.Tests.{leb-true}
 use lib.IntN.{ℤ}
 use lib.ListN.{length, take, drop, length-append, take-append-drop}
 use lib.Seq.{drop-drop, take-at, drop-at, length-take-le, take-append-le, drop-append-le}
-use Rattle.meaning.specs.Formulae.{ruleOf, symbolsOf}
+use Rattle.meaning.specs.Formulae.{Formula, ruleOf}
 use Rattle.meaning.specs.Clauses.{rowsOf}
 use Rattle.meaning.proofs.Tables.{tabulate-same}
-use Rattle.meaning.proofs.SoundRows.{rows-sound}
-use Rattle.meaning.proofs.Forced.{accepted-words}
 use Rattle.literals.specs.Row.{width, numbersAt, decode, rowsIn, encode}
 use Rattle.literals.proofs.Encoding.{length-encode, decode-encode}
 use Rattle.implicates.specs.Appending.{encodeAll, appended}
 use Rattle.implicates.proofs.Appending.{length-encodeAll}
-use Rattle.board.specs.Faults.{firstFault}
-use Rattle.board.specs.Rules.{noPlace, withRows, ruled, ruledTable}
+use Rattle.board.specs.Rules.{ruled}
 use Rattle.board.specs.declared.Board.{Board}
-use Rattle.board.specs.declared.Outcome.the-variants.{Done}
-use Rattle.board.specs.declared.rules.Addition.{Addition}
-use Rattle.promises.specs.Calls.{adds, World, front, faults, outcome, after, formulaIn}
-use Rattle.promises.specs.Demands.{Appends, RuleAppends}
-use Rattle.promises.proofs.Refusals.{cases}
-use Rattle.promises.proofs.Tested.{Added, added}
+use Rattle.promises.specs.Calls.{adds, World, front, after, formulaIn}
+use Rattle.promises.specs.Demands.{Appends, RuleAppends, ReadAppends}
+use Rattle.promises.proofs.Tested.{rowsFor, Added, sound-rows, rule-added, text-added}
 use Rattle.promises.proofs.Lent.{rows-front, rows-lent}
 
 -- ---- the rows of a table, from the front
@@ -96,63 +90,47 @@ module _ (table rest : List ℤ) (used : ℕ) (rows : List (List ℕ)) (room : w
       ∙ ap (λ (k : ℕ). drop k table ++ rest) (sym n)
       ∙ sym (drop-append-le (width * (used + length rows)) table rest (omega (arith, n)))
 
--- ---- a good rule call
+-- ---- a good call that adds rules
 
-module _ (w : World) (lent : ℕ) (bytes : List ℕ) (e : outcome w (adds lent bytes) ≡ Done) where
-  abbrev S : ℕ
-  S = w .board .symbols
-
+module _ {w next : World} {lent : ℕ} {fs : List Formula} {count : ℕ} (a : Added w next lent fs count) where
   abbrev new : List (List ℕ)
-  new = rowsOf (ruleOf S (formulaIn S bytes))
-
-  done : firstFault (faults w (adds lent bytes)) ≡ Done
-  done = cases w (adds lent bytes) e
-
-  t : Added w lent (formulaIn S bytes)
-  t = added w lent bytes e
+  new = rowsFor w fs
 
   room : width * (w .board .rows + length new) ≤ length (front w lent)
-  room = omega (arith, t .fits)
+  room = omega (arith, a .fits)
 
   few : (row : List ℕ) → In row new → length row ≤ width
-  few row m =
-      let x = accepted-words S (formulaIn S bytes) (t .accepted) in
-      omega (arith, rows-sound S (formulaIn S bytes) row (x .2) m .most, leb-true (length (symbolsOf S (formulaIn S bytes))) 8 (x .1))
-
-  table-is : after w (adds lent bytes) .table ≡ appended (front w lent) (w .board .rows) new ++ drop lent (w .table)
-  unfolding after faults ruledTable
-  table-is = rw done
-
-  board-is : ruled (front w lent) (w .board) bytes
-      ≡ record { outcome = Done; place = noPlace; added = length new; board = withRows (w .board) (length new) }
-  unfolding faults ruled
-  board-is = rw done
-
-  next-board : after w (adds lent bytes) .board ≡ withRows (w .board) (length new)
-  unfolding after
-  next-board = ap (λ (a : Addition). a .board) board-is
+  few row m = sound-rows (w .board .symbols) fs (a .accepted) row m .most
 
   whole-table : (front w lent) ++ drop lent (w .table) ≡ w .table
   whole-table = take-append-drop lent (w .table)
 
-  appends : Appends w lent bytes new
+  pub appends : Appends w next new count
   appends =
       record {
         rows =
-            rw (next-board, table-is)
+            rw (a .board, a .table)
             (rows-appended (front w lent) (drop lent (w .table)) (w .board .rows) new room few
-            ∙ ap (λ (rows : List (List ℕ)). rows ++ new) (rows-lent lent (w .board .rows) (w .table) (t .board .sound .room)));
-        added = ap (λ (a : Addition). a .added) board-is;
-        used = ap (λ (b : Board). b .rows) next-board;
-        symbols = ap (λ (b : Board). b .symbols) next-board;
-        premises = ap (λ (b : Board). b .held) next-board;
+            ∙ ap (λ (rows : List (List ℕ)). rows ++ new) (rows-lent lent (w .board .rows) (w .table) (a .good .sound .room)));
+        told = a .told;
+        used = ap (λ (b : Board). b .rows) (a .board);
+        symbols = ap (λ (b : Board). b .symbols) (a .board);
+        premises = ap (λ (b : Board). b .held) (a .board);
         before =
-            rw table-is (front-kept (front w lent) (drop lent (w .table)) (w .board .rows) new room)
+            rw (a .table) (front-kept (front w lent) (drop lent (w .table)) (w .board .rows) new room)
             ∙ ap (take (width * w .board .rows)) whole-table;
         beyond =
-            rw table-is (rest-kept (front w lent) (drop lent (w .table)) (w .board .rows) new room)
+            rw (a .table) (rest-kept (front w lent) (drop lent (w .table)) (w .board .rows) new room)
             ∙ ap (drop (width * (w .board .rows + length new))) whole-table;
       }
 
 pub rule-appends : RuleAppends
-rule-appends w lent bytes e = appends w lent bytes e
+rule-appends w lent bytes e =
+    let S = w .board .symbols in
+    let next = after w (adds lent bytes) in
+    let count = ruled (front w lent) (w .board) bytes .added in
+    subst (λ (new : List (List ℕ)). Appends w next new count) (append-nil (rowsOf (ruleOf S (formulaIn S bytes))))
+    (appends (rule-added w lent bytes e))
+
+pub read-appends : ReadAppends
+read-appends w lent text e = appends (text-added w lent text e)

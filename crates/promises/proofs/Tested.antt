@@ -1,26 +1,65 @@
--- What is known once a call is done: that each of its tests was passed.
-use mathlib.Core.Path.{_≡_, refl}
+-- What is known once a call that adds rules is done, one rule or those of a text: that each of its tests was passed, and what it left.
+use mathlib.Core.Path.{_≡_, refl, sym, subst}
 use mathlib.Core.Bool.{true, _&&_}
-use mathlib.Core.List.{List}
+use mathlib.Core.List.{List, [], _∷_, _++_, append-nil, Memᴰ·of-map, List·Memᴰ as In}
 use Prim.Native.Nat.{ℕ, _+_, _≤_}
+use native.Mathlib.Omega.{arith}
 use borrow.Author.Tests.{leb-true, not-false}
 use lib.Dec.{leb}
-use lib.ListN.{length}
-use Rattle.meaning.specs.Formulae.{Formula, inside, symbolsOf, ruleOf}
-use Rattle.meaning.specs.Clauses.{rowsOf, satisfiable}
-use Rattle.meaning.specs.SecondWay.{accepted}
-use Rattle.meaning.proofs.Tests.{and-intro, clash}
-use Rattle.literals.specs.Row.{rowsLent}
+use lib.ListN.{length, drop}
+use Rattle.meaning.specs.Tests.{all}
+use Rattle.meaning.specs.Formulae.{Formula, inside, symbolsOf, Rule, ruleOf}
+use Rattle.meaning.specs.Clauses.{rowsOf, allRows, satisfiable}
+use Rattle.meaning.specs.SecondWay.{accepted, rulesOf}
+use Rattle.meaning.proofs.Tests.{and-intro, all-at, clash}
+use Rattle.meaning.proofs.Rows.{all-rows-in}
+use Rattle.meaning.proofs.SoundRows.{SoundRow, rows-sound}
+use Rattle.meaning.proofs.Forced.{accepted-words}
+use Rattle.literals.specs.Row.{width, rowsLent}
 use Rattle.formula.specs.Parse.{Parsed, good, bad, wholeOf}
 use Rattle.formula.specs.Answers.{isGood}
 use Rattle.formula.proofs.Widening.{whole-read}
-use Rattle.board.specs.Faults.{goodBoard}
-use Rattle.board.specs.Rules.{ruleFaults, formulaOf}
+use Rattle.implicates.specs.Appending.{appended}
+use Rattle.board.specs.Faults.{goodBoard, firstFault}
+use Rattle.board.specs.Rules.{ruleFaults, formulaOf, withRows, ruled, ruledTable}
 use Rattle.board.specs.declared.Outcome.the-variants.{Done}
 use Rattle.board.proofs.Goodness.{Good, good-is}
 use Rattle.board.proofs.Explaining.{none-given}
-use Rattle.promises.specs.Calls.{adds, World, front, faults, outcome, formulaIn}
+use Rattle.dimacs.specs.Form.{clausesOf, parseText}
+use Rattle.dimacs.specs.Reading.{formulaeIn, readFaults, readAnswer, readTable}
+use Rattle.dimacs.proofs.FirstFaults.{clauses-accepted}
+use Rattle.dimacs.proofs.ClauseCount.{read-clauses, read-fits, read-good}
+use Rattle.promises.specs.Calls.{adds, reads, World, front, faults, outcome, after, formulaIn}
 use Rattle.promises.proofs.Refusals.{cases}
+
+-- the rows of rules on a world's board
+abbrev pub rowsFor : World → List Formula → List (List ℕ)
+rowsFor w fs = allRows (rulesOf (w .board .symbols) fs)
+
+-- a call that was lent `lent` numbers of the table and left the world `next` has added the rules of these formulae, and told so many rows
+pub record Added (w next : World) (lent : ℕ) (fs : List Formula) (count : ℕ) : Type 0 where
+  pub good : Good (front w lent) (w .board)
+  pub accepted : all (accepted (w .board .symbols)) fs ≡ true
+  pub fits : w .board .rows + length (rowsFor w fs) ≤ rowsLent (front w lent)
+  pub told : count ≡ length (rowsFor w fs)
+  pub board : next .board ≡ withRows (w .board) (length (rowsFor w fs))
+  pub table : next .table ≡ appended (front w lent) (w .board .rows) (rowsFor w fs) ++ drop lent (w .table)
+
+-- the rows of accepted rules are sound, and none has more literals than a row has numbers
+pub sound-rows : (S : ℕ) (fs : List Formula) → all (accepted S) fs ≡ true → (row : List ℕ) → In row (allRows (rulesOf S fs)) → SoundRow S width row
+sound-rows S fs ok row m =
+    let rule = all-rows-in (rulesOf S fs) row m in
+    let f = Memᴰ·of-map (ruleOf S) fs (rule .1) in
+    let words = accepted-words S (f .0) (all-at (accepted S) ok (f .1)) in
+    let sound = rows-sound S (f .0) row (words .2) (subst (λ (r : Rule). In row (rowsOf r)) (sym (f .2)) (rule .2)) in
+    record {
+      some = sound .some;
+      most = omega (arith, sound .most, leb-true (length (symbolsOf S (f .0))) 8 (words .1));
+      below = sound .below;
+      rising = sound .rising;
+    }
+
+-- ---- a rule
 
 -- bytes that are a good formula are one of the symbols 1 to S
 formula-inside : (S : ℕ) (bytes : List ℕ) → isGood (wholeOf S bytes) ≡ true → inside S (formulaIn S bytes) ≡ true
@@ -30,25 +69,48 @@ formula-inside S bytes e = go (wholeOf S bytes) refl e
     go (good f used) q e = whole-read S bytes f used q .known
     go (bad why at) q e = clash e refl
 
--- a rule that was added
-pub record Added (w : World) (lent : ℕ) (f : Formula) : Type 0 where
-  pub board : Good (front w lent) (w .board)
-  pub accepted : accepted (w .board .symbols) f ≡ true
-  pub fits : w .board .rows + length (rowsOf (ruleOf (w .board .symbols) f)) ≤ rowsLent (front w lent)
-
-pub added : (w : World) (lent : ℕ) (bytes : List ℕ) → outcome w (adds lent bytes) ≡ Done → Added w lent (formulaIn (w .board .symbols) bytes)
-unfolding faults ruleFaults
-added w lent bytes e =
+pub rule-added : (w : World) (lent : ℕ) (bytes : List ℕ) → outcome w (adds lent bytes) ≡ Done
+    → Added w (after w (adds lent bytes)) lent (formulaIn (w .board .symbols) bytes ∷ []) (ruled (front w lent) (w .board) bytes .added)
+unfolding after faults ruleFaults ruled ruledTable
+rule-added w lent bytes e =
     let part = front w lent in
     let S = w .board .symbols in
     let f = formulaIn S bytes in
-    let given = none-given (ruleFaults part (w .board) bytes) (cases w (adds lent bytes) e) in
+    let done : firstFault (ruleFaults part (w .board) bytes) ≡ Done = cases w (adds lent bytes) e in
+    let given = none-given (ruleFaults part (w .board) bytes) done in
+    let one = append-nil (rowsOf (ruleOf S f)) in
     record {
-      board = good-is part (w .board) (not-false (goodBoard part (w .board)) (given 0));
+      good = good-is part (w .board) (not-false (goodBoard part (w .board)) (given 0));
       accepted =
-          and-intro (inside S f && leb (length (symbolsOf S f)) 8) (satisfiable (ruleOf S f))
+          and-intro (accepted S f) true
+          (and-intro (inside S f && leb (length (symbolsOf S f)) 8) (satisfiable (ruleOf S f))
           (and-intro (inside S f) (leb (length (symbolsOf S f)) 8) (formula-inside S bytes (not-false (isGood (wholeOf S bytes)) (given 1)))
           (not-false (leb (length (symbolsOf S f)) 8) (given 2)))
-          (not-false (satisfiable (ruleOf S f)) (given 3));
-      fits = leb-true _ _ (not-false (leb (w .board .rows + length (rowsOf (ruleOf S f))) (rowsLent part)) (given 4));
+          (not-false (satisfiable (ruleOf S f)) (given 3)))
+          refl;
+      fits = rw one (leb-true _ _ (not-false (leb (w .board .rows + length (rowsOf (ruleOf S f))) (rowsLent part)) (given 4)));
+      told = rw (done, one);
+      board = rw (done, one);
+      table = rw (done, one);
     }
+
+-- ---- a text
+
+module _ (w : World) (lent : ℕ) (text : List ℕ) (e : outcome w (reads lent text) ≡ Done) where
+  pub text-done : firstFault (readFaults (front w lent) (w .board) text) ≡ Done
+  unfolding faults
+  text-done = cases w (reads lent text) e
+
+  pub text-added : Added w (after w (reads lent text)) lent (formulaeIn (parseText text)) (readAnswer (front w lent) (w .board) text .added)
+  unfolding after readAnswer readTable
+  text-added =
+      let part = front w lent in
+      let clauses = read-clauses part (w .board) text text-done in
+      record {
+        good = good-is part (w .board) (read-good part (w .board) text text-done);
+        accepted = clauses-accepted (w .board .symbols) (w .board .rows) (rowsLent part) (clausesOf (parseText text)) clauses;
+        fits = read-fits part (w .board) text text-done;
+        told = rw text-done;
+        board = rw text-done;
+        table = rw text-done;
+      }

@@ -1,7 +1,7 @@
 -- Demand 2, what the calls tell: the derived literals, ranks and supports over the rows in the table and the premises then held.
-use mathlib.Core.Path.{_≡_, ap, _∙_}
+use mathlib.Core.Path.{_≡_, refl, ap, _∙_}
 use mathlib.Core.Bool.{Bool, false, not}
-use mathlib.Core.List.{List, _++_, map}
+use mathlib.Core.List.{List, [], _++_, map}
 use Prim.Native.Nat.{ℕ, suc, _-_, _*_, _≤_, _<_}
 use native.Mathlib.Omega.{arith}
 use borrow.Author.Tests.{not-false}
@@ -10,7 +10,7 @@ use lib.Seq.{drop-at}
 use Rattle.meaning.specs.Tests.{tabulate}
 use Rattle.meaning.specs.Rounds.{label, ranksOf, supportsOf, labelsOf}
 use Rattle.meaning.specs.Ground.{ground, blame}
-use Rattle.meaning.proofs.Tables.{length-tabulate, getD-tabulate}
+use Rattle.meaning.proofs.Tables.{length-tabulate, getD-tabulate, tabulate-same}
 use Rattle.meaning.proofs.Derived.{derived-is}
 use Rattle.board.specs.Faults.{goodBoard}
 use Rattle.board.specs.Ranking.{rowsOn}
@@ -20,10 +20,11 @@ use Rattle.board.specs.Grounds.{byteOf, groundFaults, groundOutcome, groundMark
 use Rattle.board.specs.declared.Outcome.the-variants.{Done}
 use Rattle.board.proofs.Goodness.{good-is}
 use Rattle.board.proofs.Explaining.{none-given}
+use Rattle.dimacs.specs.Writing.{literalsOf, clauseAt, clausesAt, textOf, textOn, writeFaults, writeOutcome, writeAnswer, writeBytes}
 use Rattle.promises.specs.Calls.{asks, settles, World, front, faults, outcome, run}
-use Rattle.promises.specs.Demands.{rowsOfWorld, derivedSet, rankIn, supportIn, Tells, SettleTells, SettleSpares, AskTells, GroundTells, BlameTells}
+use Rattle.promises.specs.Demands.{rowsOfWorld, derivedSet, rankIn, supportIn, Tells, SettleTells, SettleSpares, AskTells, GroundTells, BlameTells, WriteTells}
 use Rattle.promises.proofs.Refusals.{cases}
-use Rattle.promises.proofs.Lent.{rows-lent}
+use Rattle.promises.proofs.Lent.{rows-lent, numbers-lent}
 
 -- the rows that a call reads in the part that it is lent are those of the whole table
 pub rows-read : (w : World) (lent : ℕ) → not (goodBoard (front w lent) (w .board)) ≡ false → rowsOn (front w lent) (w .board) ≡ rowsOfWorld w
@@ -104,3 +105,22 @@ pub blame-tells : BlameTells
 unfolding outcome blameOutcome blameMarks blameFaults blame
 blame-tells w lent marks e =
     rw (e, rows-read w lent (none-given (blameFaults (front w lent) (w .board) (length marks)) e 0)) (marks-over (2 * w .board .symbols) _ marks)
+
+-- ---- the text
+
+-- the text of the rows in the part that is lent is that of the whole table's
+text-read : (w : World) (lent : ℕ) → not (goodBoard (front w lent) (w .board)) ≡ false
+    → textOn (front w lent) (w .board) ≡ textOn (w .table) (w .board)
+unfolding textOn clausesAt
+text-read w lent e =
+    let used = w .board .rows in
+    let good = good-is (front w lent) (w .board) (not-false (goodBoard (front w lent) (w .board)) e) in
+    ap (textOf (w .board .symbols))
+    (tabulate-same [] used used (clauseAt (front w lent)) (clauseAt (w .table)) refl
+    (λ r b. ap literalsOf (numbers-lent lent used (w .table) (good .sound .room) r b)))
+
+pub write-tells : WriteTells
+unfolding outcome writeAnswer writeOutcome writeBytes writeFaults
+write-tells w lent out e =
+    let same = text-read w lent (none-given (writeFaults (front w lent) (w .board) (length out)) e 0) in
+    (rw (e, same), rw (e, same))

@@ -1,5 +1,5 @@
 -- "After every sequence of calls": the calls with all that each is lent, and what they do to the board and the caller's table, by the
--- very definitions that the contracts of `board` cite.
+-- very definitions that the contracts of `board` and `dimacs` cite.
 use Prim.Native.Nat.{ℕ}
 use mathlib.Core.Bool.{Bool, true, false}
 use mathlib.Core.List.{List, [], _∷_, _++_}
@@ -13,6 +13,9 @@ use Rattle.board.specs.Rules.{ruleFaults, ruled, ruledTable, formulaOf}
 use Rattle.board.specs.Settling.{settleFaults, settleOutcome}
 use Rattle.board.specs.Asking.{askFaults, asked, explainFaults, reasoned}
 use Rattle.board.specs.Grounds.{groundFaults, groundOutcome, blameFaults, blameOutcome}
+use Rattle.dimacs.specs.Form.{parseText}
+use Rattle.dimacs.specs.Reading.{formulaeIn, readFaults, readAnswer, readTable}
+use Rattle.dimacs.specs.Writing.{writeFaults, writeAnswer}
 use Rattle.board.specs.declared.Board.{Board}
 use Rattle.board.specs.declared.Outcome.{Outcome}
 use Rattle.board.specs.declared.Outcome.the-variants.{Done, Refused}
@@ -27,6 +30,8 @@ pub data Call : Type 0 where
   settles : (lent : ℕ) (labels ranks supports : List ℕ) → Call
   grounds : (lent : ℕ) (l : ℤ) (marks : List ℕ) → Call
   blames : (lent : ℕ) (marks : List ℕ) → Call
+  reads : (lent : ℕ) (text : List ℕ) → Call
+  writes : (lent : ℕ) (out : List ℕ) → Call
 
 -- the board and the whole table, "written by nobody else"
 pub record World : Type 0 where
@@ -48,6 +53,8 @@ faults w (explains lent l) = explainFaults (front w lent) (w .board) l
 faults w (settles lent labels ranks supports) = settleFaults (front w lent) (w .board) (length labels) (length ranks) (length supports)
 faults w (grounds lent l marks) = groundFaults (front w lent) (w .board) l (length marks)
 faults w (blames lent marks) = blameFaults (front w lent) (w .board) (length marks)
+faults w (reads lent text) = readFaults (front w lent) (w .board) text
+faults w (writes lent out) = writeFaults (front w lent) (w .board) (length out)
 
 -- ask has one answer for both: how the literal stands, which is of a call that is done, or why it is refused
 abbrev pub askOutcome : Standing → Outcome
@@ -68,6 +75,8 @@ outcome w (explains lent l) = reasoned (front w lent) (w .board) l .outcome
 outcome w (settles lent labels ranks supports) = settleOutcome (front w lent) (w .board) labels ranks supports
 outcome w (grounds lent l marks) = groundOutcome (front w lent) (w .board) l marks
 outcome w (blames lent marks) = blameOutcome (front w lent) (w .board) marks
+outcome w (reads lent text) = readAnswer (front w lent) (w .board) text .outcome
+outcome w (writes lent out) = writeAnswer (front w lent) (w .board) out .outcome
 
 -- "In a sequence of calls each is given the board that the one before handed back."
 unfoldable pub after : World → Call → World
@@ -84,6 +93,12 @@ after w (explains lent l) = w
 after w (settles lent labels ranks supports) = w
 after w (grounds lent l marks) = w
 after w (blames lent marks) = w
+after w (reads lent text) =
+    record {
+      board = readAnswer (front w lent) (w .board) text .board;
+      table = readTable (front w lent) (w .board) text ++ drop lent (w .table);
+    }
+after w (writes lent out) = w
 
 abbrev pub run : World → List Call → World
 run w [] = w
@@ -95,7 +110,8 @@ run w (c ∷ calls) = run (after w c) calls
 abbrev pub formulaIn : ℕ → List ℕ → Formula
 formulaIn S bytes = formulaOf (wholeOf S bytes)
 
--- the rules accepted since the last open, after one call more: an open forgets them, a good rule call adds its formula
+-- the rules accepted since the last open, after one call more: an open forgets them, a good rule call adds its formula, a good reading those
+-- of its clauses
 unfoldable pub rulesAfter : World → List Formula → Call → List Formula
 rulesAfter w fs (opens S) = []
 rulesAfter w fs (adds lent bytes) = ifDone (outcome w (adds lent bytes)) (fs ++ (formulaIn (w .board .symbols) bytes ∷ [])) (λ _. fs)
@@ -106,6 +122,8 @@ rulesAfter w fs (explains lent l) = fs
 rulesAfter w fs (settles lent labels ranks supports) = fs
 rulesAfter w fs (grounds lent l marks) = fs
 rulesAfter w fs (blames lent marks) = fs
+rulesAfter w fs (reads lent text) = ifDone (outcome w (reads lent text)) (fs ++ formulaeIn (parseText text)) (λ _. fs)
+rulesAfter w fs (writes lent out) = fs
 
 -- and after several
 abbrev pub rulesAfterAll : World → List Formula → List Call → List Formula
@@ -123,3 +141,5 @@ notOpen (explains lent l) = true
 notOpen (settles lent labels ranks supports) = true
 notOpen (grounds lent l marks) = true
 notOpen (blames lent marks) = true
+notOpen (reads lent text) = true
+notOpen (writes lent out) = true

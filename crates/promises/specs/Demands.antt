@@ -10,17 +10,17 @@ use lib.ListN.{length, take, drop, getD}
 use Rattle.meaning.specs.Tests.{all}
 use Rattle.meaning.specs.Literals.{has, conflict}
 use Rattle.meaning.specs.Formulae.{Formula, ruleOf}
-use Rattle.meaning.specs.Clauses.{rowsOf}
+use Rattle.meaning.specs.Clauses.{rowsOf, allRows}
 use Rattle.meaning.specs.Rounds.{label}
 use Rattle.meaning.specs.Ground.{ground, blame}
-use Rattle.meaning.specs.SecondWay.{secondWay}
+use Rattle.meaning.specs.SecondWay.{secondWay, rulesOf}
 use Rattle.meaning.specs.Promises.{Derived, Forced, TwoWays}
 use Rattle.literals.specs.Literal.{placeOf}
-use Rattle.literals.specs.Row.{width, decode}
+use Rattle.literals.specs.Row.{width, rowsLent, decode}
 use Rattle.literals.specs.Refusals.{numberOf}
 use Rattle.literals.specs.declared.refusal.Refusal.{Refusal}
 use Rattle.formula.specs.Promises.{Breaks}
-use Rattle.board.specs.Faults.{Fault, numberIn, goodBoard}
+use Rattle.board.specs.Faults.{Fault, firstFault, numberIn, goodBoard}
 use Rattle.board.specs.Changes.{emptyBoard, withFlag}
 use Rattle.board.specs.Rules.{noPlace, ruled}
 use Rattle.board.specs.Settling.{settledLabels, settledRanks, settledSupports}
@@ -28,7 +28,11 @@ use Rattle.board.specs.Ranking.{rowsOn}
 use Rattle.board.specs.Asking.{derivedOn, rankOn, supportOn, asked, standing, reasoned, explained}
 use Rattle.board.specs.Grounds.{byteOf, groundMarks, blameMarks}
 use Rattle.board.specs.declared.Outcome.the-variants.{Done, Refused}
-use Rattle.promises.specs.Calls.{Call, opens, adds, holds, withdraws, asks, explains, settles, grounds, blames, World, front, faults, outcome, after, run, formulaIn, rulesAfterAll, notOpen}
+use Rattle.dimacs.specs.Form.{isGood, clausesOf, parseText}
+use Rattle.dimacs.specs.Clauses.{oneOf, clauseFaults, clausesFaults}
+use Rattle.dimacs.specs.Reading.{rowsOfText, readAnswer}
+use Rattle.dimacs.specs.Writing.{textOn, writeAnswer, writeBytes}
+use Rattle.promises.specs.Calls.{Call, opens, adds, holds, withdraws, asks, explains, settles, grounds, blames, reads, writes, World, front, faults, outcome, after, run, formulaIn, rulesAfterAll, notOpen}
 
 -- ---- demand 1: "Each refusal is given exactly in the case document 01 names, and leaves each table untouched."
 
@@ -57,7 +61,7 @@ asBefore w c = cond (notOpen c) w (record { board = emptyBoard 0; table = w .tab
 abbrev pub RefusedUntouched : Type 0
 RefusedUntouched = (w : World) (c : Call) (why : Refusal) → outcome w c ≡ Refused why → after w c ≡ asBefore w c
 
--- "it writes nothing in a lent table": settle's three, and the marks of ground and blame
+-- "it writes nothing in a lent table": settle's three, the marks of ground and blame, and the bytes of a text
 pub record Unwritten (w : World) (lent : ℕ) (why : Refusal) : Type 0 where
   pub settle : (labels ranks supports : List ℕ) → outcome w (settles lent labels ranks supports) ≡ Refused why
       → (settledLabels (front w lent) (w .board) labels ranks supports ≡ labels)
@@ -66,17 +70,20 @@ pub record Unwritten (w : World) (lent : ℕ) (why : Refusal) : Type 0 where
   pub ground : (l : ℤ) (marks : List ℕ) → outcome w (grounds lent l marks) ≡ Refused why
       → groundMarks (front w lent) (w .board) l marks ≡ marks
   pub blame : (marks : List ℕ) → outcome w (blames lent marks) ≡ Refused why → blameMarks (front w lent) (w .board) marks ≡ marks
+  pub write : (out : List ℕ) → outcome w (writes lent out) ≡ Refused why → writeBytes (front w lent) (w .board) out ≡ out
 
 abbrev pub RefusedUnwritten : Type 0
 RefusedUnwritten = (w : World) (lent : ℕ) (why : Refusal) → Unwritten w lent why
 
--- what it hands back besides: a rule no rows; "A refused explain hands back the empty part at the table's front, and 65535 for rank
--- and row number."
+-- what it hands back besides: a rule and a text read no rows, a text written no bytes; "A refused explain hands back the empty part at the
+-- table's front, and 65535 for rank and row number."
 pub record HandedBack (w : World) (lent : ℕ) (why : Refusal) : Type 0 where
   pub rule : (bytes : List ℕ) → outcome w (adds lent bytes) ≡ Refused why → ruled (front w lent) (w .board) bytes .added ≡ 0
   pub explain : (l : ℤ) → outcome w (explains lent l) ≡ Refused why
       → (reasoned (front w lent) (w .board) l .rank ≡ 65535) × (reasoned (front w lent) (w .board) l .row ≡ 65535)
       × (explained (front w lent) (w .board) l .start ≡ 0) × (explained (front w lent) (w .board) l .stop ≡ 0)
+  pub read : (text : List ℕ) → outcome w (reads lent text) ≡ Refused why → readAnswer (front w lent) (w .board) text .added ≡ 0
+  pub write : (out : List ℕ) → outcome w (writes lent out) ≡ Refused why → writeAnswer (front w lent) (w .board) out .bytes ≡ 0
 
 abbrev pub RefusedHandsBack : Type 0
 RefusedHandsBack = (w : World) (lent : ℕ) (why : Refusal) → HandedBack w lent why
@@ -92,6 +99,31 @@ abbrev pub NoPlaceElse : Type 0
 NoPlaceElse =
     (w : World) (lent : ℕ) (bytes : List ℕ) → let number = numberIn (outcome w (adds lent bytes)) in
     (number < 2) ⊎ (6 < number) → ruled (front w lent) (w .board) bytes .place ≡ noPlace
+
+-- 02, Ticket 2: "for the first clause at fault, 2, 7, 8, 9": the clauses told come before it and have no fault, with the rows of each in use for
+-- the next
+pub record StopsAt (S used lent : ℕ) (clauses : List (List ℤ)) (why : Refusal) (k : ℕ) : Type 0 where
+  pub stands : k < length clauses
+  pub before : firstFault (clausesFaults S used lent (take k clauses)) ≡ Done
+  pub at : firstFault (clauseFaults S (used + length (allRows (rulesOf S (map oneOf (take k clauses))))) lent (getD clauses k [])) ≡ Refused why
+
+abbrev pub ReadStops : Type 0
+ReadStops =
+    (w : World) (lent : ℕ) (text : List ℕ) (why : Refusal) → outcome w (reads lent text) ≡ Refused why → numberOf why ≢ 1 → numberOf why ≢ 15
+    → StopsAt (w .board .symbols) (w .board .rows) (rowsLent (front w lent)) (clausesOf (parseText text)) why
+    (readAnswer (front w lent) (w .board) text .clauses)
+
+-- where the reading is done they are all the clauses
+abbrev pub ReadCounts : Type 0
+ReadCounts =
+    (w : World) (lent : ℕ) (text : List ℕ) → outcome w (reads lent text) ≡ Done
+    → readAnswer (front w lent) (w .board) text .clauses ≡ length (clausesOf (parseText text))
+
+-- and where the board or the form of the text is at fault, so for 1 and 15, none is told
+abbrev pub ReadTellsNone : Type 0
+ReadTellsNone =
+    (w : World) (lent : ℕ) (text : List ℕ) → (goodBoard (front w lent) (w .board) ≡ false) ⊎ (isGood (parseText text) ≡ false)
+    → readAnswer (front w lent) (w .board) text .clauses ≡ 0
 
 -- ---- demand 2: what the calls leave
 
@@ -114,25 +146,31 @@ WithdrawTakes =
 abbrev pub rowsOfWorld : World → List (List ℕ)
 rowsOfWorld w = rowsOn (w .table) (w .board)
 
--- a good rule call: `new` are the rule's prime implicates, as rows
-pub record Appends (w : World) (lent : ℕ) (bytes : List ℕ) (new : List (List ℕ)) : Type 0 where
-  -- "The rows stored for a rule are all its prime implicates and no others": the rows in use are those before, and then the rule's
-  pub rows : rowsOfWorld (after w (adds lent bytes)) ≡ rowsOfWorld w ++ new
+-- a good call that adds rules: `new` are their prime implicates, as rows
+pub record Appends (w next : World) (new : List (List ℕ)) (added : ℕ) : Type 0 where
+  -- "The rows stored for a rule are all its prime implicates and no others": the rows in use are those before, and then the new ones
+  pub rows : rowsOfWorld next ≡ rowsOfWorld w ++ new
   -- so many are told, and so many more are in use
-  pub added : ruled (front w lent) (w .board) bytes .added ≡ length new
-  pub used : after w (adds lent bytes) .board .rows ≡ w .board .rows + length new
+  pub told : added ≡ length new
+  pub used : next .board .rows ≡ w .board .rows + length new
   -- "adding a rule changes neither S nor the premises"
-  pub symbols : after w (adds lent bytes) .board .symbols ≡ w .board .symbols
-  pub premises : after w (adds lent bytes) .board .held ≡ w .board .held
+  pub symbols : next .board .symbols ≡ w .board .symbols
+  pub premises : next .board .held ≡ w .board .held
   -- "a good call writes only the places named for it": those of the new rows
-  pub before : take (width * w .board .rows) (after w (adds lent bytes) .table) ≡ take (width * w .board .rows) (w .table)
-  pub beyond : drop (width * (w .board .rows + length new)) (after w (adds lent bytes) .table)
-      ≡ drop (width * (w .board .rows + length new)) (w .table)
+  pub before : take (width * w .board .rows) (next .table) ≡ take (width * w .board .rows) (w .table)
+  pub beyond : drop (width * (w .board .rows + length new)) (next .table) ≡ drop (width * (w .board .rows + length new)) (w .table)
 
 abbrev pub RuleAppends : Type 0
 RuleAppends =
     (w : World) (lent : ℕ) (bytes : List ℕ) → outcome w (adds lent bytes) ≡ Done
-    → Appends w lent bytes (rowsOf (ruleOf (w .board .symbols) (formulaIn (w .board .symbols) bytes)))
+    → Appends w (after w (adds lent bytes)) (rowsOf (ruleOf (w .board .symbols) (formulaIn (w .board .symbols) bytes)))
+    (ruled (front w lent) (w .board) bytes .added)
+
+-- 02, Ticket 2: "Each clause is added as one rule, in order."
+abbrev pub ReadAppends : Type 0
+ReadAppends =
+    (w : World) (lent : ℕ) (text : List ℕ) → outcome w (reads lent text) ≡ Done
+    → Appends w (after w (reads lent text)) (rowsOfText (w .board .symbols) (parseText text)) (readAnswer (front w lent) (w .board) text .added)
 
 -- ---- demand 2: what the calls tell, "over the rows in the table and the premises then held, in 01's rounds"
 
@@ -203,6 +241,21 @@ BlameTells =
     (w : World) (lent : ℕ) (marks : List ℕ) → outcome w (blames lent marks) ≡ Done
     → blameMarks (front w lent) (w .board) marks
     ≡ map byteOf (blame (w .board .symbols) (rowsOfWorld w) (w .board .held)) ++ drop (2 * w .board .symbols) marks
+
+-- 02, Ticket 2: "Write the rows in use too": the bytes told are the text's, and the bytes beyond it stay
+abbrev pub WriteTells : Type 0
+WriteTells =
+    (w : World) (lent : ℕ) (out : List ℕ) → outcome w (writes lent out) ≡ Done
+    → let text = textOn (w .table) (w .board) in
+    (writeAnswer (front w lent) (w .board) out .bytes ≡ length text) × (writeBytes (front w lent) (w .board) out ≡ text ++ drop (length text) out)
+
+-- "Reading what was written onto a new board of equal S gives the same rows, if as many are lent."
+abbrev pub RoundTrip : Type 0
+RoundTrip =
+    (w : World) (lent : ℕ) (out : List ℕ) (v : World) (room : ℕ) → outcome w (writes lent out) ≡ Done → w .board .rows ≤ rowsLent (front v room)
+    → let text = take (writeAnswer (front w lent) (w .board) out .bytes) (writeBytes (front w lent) (w .board) out) in
+    let new = after v (opens (w .board .symbols)) in
+    (outcome new (reads room text) ≡ Done) × (rowsOfWorld (after new (reads room text)) ≡ rowsOfWorld w)
 
 -- ---- demand 3
 

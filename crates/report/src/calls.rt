@@ -35,9 +35,7 @@ fn added(before: Board, told: Addition, places: usize, table: &[i16]) {
             printing::rule_refused(why, told.place, places == 0 && same_board(before, next));
         }
         Outcome::Done => {
-            counted(b" rows", before.rows);
-            number(told.added);
-            printing::rows(table, before.rows, told.added);
+            printing::appended(table, before.rows, told.added);
             counted(b", changed", places);
             printing::board(next);
         }

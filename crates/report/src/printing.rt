@@ -64,7 +64,7 @@ pub fn numbers(row: &[i16]) {
 }
 
 // The rows of a table from row `from` on, `count` of them.
-pub fn rows(table: &[i16], from: usize, count: usize) {
+fn rows(table: &[i16], from: usize, count: usize) {
     let mut row = 0;
     let mut at = 0;
     while table.len() - at >= 8 {
@@ -78,14 +78,22 @@ pub fn rows(table: &[i16], from: usize, count: usize) {
     }
 }
 
+// The rows in use before a call, how many it added, and these.
+pub fn appended(table: &[i16], from: usize, count: usize) {
+    counted(b" rows", from);
+    number(count);
+    rows(table, from, count);
+}
+
 fn digit(n: u8) -> u8
     requires { ⌜ n < 16 ⌝ }
 {
     if n < 10 { b'0' + n } else { b'a' + (n - 10) }
 }
 
-fn hex(b: u8) {
-    let digits = [b' ', digit(b / 16), digit(b % 16)];
+// A byte as two hex digits, behind a mark.
+pub fn hex(mark: u8, b: u8) {
+    let digits = [mark, digit(b / 16), digit(b % 16)];
     text(&digits);
 }
 
@@ -93,7 +101,7 @@ fn hex(b: u8) {
 pub fn formula(bytes: &[u8]) {
     let mut k = 0;
     while k < bytes.len() {
-        hex(bytes[k]);
+        hex(b' ', bytes[k]);
         k += 1;
     }
 }
@@ -158,7 +166,7 @@ pub fn outcome(o: Outcome) {
 }
 
 // Whether a refused call left everything as it was.
-fn left(same: bool) {
+pub fn left(same: bool) {
     if same {
         text(b", as given");
     } else {

@@ -7,7 +7,7 @@ use mathlib.Core.Bool.{true}
 use native.Mathlib.Omega.{arith}
 use lib.Dec.{leb}
 use Rattle.literals.specs.Refusals.{numberOf}
-use Rattle.lines.proofs.Pieces.{put-none}
+use Rattle.spelling.proofs.Pieces.{put-none}
 use Rattle.lines.proofs.saying.put_place.Statement.{statement}
 use Rattle.lines.proofs.saying.put_place.Tie as tie
 

@@ -4,7 +4,7 @@ use Prim.Native.Nat.{_+_, _*_, _≤_}
 use mathlib.Core.Path.{_≡_, _∙_}
 use native.Mathlib.Omega.{arith}
 use lib.ListN.{length}
-use Rattle.lines.proofs.Pieces.{put-length, put-put}
+use Rattle.spelling.proofs.Pieces.{put-length, put-put}
 use Rattle.lines.proofs.saying.put_reason.Statement.{statement}
 use Rattle.lines.proofs.saying.put_reason.Tie as tie
 

@@ -3,7 +3,7 @@ use borrow.Author.Needs.{needs}
 use Prim.Native.Nat.{_+_, _≤_}
 use native.Mathlib.Omega.{arith}
 use lib.ListN.{length}
-use Rattle.lines.proofs.Pieces.{put-length, put-put}
+use Rattle.spelling.proofs.Pieces.{put-length, put-put}
 use Rattle.lines.proofs.saying.put_rows.Statement.{statement}
 use Rattle.lines.proofs.saying.put_rows.Tie as tie
 

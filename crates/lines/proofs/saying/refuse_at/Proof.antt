@@ -1,7 +1,7 @@
 -- `lines::saying::refuse_at` meets its contract: the place stands after the number.
 use borrow.Author.Needs.{needs}
 use native.Mathlib.Omega.{arith}
-use Rattle.lines.proofs.Pieces.{put-put}
+use Rattle.spelling.proofs.Pieces.{put-put}
 use Rattle.lines.proofs.saying.refuse_at.Statement.{statement}
 use Rattle.lines.proofs.saying.refuse_at.Tie as tie
 

@@ -4,8 +4,8 @@ use Prim.Native.Nat.{_+_, _≤_}
 use mathlib.Core.Path.{_≡_}
 use native.Mathlib.Omega.{arith}
 use lib.ListN.{length}
-use Rattle.lines.specs.Text.{natural}
-use Rattle.lines.proofs.Pieces.{natural-most, put-length}
+use Rattle.spelling.specs.Text.{natural}
+use Rattle.spelling.proofs.Pieces.{natural-most, put-length}
 use Rattle.lines.proofs.Bodies.{word-most}
 use Rattle.lines.proofs.Lines.{line-did, line-table}
 use Rattle.lines.proofs.saying.step.Statement.{statement}

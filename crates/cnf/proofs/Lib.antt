@@ -1,0 +1,3 @@
+-- Laws of what the program makes of a text.
+pub mod Making
+pub mod Within

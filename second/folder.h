@@ -1,0 +1,11 @@
+/* Files of a folder, by number. */
+#ifndef FOLDER_H
+#define FOLDER_H
+
+#include <stdint.h>
+#include <stdio.h>
+
+/* Opens DIRECTORY/NNN.END to be written; NULL, with a message, where it can't be. */
+FILE *open_numbered(const char *directory, uint64_t n, const char *end);
+
+#endif
