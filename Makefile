@@ -6,8 +6,9 @@ SEED ?= 1
 COUNT ?= 20000
 KIT := set -euo pipefail; . tools/kit.sh;
 ARCHIVE := target/staticlib/libpanel.a
+PANEL ?= $(ARCHIVE)
 
-.PHONY: help test run lib install demo second bench clean
+.PHONY: help test run lib install demo second bench peer peer-needs clean
 .DELETE_ON_ERROR:
 
 help:
@@ -18,6 +19,7 @@ help:
 	@echo 'make demo                     the trend screen of a night shift, drawn to target/trend.svg'
 	@echo 'make second SEED=n COUNT=n    the independent second program on random boards'
 	@echo 'make bench                    the library against plain C'
+	@echo 'make peer PANEL=FILE          the library against MiniSat, where that is installed; FILE is an archive for this processor'
 	@echo 'make clean                    remove target/'
 
 test:
@@ -54,6 +56,13 @@ second: target/second
 
 bench: target/bench
 	@$(KIT) run_c $<
+
+# The peer runs on the machine's own processor. What is missing is said before anything is proved.
+peer-needs:
+	@$(KIT) need_peer $(PANEL) $(ARCHIVE)
+
+peer: peer-needs $(PANEL)
+	@$(KIT) build_peer target/peer $(PANEL) bench/peer.cc bench/boards.c bench/plain.c bench/dimacs.c; target/peer
 
 clean:
 	rm -rf target

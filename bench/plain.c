@@ -9,16 +9,6 @@ enum { WIDTH = TUP_ROW_WIDTH, NONE = TUP_NONE, CLAUSES = 6561, DEEPEST = 16 };
 
 /* ---- The board ---- */
 
-/* The place of a literal. */
-static inline unsigned place(int literal) {
-    return literal > 0 ? 2u * (unsigned)literal - 2 : 2u * (unsigned)-literal - 1;
-}
-
-/* The opposite of a literal that was tested: its negation. */
-static inline int16_t opposite(int16_t literal) {
-    return (int16_t)-literal;
-}
-
 /* Rows lent. */
 size_t plain_rows_lent(size_t numbers) {
     return numbers / WIDTH < TUP_MOST_ROWS ? numbers / WIDTH : TUP_MOST_ROWS;
@@ -49,22 +39,21 @@ bool plain_good(const tup_board *board, const int16_t *table, size_t numbers) {
 }
 
 /* True if the number is a literal of the board. */
-static bool fits(int literal, const tup_board *board) {
+bool plain_fits(int literal, const tup_board *board) {
     return literal != 0 && abs(literal) <= board->symbols;
 }
 
 /* ---- Rounds ---- */
 
-/* Gives the literal rank k if it has none, and notes the row if asked to. */
-static inline bool give(uint16_t *ranks, uint16_t *notes, unsigned p, unsigned k, size_t row) {
+/* Gives the literal rank k if it has none. */
+static inline bool give(uint16_t *ranks, unsigned p, unsigned k) {
     if (ranks[p] != NONE) return false;
     ranks[p] = (uint16_t)k;
-    if (notes != NULL) notes[p] = (uint16_t)row;
     return true;
 }
 
 /* One row in round k: with one opposite missing, that literal is given the rank; with none missing, all are. */
-static bool fire(const int16_t *row, size_t r, unsigned k, uint16_t *ranks, uint16_t *notes) {
+static bool fire(const int16_t *row, unsigned k, uint16_t *ranks) {
     unsigned missing = NONE;
     int i = 0;
     bool any = false;
@@ -73,18 +62,18 @@ static bool fire(const int16_t *row, size_t r, unsigned k, uint16_t *ranks, uint
         if (missing != NONE) return false;
         missing = place(row[i]);
     }
-    if (missing != NONE) return give(ranks, notes, missing, k, r);
-    while (i-- > 0) any |= give(ranks, notes, place(row[i]), k, r);
+    if (missing != NONE) return give(ranks, missing, k);
+    while (i-- > 0) any |= give(ranks, place(row[i]), k);
     return any;
 }
 
 /* Ranks by rounds over the rows until one adds nothing. */
-static void rank_all(const tup_board *board, const int16_t *table, uint16_t *ranks, uint16_t *notes) {
+static void rank_all(const tup_board *board, const int16_t *table, uint16_t *ranks) {
     bool any = true;
     for (unsigned p = 0; p < 2u * board->symbols; p++) ranks[p] = board->held[p] ? 0 : NONE;
     for (unsigned k = 1; any; k++) {
         any = false;
-        for (size_t r = 0; r < board->rows; r++) any |= fire(table + WIDTH * r, r, k, ranks, notes);
+        for (size_t r = 0; r < board->rows; r++) any |= fire(table + WIDTH * r, k, ranks);
     }
 }
 
@@ -111,13 +100,14 @@ static bool conflict(const tup_board *board, const uint16_t *ranks) {
 }
 
 /* Writes the labels from the ranks. */
-static void label_all(const tup_board *board, const uint16_t *ranks, uint8_t *labels) {
-    for (unsigned s = 0; s < board->symbols; s++)
+void plain_label_all(const tup_board *board, const uint16_t *ranks, uint8_t *labels) {
+    unsigned symbols = board->symbols;
+    for (unsigned s = 0; s < symbols; s++)
         labels[s] = (uint8_t)((ranks[2 * s] != NONE) + 2 * (ranks[2 * s + 1] != NONE));
 }
 
 /* Tests of settle. */
-static uint8_t settle_tests(const tup_board *board, const int16_t *table, size_t numbers, size_t labels, size_t ranks, size_t supports) {
+uint8_t plain_settle_tests(const tup_board *board, const int16_t *table, size_t numbers, size_t labels, size_t ranks, size_t supports) {
     if (!plain_good(board, table, numbers)) return 1;
     size_t s = board->symbols;
     return labels < s || ranks < 2 * s || supports < 2 * s ? 13 : 0;
@@ -125,30 +115,20 @@ static uint8_t settle_tests(const tup_board *board, const int16_t *table, size_t
 
 uint8_t plain_settle(tup_board board, const int16_t *table, size_t numbers, uint8_t *labels, size_t label_count,
                      uint16_t *ranks, size_t rank_count, uint16_t *supports, size_t support_count) {
-    uint8_t refusal = settle_tests(&board, table, numbers, label_count, rank_count, support_count);
+    uint8_t refusal = plain_settle_tests(&board, table, numbers, label_count, rank_count, support_count);
     if (refusal != 0) return refusal;
-    rank_all(&board, table, ranks, NULL);
-    label_all(&board, ranks, labels);
+    rank_all(&board, table, ranks);
+    plain_label_all(&board, ranks, labels);
     for (unsigned p = 0; p < 2u * board.symbols; p++)
         supports[p] = ranks[p] == NONE || ranks[p] == 0 ? NONE : support(&board, table, ranks, p);
-    return 0;
-}
-
-uint8_t plain_settle_noting(tup_board board, const int16_t *table, size_t numbers, uint8_t *labels, size_t label_count,
-                            uint16_t *ranks, size_t rank_count, uint16_t *supports, size_t support_count) {
-    uint8_t refusal = settle_tests(&board, table, numbers, label_count, rank_count, support_count);
-    if (refusal != 0) return refusal;
-    for (unsigned p = 0; p < 2u * board.symbols; p++) supports[p] = NONE;
-    rank_all(&board, table, ranks, supports);
-    label_all(&board, ranks, labels);
     return 0;
 }
 
 tup_answer plain_ask(tup_board board, const int16_t *table, size_t numbers, int16_t literal) {
     uint16_t ranks[TUP_PLACES];
     if (!plain_good(&board, table, numbers)) return (tup_answer){1, TUP_OPEN};
-    if (!fits(literal, &board)) return (tup_answer){2, TUP_OPEN};
-    rank_all(&board, table, ranks, NULL);
+    if (!plain_fits(literal, &board)) return (tup_answer){2, TUP_OPEN};
+    rank_all(&board, table, ranks);
     if (conflict(&board, ranks)) return (tup_answer){0, TUP_CONFLICT};
     if (ranks[place(literal)] != NONE) return (tup_answer){0, TUP_STANDS};
     if (ranks[place(opposite(literal))] != NONE) return (tup_answer){0, TUP_RULED_OUT};
@@ -160,9 +140,9 @@ uint8_t plain_ground(tup_board board, const int16_t *table, size_t numbers, int1
     bool seen[TUP_PLACES] = {false};
     unsigned count = 0;
     if (!plain_good(&board, table, numbers)) return 1;
-    if (!fits(literal, &board)) return 2;
+    if (!plain_fits(literal, &board)) return 2;
     if (mark_count < 2u * board.symbols) return 13;
-    rank_all(&board, table, ranks, NULL);
+    rank_all(&board, table, ranks);
     if (ranks[place(literal)] == NONE) return 12;
     memset(marks, 0, 2u * board.symbols);
     seen[waiting[count++] = (uint16_t)place(literal)] = true;

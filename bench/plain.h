@@ -6,9 +6,24 @@
 
 #include "tupahineka.h"
 
-/* Rows lent, and the test behind refusal 1. */
+/* The place of a literal. */
+static inline unsigned place(int literal) {
+    return literal > 0 ? 2u * (unsigned)literal - 2 : 2u * (unsigned)-literal - 1;
+}
+
+/* The opposite of a literal that was tested: its negation. */
+static inline int16_t opposite(int16_t literal) {
+    return (int16_t)-literal;
+}
+
+/* Rows lent, and the test behind refusal 1; that of settle's tables too; and that of a literal. */
 size_t plain_rows_lent(size_t numbers);
 bool plain_good(const tup_board *board, const int16_t *table, size_t numbers);
+uint8_t plain_settle_tests(const tup_board *board, const int16_t *table, size_t numbers, size_t labels, size_t ranks, size_t supports);
+bool plain_fits(int literal, const tup_board *board);
+
+/* Writes the labels from the ranks. */
+void plain_label_all(const tup_board *board, const uint16_t *ranks, uint8_t *labels);
 
 tup_addition plain_rule(tup_board board, int16_t *table, size_t numbers, const uint8_t *formula, size_t bytes);
 uint8_t plain_settle(tup_board board, const int16_t *table, size_t numbers, uint8_t *labels, size_t label_count,
@@ -21,9 +36,5 @@ tup_writing plain_write_dimacs(tup_board board, const int16_t *table, size_t num
 
 /* Reading once more, in one pass, with up to 2,048 rows kept aside until the text is known to be good. */
 tup_reading plain_read_dimacs_once(tup_board board, int16_t *table, size_t numbers, const uint8_t *text, size_t bytes);
-
-/* Settle once more, with each support noted in the round that gives the rank instead of searched for afterwards. */
-uint8_t plain_settle_noting(tup_board board, const int16_t *table, size_t numbers, uint8_t *labels, size_t label_count,
-                            uint16_t *ranks, size_t rank_count, uint16_t *supports, size_t support_count);
 
 #endif

@@ -223,7 +223,7 @@ static void cover_done(const Play *play, const Step *step) {
     unsigned marks = step->kind == GROUND || step->kind == BLAME ? marks_set(play) : 0;
     if (step->kind == OPEN) return;
     cover_lent(play, step);
-    if (step->kind == SETTLE) cover_settle(play, step);
+    if (step->kind == SETTLE) cover_settle(play, step), cover_rows(play);
     if (step->kind == RULE) cover_rule(play, step);
     if (step->kind == ASK) cases[ASK_OPEN + play->last.standing]++;
     if (step->kind == EXPLAIN) cases[EXPLAIN_ONE_LITERAL] += play->last.literals == 1;
@@ -321,6 +321,7 @@ void cover_print(void) {
     for (unsigned c = 0; c < CASES; c++)
         printf("%-42s%9lu%s", case_words[c], cases[c], c % 2 == 0 ? "    " : "\n");
     printf("%s", CASES % 2 == 0 ? "" : "\n");
+    cover_rows_print();
     cover_texts_print();
     printf("labels 0, 1, 2, 3: %lu %lu %lu %lu\n", labels_seen[0], labels_seen[1], labels_seen[2], labels_seen[3]);
     printf("highest rank: %u; boards settled: %lu, of them in conflict: %lu\n", highest_rank, settled, cases[CONFLICT_SETTLED]);
@@ -349,6 +350,7 @@ static bool breaks_are_whole(void) {
 /* True if all that can come up did; says what did not. */
 bool cover_is_whole(void) {
     bool whole = breaks_are_whole();
+    whole &= cover_rows_are_whole();
     whole &= cover_texts_are_whole();
     for (unsigned k = 0; k < CALLS; k++) {
         whole &= came_up(refusals[k][0], "done", kind_word((Kind)k), 0);

@@ -10,6 +10,11 @@ bool cover_is_whole(void);
 unsigned long cover_calls(void);
 bool came_up(unsigned long count, const char *what, const char *of, unsigned number);
 
+/* coverrows.c: the rounds of the boards settled. */
+void cover_rows(const Play *play);
+void cover_rows_print(void);
+bool cover_rows_are_whole(void);
+
 /* covertext.c: the texts read and written. */
 void cover_text(const Play *play, const Step *step);
 void cover_trip(void);

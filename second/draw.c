@@ -4,15 +4,16 @@
 #include <string.h>
 
 #include "damage.h"
+#include "drawrows.h"
 #include "drawtext.h"
 #include "formulae.h"
 
 /* Styles of sequences. */
-enum { FREE, PLANTS, CIRCLE, CHAIN, ROWS, FULL, TIGHT, BROAD, PACKED, TEXTS, STYLES };
+enum { FREE, PLANTS, CIRCLE, CHAIN, ROWS, FULL, TIGHT, BROAD, PACKED, TEXTS, KNOTS, STYLES };
 
 static const unsigned style_weights[STYLES] = {
     [FREE] = 330, [PLANTS] = 230, [CIRCLE] = 80, [CHAIN] = 30, [ROWS] = 160, [FULL] = 14, [TIGHT] = 120, [BROAD] = 70, [PACKED] = 14,
-    [TEXTS] = 120};
+    [TEXTS] = 120, [KNOTS] = 60};
 
 /* Which sorts of formulae a style has, in the order PLANT, TREE, SPINE, WIDE, PARITY, LITERALS, NEVER, ALWAYS, LONG, NOISE,
  * PARITY_OF_8, ANY_TRUTH, WIDE_TRUTH, TOO_MANY. */
@@ -26,7 +27,8 @@ static const unsigned sort_weights[STYLES][SORTS] = {
     [TIGHT] = {200, 300, 40, 10, 100, 200, 50, 50, 4, 20, 0, 100, 10, 80},
     [BROAD] = {50, 50, 30, 400, 100, 100, 80, 50, 0, 10, 10, 50, 600, 150},
     [PACKED] = {10, 10, 0, 10, 10, 10, 5, 5, 0, 5, 60, 20, 20, 15},
-    [TEXTS] = {800, 50, 5, 1, 5, 10, 5, 5, 0, 5, 0, 20, 1, 15}};
+    [TEXTS] = {800, 50, 5, 1, 5, 10, 5, 5, 0, 5, 0, 20, 1, 15},
+    [KNOTS] = {500, 200, 20, 2, 20, 50, 20, 20, 4, 20, 0, 60, 2, 20}};
 
 /* How often each call comes: at first, and later on. */
 static const unsigned call_weights[2][CALLS] = {
@@ -43,6 +45,7 @@ static unsigned draw_symbols(Random *random, unsigned style) {
     case CHAIN: return random_chance(random, 40) ? MOST_SYMBOLS : random_between(random, 2, random_chance(random, 40) ? 20 : MOST_SYMBOLS);
     case ROWS: return random_between(random, 1, random_chance(random, 70) ? 20 : 80);
     case FULL: return random_chance(random, 40) ? MOST_SYMBOLS : random_between(random, 60, MOST_SYMBOLS);
+    case KNOTS: return random_chance(random, 40) ? MOST_SYMBOLS : random_between(random, 1, 12);
     case BROAD: return random_between(random, 8, 14);
     case PACKED: return random_between(random, 8, 10);
     case TIGHT: return random_chance(random, 30) ? random_between(random, 9, 14) : random_between(random, 1, 8);
@@ -65,6 +68,9 @@ static unsigned draw_setup(Random *random, unsigned style, unsigned symbols) {
     case CIRCLE: case CHAIN: return symbols;
     case ROWS: return random_between(random, 1, random_chance(random, 70) ? 30 : 150);
     case FULL: return random_chance(random, 40) ? MOST_ROWS : random_between(random, 200, MOST_ROWS);
+    case KNOTS:
+        if (symbols == MOST_SYMBOLS && random_chance(random, 12)) return MOST_ROWS;
+        return random_between(random, 1, random_chance(random, 80) ? 24 : 160);
     case PACKED: return 16;
     case TEXTS: return random_chance(random, 85) ? random_between(random, 1, 60) : random_between(random, 60, random_chance(random, 80) ? 400 : 3000);
     default: return 0;
@@ -287,7 +293,7 @@ static void add_call(Draft *draft, const Play *play) {
     } else if (random_chance(random, 12)) {
         add_damaged_call(draft, play);
     } else {
-        bool later = draft->style != PACKED && (draft->calls < 12 || draft->style == ROWS || draft->style == FULL);
+        bool later = draft->style != PACKED && (draft->calls < 12 || draft->style == ROWS || draft->style == FULL || draft->style == KNOTS);
         Step *step = add_step(draft, (Kind)random_weighted(random, call_weights[later], CALLS));
         draw_call(draft, play, step);
     }
@@ -339,6 +345,10 @@ static void add_setup(Draft *draft, const Play *play) {
         add_reading(draft, play, draft->setup);
         return;
     }
+    if (draft->style == KNOTS) {
+        add_knot(draft, draft->setup);
+        return;
+    }
     bool links = random_chance(random, 50), falling = random_chance(random, 50);
     for (unsigned i = 0; i < draft->setup; i++) {
         unsigned from = falling ? symbols - i : i + 1, to = from < symbols ? from + 1 : 1;
@@ -373,7 +383,7 @@ bool draft_next(Draft *draft, const Play *play) {
         step->value = random_chance(&draft->random, 97) ? (int)draft->symbols : draw_opening(draft);
     } else if (draft->setup > 0) {
         add_setup(draft, play);
-        add_premises(draft);
+        if (draft->style != KNOTS) add_premises(draft);
         draft->setup = 0;
     } else if (draft->calls > 0 && draft->count + 40 < MOST_STEPS) {
         add_call(draft, play);

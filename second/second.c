@@ -16,6 +16,7 @@
 #include "document.h"
 #include "draw.h"
 #include "journal.h"
+#include "rowtries.h"
 #include "texttrials.h"
 
 enum { WHOLE_FROM = 2000 };
@@ -81,10 +82,10 @@ static bool sequence_agrees(uint64_t seed, uint64_t number) {
     return false;
 }
 
-/* The boards that the documents name, then the texts. */
+/* The boards that the documents name, those worked out by hand, then the texts. */
 static bool trials_agree(uint64_t seed) {
     in_trials = true;
-    return document_agrees(&play) && spellings_agree(&play) && torn_texts_agree(&play, seed) && long_texts_agree(&play) &&
+    return document_agrees(&play) && row_tries_agree(&play) && spellings_agree(&play) && torn_texts_agree(&play, seed) && long_texts_agree(&play) &&
            rooms_agree(&play, seed) && rules_agree(&play, seed);
 }
 

@@ -128,3 +128,30 @@ run_c() { # PROGRAM ARGUMENTS..
         run_x86 "$@"
     fi
 }
+
+# Stops where the measure beside MiniSat cannot be built: it is linked for this processor, with a library for it.
+need_peer() { # PANEL ARCHIVE
+    if ! command -v "${CXX:-c++}" >/dev/null || ! command -v "${CC:-cc}" >/dev/null; then
+        say "no C++ compiler (\$CXX or c++) with its C compiler (\$CC or cc) for the measure beside MiniSat"
+        exit 1
+    fi
+    if ! echo '#include <minisat/core/Solver.h>' | "${CXX:-c++}" -x c++ -fsyntax-only - 2>/dev/null; then
+        say "no MiniSat for the measure beside it: its header minisat/core/Solver.h and its library are wanted (Debian's package minisat has both)"
+        exit 1
+    fi
+    if [ "$1" = "$2" ] && [ "$machine" != x86_64 ]; then
+        say "$2 is for x86-64 and MiniSat here for $machine: give an archive of the library for this processor, make peer PANEL=FILE"
+        exit 1
+    fi
+}
+
+# Builds the measure beside MiniSat.
+build_peer() { # PROGRAM PANEL SOURCE.cc SOURCES.c..
+    out=$1 panel=$2 main=$3
+    shift 3
+    rm -rf "$out.parts" && mkdir -p "$out.parts"
+    for source in "$@"; do
+        "${CC:-cc}" -std=c11 -O3 -Wall -Wextra -Iinclude -c "$source" -o "$out.parts/$(basename "$source" .c).o"
+    done
+    "${CXX:-c++}" -O3 -Wall -Wextra -Iinclude "$main" "$out.parts"/*.o "$panel" -lminisat -o "$out"
+}

@@ -1,34 +1,57 @@
 -- What ground and blame answer and write, where they are refused and where they are done.
-use mathlib.Core.Path.{_≡_, refl, sym, ap, _∙_}
+use mathlib.Core.Path.{_≡_, refl, sym, _∙_}
 use mathlib.Core.Bool.{Bool, false, _||_, or-self}
 use mathlib.Core.List.{List, _++_, map}
-use Prim.Native.Nat.{ℕ, suc, _+_, _-_, _*_, _<_}
+use Prim.Native.Nat.{ℕ, suc, _+_, _-_, _*_, _/_, _≤_, _<_}
 use native.Mathlib.Omega.{arith}
+use borrow.Author.Tests.{lt-ltb, le-ltb}
 use lib.IntN.{ℤ}
 use lib.ListN.{length, drop, length-map}
-use Rattle.meaning.specs.Tests.{none, first, tabulate}
+use Rattle.meaning.specs.Tests.{none, first}
 use Rattle.meaning.specs.Rounds.{ranksOf}
 use Rattle.meaning.specs.Ground.{reaches, ground, blame}
-use Rattle.meaning.proofs.Tables.{length-tabulate, tabulate-same}
+use Rattle.meaning.proofs.Tables.{tabulate-same}
 use Rattle.literals.specs.Literal.{placeOf}
 use Rattle.literals.specs.declared.refusal.Refusal.{Refusal}
 use Rattle.rounds.specs.Ranks.{clashIn}
-use Rattle.rounds.proofs.Clashes.{blamed-is}
+use Rattle.rounds.specs.Reach.{reachedFrom, reachedAsked}
+use Rattle.rounds.proofs.Clashes.{blamed-is, conflict-some}
 use Rattle.board.specs.Ranking.{rowsOn}
-use Rattle.board.specs.Grounds.{byteOf, reachedOn, groundOutcome, groundMarks, blameOutcome, blameMarks}
+use Rattle.board.specs.Grounds.{byteOf, groundOutcome, groundMarks, blameOutcome, blameMarks}
 use Rattle.board.specs.declared.Board.{Board}
 use Rattle.board.specs.declared.Outcome.the-variants.{Done, Refused}
 
--- bytes of a table of 2S places, over the front of another
-over-front : (n : ℕ) (f : ℕ → Bool) (marks : List ℕ) → map byteOf (tabulate n f) ++ drop n marks ≡ map byteOf (tabulate n f) ++ drop (length (map byteOf (tabulate n f))) marks
-over-front n f marks = ap (λ (k : ℕ). map byteOf (tabulate n f) ++ drop k marks) (sym (length-map (tabulate n f) byteOf ∙ length-tabulate n f))
+-- ---- what is reached
+
+-- from a literal's place: its ground
+asked-ground : (places : ℕ) (rows : List (List ℕ)) (held : List Bool) (p : ℕ) → p < places
+    → reachedAsked places rows held p ≡ ground places rows held p
+unfolding reachedAsked reachedFrom ground
+asked-ground places rows held p low =
+    rw (lt-ltb p places low)
+    (tabulate-same false places places (λ h. reaches places rows held p h || reaches places rows held p h) (reaches places rows held p) refl
+    (λ h k. or-self (reaches places rows held p h)))
+
+-- from no place: what blame marks, where there is a conflict
+asked-blame : (symbols : ℕ) (rows : List (List ℕ)) (held : List Bool) (p : ℕ) → 2 * symbols < none → 2 * symbols ≤ p
+    → (first (clashIn (ranksOf (2 * symbols) rows held)) symbols ≡ none → ⊥)
+    → reachedAsked (2 * symbols) rows held p ≡ blame symbols rows held
+unfolding reachedAsked reachedFrom blame
+asked-blame symbols rows held p small high some =
+    let s = first (clashIn (ranksOf (2 * symbols) rows held)) symbols in
+    let low = conflict-some symbols rows held small some .0 in
+    let half : 2 * symbols / 2 ≡ symbols = omega arith in
+    let pair : 2 * (suc s - 1) ≡ 2 * s = omega arith in
+    rw (le-ltb p (2 * symbols) high, half, lt-ltb s none (omega (arith, low)), sym (blamed-is symbols rows held small), pair)
 
 module _ (table : List ℤ) (b : Board) (marks : List ℕ) where
   abbrev rows : List (List ℕ)
   rows = rowsOn table b
 
-  abbrev reach : ℕ → ℕ → Bool
-  reach p h = reaches (2 * b .symbols) rows (b .held) p h
+  -- the bytes of what is marked, over the front of `marks`
+  written : {marked new : List Bool} {after : List ℕ} → marked ≡ new → after ≡ map byteOf marked ++ drop (length marked) marks
+      → after ≡ map byteOf new ++ drop (length (map byteOf new)) marks
+  written {marked} {new} same is = is ∙ rw (same, length-map new byteOf)
 
   -- ---- ground
 
@@ -38,14 +61,11 @@ module _ (table : List ℤ) (b : Board) (marks : List ℕ) where
     unfolding groundMarks
     ground-refused why e = (sym e, rw e)
 
-    pub ground-done : (p : ℕ) {after : List ℕ} → p ≡ placeOf l → groundOutcome table b l marks ≡ Done
-        → after ≡ map byteOf (reachedOn table b p p) ++ drop (2 * b .symbols) marks
+    pub ground-done : (p : ℕ) {marked : List Bool} {after : List ℕ} → p ≡ placeOf l → p < 2 * b .symbols → groundOutcome table b l marks ≡ Done
+        → marked ≡ reachedAsked (2 * b .symbols) (rowsOn table b) (b .held) p → after ≡ map byteOf marked ++ drop (length marked) marks
         → (Done ≡ groundOutcome table b l marks) × (after ≡ groundMarks table b l marks)
-    unfolding groundMarks ground reachedOn
-    ground-done p at e is =
-        let one : tabulate (2 * b .symbols) (λ h. reach p h || reach p h) ≡ tabulate (2 * b .symbols) (reach (placeOf l)) =
-        tabulate-same false (2 * b .symbols) (2 * b .symbols) (λ h. reach p h || reach p h) (reach (placeOf l)) refl (λ h k. or-self (reach p h) ∙ ap (λ q. reach q h) at) in
-        (sym e, is ∙ rw (e, one) (over-front (2 * b .symbols) (reach (placeOf l)) marks))
+    unfolding groundMarks
+    ground-done p at low e reached is = (sym e, rw (e, ← at) (written (reached ∙ asked-ground (2 * b .symbols) rows (b .held) p low) is))
 
   -- ---- blame
 
@@ -54,10 +74,9 @@ module _ (table : List ℤ) (b : Board) (marks : List ℕ) where
   unfolding blameMarks
   blame-refused why e = (sym e, rw e)
 
-  pub blame-done : (s : ℕ) {after : List ℕ} → 2 * b .symbols < none → s ≡ first (clashIn (ranksOf (2 * b .symbols) (rowsOn table b) (b .held))) (b .symbols) → blameOutcome table b marks ≡ Done
-      → after ≡ map byteOf (reachedOn table b (2 * s) (2 * s + 1)) ++ drop (2 * b .symbols) marks
+  pub blame-done : (p : ℕ) {marked : List Bool} {after : List ℕ} → 2 * b .symbols < none → 2 * b .symbols ≤ p
+      → (first (clashIn (ranksOf (2 * b .symbols) (rowsOn table b) (b .held))) (b .symbols) ≡ none → ⊥) → blameOutcome table b marks ≡ Done
+      → marked ≡ reachedAsked (2 * b .symbols) (rowsOn table b) (b .held) p → after ≡ map byteOf marked ++ drop (length marked) marks
       → (Done ≡ blameOutcome table b marks) × (after ≡ blameMarks table b marks)
-  unfolding blameMarks blame reachedOn
-  blame-done s small at e is =
-      let pair : 2 * (suc s - 1) ≡ 2 * s = omega arith in
-      (sym e, is ∙ rw (e, sym (blamed-is (b .symbols) rows (b .held) small), ← at, pair) (over-front (2 * b .symbols) (λ h. reach (2 * s) h || reach (2 * s + 1) h) marks))
+  unfolding blameMarks
+  blame-done p small high some e reached is = (sym e, rw e (written (reached ∙ asked-blame (b .symbols) rows (b .held) p small high some) is))

@@ -1,14 +1,17 @@
--- The board's ranks at the front of an array: lent to be filled, and lent again to be read.
+-- The board's ranks and supports at the front of an array: lent to be filled, and lent again to be read.
 use mathlib.Core.Path.{_≡_, sym, ap, _∙_}
 use mathlib.Core.Bool.{Bool}
 use mathlib.Core.List.{List, _++_}
-use Prim.Native.Nat.{ℕ, _*_, _≤_, _<_}
+use Prim.Native.Nat.{ℕ, _+_, _*_, _≤_, _<_}
+use native.Mathlib.Nat.{zero-add, add-zero}
 use native.Mathlib.Omega.{arith}
 use lib.IntN.{ℤ}
 use lib.ListN.{length, take, getD, length-append}
 use lib.Seq.{length-take-le, take-at, getD-take}
-use Rattle.meaning.specs.Rounds.{rankOf, ranksOf, rankAbove}
-use Rattle.rounds.specs.Ranks.{Fit}
+use Rattle.meaning.specs.Tests.{tabulate}
+use Rattle.meaning.specs.Rounds.{rankOf, ranksOf, rankAbove, supportOf, supportsOf}
+use Rattle.meaning.proofs.Tables.{length-tabulate, tabulate-same}
+use Rattle.literals.specs.Row.{Fit}
 use Rattle.board.specs.Ranking.{rowsOn, tooHigh, ranked}
 use Rattle.board.specs.declared.Board.{Board}
 use Rattle.board.specs.declared.ranking.Ranks.{Ranks}
@@ -32,36 +35,59 @@ module _ (table : List ℤ) (b : Board) (big : List ℕ) (room : 2 * b .symbols 
   pub high-is : {high : Bool} → high ≡ rankAbove (length (take (2 * b .symbols) big)) (rowsOn table b) (b .held) → high ≡ tooHigh table b
   high-is e = e ∙ ap (λ n. rankAbove n (rowsOn table b) (b .held)) part-long
 
+  pub supports-are : (count from : ℕ) {filled : List ℕ}
+      → filled ≡ tabulate count (λ i. supportOf (length (take (2 * b .symbols) big)) (rowsOn table b) (b .held) (from + i))
+      → filled ≡ tabulate count (λ i. supportOf (2 * b .symbols) (rowsOn table b) (b .held) (from + i))
+  supports-are count from e = e ∙ ap (λ n. tabulate count (λ i. supportOf n (rowsOn table b) (b .held) (from + i))) part-long
+
+module _ (places : ℕ) (rows : List (List ℕ)) (held : List Bool) where
+  -- the supports of all the places
+  pub all-supports : {count : ℕ} {filled : List ℕ} → count ≡ places → filled ≡ tabulate count (λ i. supportOf places rows held (0 + i))
+      → filled ≡ supportsOf places rows held
+  unfolding supportsOf
+  all-supports {count} e is =
+      is
+      ∙ tabulate-same 0 count places (λ i. supportOf places rows held (0 + i)) (supportOf places rows held) e
+      (λ i h. ap (supportOf places rows held) (zero-add i))
+
+  pub length-supportsOf : length (supportsOf places rows held) ≡ places
+  unfolding supportsOf
+  length-supportsOf = length-tabulate places (supportOf places rows held)
+
+  -- the support of one place
+  pub one-support : (p : ℕ) {filled : List ℕ} → filled ≡ tabulate 1 (λ i. supportOf places rows held (p + i))
+      → getD filled 0 0 ≡ supportOf places rows held p
+  one-support p is = ap (λ (l : List ℕ). getD l 0 0) is ∙ ap (supportOf places rows held) (add-zero p)
+
 -- ---- lent to be read
 
+-- a table is the first n of a list
+pub record Front {A : Type 0} (n : ℕ) (table list : List A) : Type 0 where
+  pub room : n ≤ length list
+  pub long : length (take n list) ≡ n
+  pub is : take n list ≡ table
+
+pub front-of : {A : Type 0} (n : ℕ) (table rest : List A) → length table ≡ n → Front n table (table ++ rest)
+front-of n table rest e =
+    let is = take-at table rest n e in
+    record { room = omega (arith, e, length-append table rest); long = ap length is ∙ e; is = is }
+
 -- the ranks are the first 2S of a list
-pub record Front (table : List ℤ) (b : Board) (list : List ℕ) : Type 0 where
-  pub room : 2 * b .symbols ≤ length list
-  pub long : length (take (2 * b .symbols) list) ≡ 2 * b .symbols
-  pub fit : Fit (length (take (2 * b .symbols) list)) (b .rows) table
-  pub is : take (2 * b .symbols) list ≡ ranksOf (2 * b .symbols) (rowsOn table b) (b .held)
-  pub at : (p : ℕ) → p < 2 * b .symbols → getD list p 0 ≡ rankOf (2 * b .symbols) (rowsOn table b) (b .held) p
+abbrev pub RanksIn : List ℤ → Board → List ℕ → Type 0
+RanksIn table b list = Front (2 * b .symbols) (ranksOf (2 * b .symbols) (rowsOn table b) (b .held)) list
 
-front-of : (table : List ℤ) (b : Board) (rest : List ℕ) → Good table b → Front table b (ranksOf (2 * b .symbols) (rowsOn table b) (b .held) ++ rest)
-front-of table b rest g =
-    let n = 2 * b .symbols in
-    let rows = rowsOn table b in
-    let ranks = ranksOf n rows (b .held) in
-    let e : length ranks ≡ n = length-ranksOf n rows (b .held) in
-    let is : take n (ranks ++ rest) ≡ ranks = take-at ranks rest n e in
-    let long : length (take n (ranks ++ rest)) ≡ n = ap length is ∙ e in
-    record {
-      room = omega (arith, e, length-append ranks rest);
-      long = long;
-      fit = (b .symbols, long, g .sound);
-      is = is;
-      at = λ p h. sym (getD-take n (ranks ++ rest) p 0 h) ∙ ap (λ (l : List ℕ). getD l p 0) is ∙ getD-ranksOf n rows (b .held) p h;
-    }
+module _ (table : List ℤ) (b : Board) where
+  pub ranks-front : {r : Ranks} → r ≡ ranked table b → RanksIn table b (r .list)
+  unfolding ranked
+  ranks-front e = rw e (front-of (2 * b .symbols) _ _ (length-ranksOf (2 * b .symbols) (rowsOn table b) (b .held)))
 
-pub ranks-front : (table : List ℤ) (b : Board) {r : Ranks} → Good table b → r ≡ ranked table b → Front table b (r .list)
-unfolding ranked
-ranks-front table b g e = rw e (front-of table b _ g)
+  pub ranks-high : {r : Ranks} → r ≡ ranked table b → tooHigh table b ≡ r .high
+  unfolding ranked
+  ranks-high e = sym (ap (λ (r : Ranks). r .high) e)
 
-pub ranks-high : (table : List ℤ) (b : Board) {r : Ranks} → r ≡ ranked table b → tooHigh table b ≡ r .high
-unfolding ranked
-ranks-high table b e = sym (ap (λ (r : Ranks). r .high) e)
+  pub rank-at : {list : List ℕ} → RanksIn table b list → (p : ℕ) → p < 2 * b .symbols
+      → getD list p 0 ≡ rankOf (2 * b .symbols) (rowsOn table b) (b .held) p
+  rank-at {list} front p h =
+      sym (getD-take (2 * b .symbols) list p 0 h)
+      ∙ ap (λ (l : List ℕ). getD l p 0) (front .is)
+      ∙ getD-ranksOf (2 * b .symbols) (rowsOn table b) (b .held) p h

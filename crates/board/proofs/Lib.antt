@@ -5,10 +5,10 @@ pub mod Placing
 pub mod Ranked
 pub mod Copying
 pub mod Lending
+pub mod Traced
 pub mod Explaining
 pub mod Settled
 pub mod Adding
 pub mod Answered
-pub mod Marks
 pub mod Grounded
 mod Unique

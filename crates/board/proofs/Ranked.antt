@@ -1,4 +1,4 @@
--- What one rank tells: whether the literal is among those below a bound, whether it is derived, and what support it has to show.
+-- What one rank tells: whether the literal is derived, and whether it has a support to show.
 use mathlib.Core.Path.{_≡_, sym, ap₂, _∙_}
 use mathlib.Core.Logic.{_⊎_, inl, inr, ⊎-elim}
 use mathlib.Core.Bool.{Bool, true, false, not, _||_}
@@ -9,10 +9,8 @@ use borrow.Author.Tests.{lt-ltb, le-ltb}
 use lib.Dec.{ltb}
 use Rattle.meaning.specs.Tests.{none}
 use Rattle.meaning.specs.Literals.{has}
-use Rattle.meaning.specs.Rounds.{derived, rankOf, firstGiver, supportOf, ranksOf}
+use Rattle.meaning.specs.Rounds.{derived, rankOf}
 use Rattle.meaning.proofs.Ranks.{rankOf-is, derived-rank, held-rank}
-use Rattle.rounds.specs.Ranks.{below}
-use Rattle.rounds.proofs.Final.{support-row-is}
 
 module _ (places : ℕ) (rows : List (List ℕ)) (held : List Bool) (small : places < none) where
   -- ---- whether the literal is derived
@@ -37,8 +35,3 @@ module _ (places : ℕ) (rows : List (List ℕ)) (held : List Bool) (small : pla
 
   pub shown : (p : ℕ) → p < places → (rankOf places rows held p ≡ 0 → ⊥) → (rankOf places rows held p ≡ none → ⊥) → (not (has (derived places rows held) p) || has held p) ≡ false
   shown p h some ranked = hides p h ∙ rw (lt-ltb (rankOf places rows held p) none (rank-low p ranked), le-ltb (rankOf places rows held p) 1 (omega arith))
-
-  pub support-told : (p : ℕ) → p < places → {ranks : List ℕ} {row k : ℕ} → ranks ≡ ranksOf places rows held → k ≡ rankOf places rows held p
-      → (k ≡ 0 → ⊥) → (k ≡ none → ⊥) → row ≡ firstGiver (below k ranks) rows p → row ≡ supportOf places rows held p
-  support-told p h is k some ranked e =
-      e ∙ rw (is, k) (support-row-is places rows held small p h (λ z. some (k ∙ z)) (λ n. ranked (k ∙ n)))

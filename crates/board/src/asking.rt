@@ -16,7 +16,6 @@ use crate::testing::place_on;
 use literals::WIDTH;
 use literals::refusal::Refusal;
 use rounds::NONE;
-use rounds::supports::support_row;
 
 // How a literal stands.
 pub enum Standing {
@@ -59,7 +58,8 @@ pub fn ask(board: Board, table: &[i16], l: i16) -> Standing
         Placed::Refused(why) => Standing::Refused(why),
         Placed::At(_) => {
             let places = 2 * board.symbols;
-            let ranked = ranks_on(board, table);
+            let mut none = [NONE; 1];
+            let ranked = ranks_on(board, table, 0, &mut none[..0]);
             if ranked.high {
                 return Standing::Refused(Refusal::RankTooHigh);
             }
@@ -86,8 +86,8 @@ pub fn explain_numbers(board: Board, table: &[i16], l: i16) -> Reason
     match place_on(board, table, l) {
         Placed::Refused(why) => unexplained(why),
         Placed::At(p) => {
-            let places = 2 * board.symbols;
-            let ranked = ranks_on(board, table);
+            let mut row = [NONE; 1];
+            let ranked = ranks_on(board, table, p, &mut row[..1]);
             if ranked.high {
                 return unexplained(Refusal::RankTooHigh);
             }
@@ -102,7 +102,7 @@ pub fn explain_numbers(board: Board, table: &[i16], l: i16) -> Reason
             Reason {
                 outcome: Outcome::Done,
                 rank,
-                row: support_row(table, board.rows, p, &ranks[..places], rank),
+                row: row[0],
             }
         }
     }

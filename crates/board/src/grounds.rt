@@ -1,17 +1,12 @@
 // Ground and blame: the premises that a literal, or a conflict, stands on.
 
 ghost use mathlib.Core.Path.{_≡_};
-ghost use Prim.Native.Nat.{_*_, _≤_, _<_};
-ghost use mathlib.Core.Bool.{true};
+ghost use Prim.Native.Nat.{_≤_};
 ghost use mathlib.Core.List.{_++_, map};
 ghost use lib.ListN.{length, drop};
-ghost use Rattle.meaning.specs.Rounds.{ranksOf};
-ghost use Rattle.board.specs.Faults.{goodBoard};
-ghost use Rattle.board.specs.Ranking.{rowsOn};
-ghost use Rattle.board.specs.Grounds.{byteOf, reachedOn, groundOutcome, groundMarks, blameOutcome, blameMarks};
+ghost use Rattle.board.specs.Grounds.{byteOf, groundOutcome, groundMarks, blameOutcome, blameMarks};
 use crate::Board;
 use crate::Outcome;
-use crate::ranking::ranks_on;
 use crate::testing::Placed;
 use crate::testing::good;
 use crate::testing::place_on;
@@ -31,21 +26,6 @@ fn write_marks(reached: &[bool], marks: &mut [u8])
     }
 }
 
-// Marks the premises that the literals at p and q reach, from the ranks of a board that was tested.
-fn mark_from(board: Board, table: &[i16], ranks: &[u16], p: usize, q: usize, marks: &mut [u8])
-    requires { ⌜ (goodBoard (now table) board ≡ true) × (now ranks ≡ ranksOf (2 * board .symbols) (rowsOn (now table) board) (board .held)) ⌝ }
-    requires { ⌜ (p < 2 * board .symbols) × (q < 2 * board .symbols) × (2 * board .symbols ≤ length (now marks)) ⌝ }
-    ensures { λ _. ⌜ now (marks .exit) ≡ map byteOf (reachedOn (now (table .entry)) board p q) ++ drop (2 * board .symbols) (now (marks .entry)) ⌝ }
-{
-    let places = 2 * board.symbols;
-    let held = board.held;
-    let mut reached = [false; 400];
-    reached[p] = true;
-    reached[q] = true;
-    rounds::reach::reach(table, board.rows, &held, ranks, &mut reached[..places]);
-    write_marks(&reached[..places], marks);
-}
-
 // Marks the premises that a literal stands on.
 pub fn ground(board: Board, table: &[i16], l: i16, marks: &mut [u8]) -> Outcome
     ensures { λ r. ⌜ r ≡ groundOutcome (now (table .entry)) board l (now (marks .entry)) ⌝ }
@@ -58,21 +38,30 @@ pub fn ground(board: Board, table: &[i16], l: i16, marks: &mut [u8]) -> Outcome
             if marks.len() < places {
                 return Outcome::Refused(Refusal::TableTooShort);
             }
-            let ranked = ranks_on(board, table);
-            if ranked.high {
+            let held = board.held;
+            let mut ranks = [NONE; 400];
+            let mut reached = [false; 400];
+            let high = rounds::propagation::trace(
+                table,
+                board.rows,
+                &held,
+                &mut ranks[..places],
+                p,
+                &mut reached[..places],
+            );
+            if high {
                 return Outcome::Refused(Refusal::RankTooHigh);
             }
-            let ranks = ranked.list;
             if ranks[p] == NONE {
                 return Outcome::Refused(Refusal::NothingToShow);
             }
-            mark_from(board, table, &ranks[..places], p, p, marks);
+            write_marks(&reached[..places], marks);
             Outcome::Done
         }
     }
 }
 
-// Marks the premises that the lowest symbol with label 3 stands on, by either of its literals.
+// Marks the premises that the lowest symbol with label 3 stands on, by either of its literals: `trace` is given no place.
 pub fn blame(board: Board, table: &[i16], marks: &mut [u8]) -> Outcome
     ensures { λ r. ⌜ r ≡ blameOutcome (now (table .entry)) board (now (marks .entry)) ⌝ }
     ensures { λ _. ⌜ now (marks .exit) ≡ blameMarks (now (table .entry)) board (now (marks .entry)) ⌝ }
@@ -84,15 +73,23 @@ pub fn blame(board: Board, table: &[i16], marks: &mut [u8]) -> Outcome
     if marks.len() < places {
         return Outcome::Refused(Refusal::TableTooShort);
     }
-    let ranked = ranks_on(board, table);
-    if ranked.high {
+    let held = board.held;
+    let mut ranks = [NONE; 400];
+    let mut reached = [false; 400];
+    let high = rounds::propagation::trace(
+        table,
+        board.rows,
+        &held,
+        &mut ranks[..places],
+        NONE as usize,
+        &mut reached[..places],
+    );
+    if high {
         return Outcome::Refused(Refusal::RankTooHigh);
     }
-    let ranks = ranked.list;
-    let s = rounds::labels::first_clash(&ranks[..places]);
-    if s == NONE as usize {
+    if rounds::labels::first_clash(&ranks[..places]) == NONE as usize {
         return Outcome::Refused(Refusal::NothingToShow);
     }
-    mark_from(board, table, &ranks[..places], 2 * s, 2 * s + 1, marks);
+    write_marks(&reached[..places], marks);
     Outcome::Done
 }

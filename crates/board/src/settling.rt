@@ -1,53 +1,14 @@
 // Settle: labels, ranks and supports into three lent tables.
 
 ghost use mathlib.Core.Path.{_≡_};
-ghost use Prim.Native.Nat.{_*_, _≤_};
-ghost use mathlib.Core.List.{_++_};
-ghost use lib.ListN.{length, drop};
-ghost use Rattle.literals.specs.Row.{rowsIn};
-ghost use Rattle.rounds.specs.Ranks.{Fit, labelsFrom, supportsFrom};
 ghost use Rattle.board.specs.Settling.{settleOutcome, settledLabels, settledRanks, settledSupports};
 use crate::Board;
 use crate::Outcome;
-use crate::ranking::ranks_on;
 use crate::testing::good;
 use literals::refusal::Refusal;
 
-// Writes `from` over the front of `to`.
-fn copy(from: &[u16], to: &mut [u16])
-    requires { ⌜ length (now from) ≤ length (now to) ⌝ }
-    ensures { λ _. ⌜ now (to .exit) ≡ now (from .entry) ++ drop (length (now (from .entry))) (now (to .entry)) ⌝ }
-{
-    let mut k = 0;
-    while k < from.len() {
-        to[k] = from[k];
-        k += 1;
-    }
-}
-
-// Writes what the ranks tell of so many symbols over the front of each table.
-fn write_tables(
-    table: &[i16],
-    rows: usize,
-    symbols: usize,
-    own: &[u16],
-    labels: &mut [u8],
-    ranks: &mut [u16],
-    supports: &mut [u16],
-)
-    requires { ⌜ Fit (length (now own)) rows (now table) ⌝ }
-    requires { ⌜ (length (now own) ≡ 2 * symbols) × (symbols ≤ length (now labels)) × (length (now own) ≤ length (now ranks)) × (length (now own) ≤ length (now supports)) ⌝ }
-    ensures { λ _. ⌜ now (labels .exit) ≡ labelsFrom symbols (now (own .entry)) ++ drop symbols (now (labels .entry)) ⌝ }
-    ensures { λ _. ⌜ now (ranks .exit) ≡ now (own .entry) ++ drop (length (now (own .entry))) (now (ranks .entry)) ⌝ }
-    ensures { λ _. ⌜ now (supports .exit) ≡ supportsFrom (rowsIn rows (now (table .entry))) (now (own .entry)) ++ drop (length (now (own .entry))) (now (supports .entry)) ⌝ }
-{
-    let places = own.len();
-    rounds::labels::write_labels(own, &mut labels[..symbols]);
-    copy(own, ranks);
-    rounds::supports::write_supports(table, rows, own, &mut supports[..places]);
-}
-
-// Writes the labels, ranks and supports of a board.
+// Writes the labels, ranks and supports of a board. The ranks and supports go straight into the lent tables: refusal 14, the one that only
+// they could bring, is never given, as `meaning` proves.
 pub fn settle(
     board: Board,
     table: &[i16],
@@ -68,19 +29,18 @@ pub fn settle(
     if labels.len() < symbols || ranks.len() < places || supports.len() < places {
         return Outcome::Refused(Refusal::TableTooShort);
     }
-    let ranked = ranks_on(board, table);
-    if ranked.high {
-        return Outcome::Refused(Refusal::RankTooHigh);
-    }
-    let own = ranked.list;
-    write_tables(
+    let held = board.held;
+    let high = rounds::propagation::propagate(
         table,
         board.rows,
-        symbols,
-        &own[..places],
-        labels,
-        ranks,
-        supports,
+        &held,
+        &mut ranks[..places],
+        0,
+        &mut supports[..places],
     );
+    if high {
+        return Outcome::Refused(Refusal::RankTooHigh);
+    }
+    rounds::labels::write_labels(&ranks[..places], &mut labels[..symbols]);
     Outcome::Done
 }

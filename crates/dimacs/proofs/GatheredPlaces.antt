@@ -1,7 +1,7 @@
 -- The places gathered of a clause are places of its literals; and a clause is found always true just where it has a literal and its opposite.
-use mathlib.Core.Path.{_≡_, refl, sym}
+use mathlib.Core.Path.{_≡_, refl}
 use mathlib.Core.Logic.{⊎-elim}
-use mathlib.Core.Bool.{Bool, true, false, _||_, false≢true}
+use mathlib.Core.Bool.{Bool, true, false, false≢true}
 use mathlib.Core.List.{List, [], _∷_, _++_, map, Memᴰ·append-left, Memᴰ·append-right, Memᴰ·of-map}
 use mathlib.Core.List.{List·Memᴰ as In, List·Memᴰ·head as here, List·Memᴰ·tail as there, List·Memᴰ·cases-cons as in-cons}
 use mathlib.Core.List.{List·Memᴰ·not-nil as in-nil, List·Memᴰ·append-cases as in-append}
@@ -9,12 +9,13 @@ use Prim.Native.Nat.{ℕ}
 use lib.IntN.{ℤ}
 use Rattle.meaning.specs.Tests.{member}
 use Rattle.meaning.specs.Literals.{opp}
-use Rattle.meaning.proofs.Tests.{any-at, any-found, clash, in-member, member-in, one-true, same-test, true-or-false}
+use Rattle.meaning.proofs.Tests.{any-at, any-found, both-false, clash, in-member, member-in, one-true, same-test, true-or-false}
+use Rattle.meaning.proofs.Literals.{opp-opp}
 use Rattle.meaning.proofs.SoundRows.{Rising}
 use Rattle.literals.specs.Literal.{placeOf}
 use Rattle.dimacs.specs.Gathering.{alwaysTrue, clashes, gathered, inserted}
 use Rattle.dimacs.specs.Promises.{hasOpposite}
-use Rattle.dimacs.proofs.InsertedPlaces.{clash-in, in-clash, in-inserted, inserted-in, inserted-rising, opp-opp, opp-other}
+use Rattle.dimacs.proofs.InsertedPlaces.{clash-in, in-clash, in-inserted, inserted-in, inserted-rising, opp-other}
 
 -- ---- all places of a clause, behind those of a row
 
@@ -42,10 +43,6 @@ always-in row (l ∷ ls) e =
     let r = always-in (inserted p row) ls a in
     (r .0, there (r .1), one-more p row (map placeOf ls) (opp (placeOf (r .0))) (r .2)))
     (one-true (clashes p row) (alwaysTrue (inserted p row) ls) e)
-
-neither : (a b : Bool) → a || b ≡ false → (a ≡ false) × (b ≡ false)
-neither true b e = absurd (false≢true (sym e))
-neither false b e = (refl, e)
 
 -- no literal of these has its opposite among the places
 abbrev Free : List ℕ → List ℤ → Type 0
@@ -81,7 +78,7 @@ unfolding alwaysTrue
 always-free row [] rise e = λ l i j. in-nil i
 always-free row (l ∷ ls) rise e =
     let p = placeOf l in
-    let n = neither (clashes p row) (alwaysTrue (inserted p row) ls) e in
+    let n = both-false (clashes p row) (alwaysTrue (inserted p row) ls) e in
     free-more row l ls rise (n .0) (always-free (inserted p row) ls (inserted-rising p row rise) (n .1))
 
 -- a clause is found always true just where it has a literal and its opposite

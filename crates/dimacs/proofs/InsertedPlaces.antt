@@ -20,11 +20,6 @@ use Rattle.dimacs.specs.Gathering.{clashes, inserted}
 opp-half : (p : ℕ) → opp p / 2 ≡ p / 2
 opp-half p = ⊎-elim (λ e. omega (arith, opp-even p e)) (λ o. omega (arith, opp-odd p o)) (even-or-odd p)
 
-pub opp-opp : (p : ℕ) → opp (opp p) ≡ p
-opp-opp p =
-    ⊎-elim (λ e. let a = opp-even p e in omega (arith, a, opp-odd (opp p) (omega arith)))
-    (λ o. let a = opp-odd p o in omega (arith, a, opp-even (opp p) (omega arith))) (even-or-odd p)
-
 pub opp-other : (p : ℕ) → opp p ≢ p
 opp-other p e = ⊎-elim (λ v. omega (arith, opp-even p v)) (λ o. omega (arith, opp-odd p o)) (even-or-odd p)
 

@@ -13,6 +13,7 @@ use Rattle.meaning.proofs.Tests.{all-append, all-imp, both-true}
 use Rattle.literals.specs.Literal.{inRange, placeOf}
 use Rattle.literals.specs.Row.{decode, rising, rowSound, width, zeros}
 use Rattle.literals.proofs.Places.{literal-abs, literal-at-place}
+use Rattle.literals.proofs.Decoding.{sound-rising}
 use Rattle.board.specs.Faults.{firstFault}
 use Rattle.board.specs.declared.Outcome.the-variants.{Done}
 use Rattle.dimacs.specs.Clauses.{clauseFaults, rowsOfClause}
@@ -20,7 +21,7 @@ use Rattle.dimacs.specs.Gathering.{alwaysTrue, clashes, gathered, insert
 use Rattle.dimacs.specs.Writing.{literalsOf}
 use Rattle.dimacs.proofs.ClauseRules.{clause-rows}
 use Rattle.dimacs.proofs.FoundFaults.{clause-fault}
-use Rattle.dimacs.proofs.SoundTables.{sound-range, sound-rising}
+use Rattle.dimacs.proofs.SoundTables.{sound-range}
 
 -- ---- a place of a later symbol goes to the end
 

@@ -4,30 +4,20 @@ use mathlib.Core.Bool.{Bool, true, false, cond, _&&_}
 use mathlib.Core.List.{List, [], _∷_}
 use Prim.Native.Nat.{ℕ, zero, suc, _<_}
 use native.Mathlib.Omega.{arith}
-use borrow.Author.Tests.{eqb-false, le-leb, leb-true, lt-ltb, ne-eqb}
+use borrow.Author.Tests.{eqb-false, le-leb}
 use lib.Dec.{eqb, leb, ltb}
 use lib.IntN.{ℤ, natAbs}
 use Rattle.meaning.specs.Tests.{all, tabulate}
 use Rattle.meaning.proofs.Tests.{and-intro, both-true}
 use Rattle.literals.specs.Literal.{inRange}
 use Rattle.literals.specs.Row.{Sound, numbersAt, rising, rowSound, zeros}
-use Rattle.literals.proofs.Decoding.{sound-at}
+use Rattle.literals.proofs.Decoding.{sound-rising, sound-at}
 use Rattle.dimacs.specs.Form.{good, parseText}
 use Rattle.dimacs.specs.Writing.{clauseAt, clausesAt, literalsOf, textOf}
 use Rattle.dimacs.proofs.RoundTrip.{reads-back}
 use Rattle.dimacs.proofs.TextLines.{count-clauses}
 
 -- ---- a row
-
--- the symbols of a sound row rise from above 0
-pub sound-rising : (S : ℕ) (row : List ℤ) → rowSound S row ≡ true → rising S 0 row ≡ true
-unfolding rowSound rising
-sound-rising S [] e = refl
-sound-rising S (l ∷ ls) e =
-    let t = both-true (inRange S l) (rising S (natAbs l) ls) e in
-    let r = both-true (leb 1 (natAbs l)) (leb (natAbs l) S) (t .0) in
-    let low = leb-true 1 (natAbs l) (r .0) in
-    rw (ne-eqb (natAbs l) 0 (omega arith), lt-ltb 0 (natAbs l) (omega arith), r .1) (t .1)
 
 rising-range : (S last : ℕ) (ls : List ℤ) → rising S last ls ≡ true → all (inRange S) (literalsOf ls) ≡ true
 unfolding rising literalsOf

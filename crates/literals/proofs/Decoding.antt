@@ -6,7 +6,7 @@ use mathlib.Core.List.{List, [], _∷_, _++_, List·Memᴰ as In}
 use mathlib.Core.List.{List·Memᴰ·cases-cons as in-cons, List·Memᴰ·not-nil as in-nil}
 use Prim.Native.Nat.{ℕ, zero, suc, _*_, _<_, _≤_}
 use native.Mathlib.Omega.{arith}
-use borrow.Author.Tests.{eq-eqb, ne-eqb, eqb-true, leb-true}
+use borrow.Author.Tests.{eq-eqb, ne-eqb, eqb-true, leb-true, le-leb, lt-ltb}
 use lib.Dec.{eqb, leb, ltb}
 use lib.IntN.{ℤ, pos, natAbs}
 use lib.ListN.{length, getD}
@@ -82,6 +82,14 @@ sound-cons S l ls e =
     let range = both-true (leb 1 (natAbs l)) (leb (natAbs l) S) (first .0) in
     (leb-true _ _ (range .0), leb-true _ _ (range .1), first .1)
 
+-- the symbols of a sound row rise from above 0
+pub sound-rising : (S : ℕ) (row : List ℤ) → rowSound S row ≡ true → rising S 0 row ≡ true
+unfolding rowSound rising
+sound-rising S [] e = refl
+sound-rising S (l ∷ ls) e =
+    let r = sound-cons S l ls e in
+    rw (ne-eqb (natAbs l) 0 (omega (arith, r .0)), lt-ltb 0 (natAbs l) (r .0), le-leb (natAbs l) S (r .1)) (r .2)
+
 -- in a sound row every decoded place is below 2S, and is that of the literal at the same index
 pub sound-decoded : (S : ℕ) (row : List ℤ) → rowSound S row ≡ true → (i : ℕ) → i < length (decode row) → Decoded S row i (getD (decode row) i 0)
 unfolding rowSound
@@ -105,7 +113,7 @@ sound-in S row e m =
 
 -- ---- every number of a sound row is 0 or a literal of one of the symbols 1 to S
 
-zeros-small : (ls : List ℤ) → zeros ls ≡ true → (i : ℕ) → natAbs (getD ls i (pos 0)) ≡ 0
+pub zeros-small : (ls : List ℤ) → zeros ls ≡ true → (i : ℕ) → natAbs (getD ls i (pos 0)) ≡ 0
 unfolding zeros
 zeros-small [] e i = refl
 zeros-small (l ∷ ls) e zero = eqb-true _ _ (both-true (eqb (natAbs l) 0) (zeros ls) e .0)

@@ -4,7 +4,9 @@ pub mod Places
 pub mod Opposites
 pub mod Rows
 pub mod Decoding
+pub mod Differing
 pub mod Encoding
 pub mod Counting
+pub mod Scanning
 mod Examples
 mod Unique

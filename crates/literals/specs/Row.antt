@@ -60,3 +60,7 @@ pub record Sound (S used : ℕ) (table : List ℤ) : Type 0 where
   pub rows : used ≤ 2048
   pub room : width * used ≤ length table
   pub sound : rowsSound S used table ≡ true
+
+-- the first `used` rows are sound for so many places
+abbrev pub Fit : (places used : ℕ) → List ℤ → Type 0
+Fit places used table = (S : ℕ) × (places ≡ 2 * S) × Sound S used table

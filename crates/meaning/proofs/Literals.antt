@@ -25,6 +25,12 @@ opp-odd p h = rw (ne-eqb _ _ h)
 pub even-or-odd : (p : ℕ) → (p % 2 ≡ 0) ⊎ (p % 2 ≡ 0 → ⊥)
 even-or-odd p = ⊎-elim (λ e. inl (eqb-true (p % 2) 0 e)) (λ e. inr (eqb-false (p % 2) 0 e)) (true-or-false (eqb (p % 2) 0))
 
+-- the opposite's opposite is the literal
+pub opp-opp : (p : ℕ) → opp (opp p) ≡ p
+opp-opp p =
+    ⊎-elim (λ e. let a = opp-even p e in omega (arith, a, opp-odd (opp p) (omega arith)))
+    (λ o. let a = opp-odd p o in omega (arith, a, opp-even (opp p) (omega arith))) (even-or-odd p)
+
 -- the opposite of one of an even number of places is another of them
 pub opp-in : (p places : ℕ) → places % 2 ≡ 0 → p < places → opp p < places
 opp-in p places e h = ⊎-elim (λ v. omega (arith, opp-even p v)) (λ d. omega (arith, opp-odd p d)) (even-or-odd p)

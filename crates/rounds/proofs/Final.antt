@@ -2,22 +2,21 @@
 use Prim.Native.Nat.{ℕ, zero, suc, _+_, _-_, _*_, _≤_, _<_}
 use mathlib.Core.Path.{_≡_, refl, sym, ap, ap₂, _∙_}
 use mathlib.Core.Logic.{_⊎_, inl, inr, ⊎-elim}
-use mathlib.Core.Bool.{Bool, cond}
-use mathlib.Core.List.{List}
+use mathlib.Core.Bool.{Bool, true, false, cond}
+use mathlib.Core.List.{List, []}
 use native.Mathlib.Omega.{arith}
 use lib.Dec.{ltb, eqb}
 use lib.ListN.{getD}
 use borrow.Author.Tests.{eq-eqb}
-use Rattle.meaning.specs.Tests.{none}
+use Rattle.meaning.specs.Tests.{none, tabulate}
 use Rattle.meaning.specs.Literals.{has}
-use Rattle.meaning.specs.Rounds.{byRows, after, derived, rankOf, firstGiver, supportAt, supportOf, ranksOf, supportsOf, labelOf, labelsOf}
+use Rattle.meaning.specs.Rounds.{byRows, after, derived, rankOf, firstGiver, supportAt, supportOf, ranksOf, labelOf, labelsOf}
 use Rattle.meaning.proofs.Tables.{getD-tabulate, tabulate-same}
 use Rattle.meaning.proofs.Rounds.{reached-length}
 use Rattle.meaning.proofs.Ranks.{rankOf-is, derived-rank}
-use Rattle.rounds.specs.Ranks.{below, supportFrom, supportsFrom, labelsFrom}
+use Rattle.rounds.specs.Ranks.{below, supportFrom, labelsFrom}
 use Rattle.rounds.proofs.Marking.{below-tabulate}
-use Rattle.rounds.proofs.Givers.{supportFrom-row}
-use Rattle.rounds.proofs.RankTables.{getD-ranksOf, length-ranksOf, below-ranksOf}
+use Rattle.rounds.proofs.RankTables.{getD-ranksOf, below-ranksOf}
 
 module _ (places : ℕ) (rows : List (List ℕ)) (held : List Bool) (small : places < none) where
   pub supportFrom-is : (p : ℕ) → p < places → supportFrom rows (ranksOf places rows held) p ≡ supportOf places rows held p
@@ -32,16 +31,10 @@ module _ (places : ℕ) (rows : List (List ℕ)) (held : List Bool) (small : pla
           unfold supportAt in ap (λ known. cond (eqb (suc k) none) none (firstGiver known rows p)) (below-ranksOf places rows held small k (omega arith))
       same (suc k) (inr e) = unfold supportAt in rw (eq-eqb (suc k) none e)
 
-  -- of a literal with a rank above 0: the lowest row that gives it in the round of its rank
-  pub support-row-is : (p : ℕ) → p < places → (rankOf places rows held p ≡ 0 → ⊥) → (rankOf places rows held p ≡ none → ⊥)
-      → firstGiver (below (rankOf places rows held p) (ranksOf places rows held)) rows p ≡ supportOf places rows held p
-  support-row-is p h some ranked =
-      let e = getD-ranksOf places rows held p h in
-      rw (← e) (supportFrom-row rows (ranksOf places rows held) p (λ z. some (sym e ∙ z)) (λ n. ranked (sym e ∙ n)) ∙ supportFrom-is p h)
-
-  pub supportsFrom-is : supportsFrom rows (ranksOf places rows held) ≡ supportsOf places rows held
-  unfolding supportsFrom supportsOf
-  supportsFrom-is = tabulate-same 0 _ places _ _ (length-ranksOf places rows held) supportFrom-is
+  -- the supports of n places, from one on
+  pub supports-are : {ranks : List ℕ} → ranks ≡ ranksOf places rows held → (n from : ℕ) → from + n ≤ places
+      → tabulate n (λ i. supportFrom rows ranks (from + i)) ≡ tabulate n (λ i. supportOf places rows held (from + i))
+  supports-are is n from room = tabulate-same 0 n n _ _ refl (λ i h. rw is (supportFrom-is (from + i) (omega arith)))
 
   pub below-derived : below none (ranksOf places rows held) ≡ derived places rows held
   unfolding ranksOf
@@ -59,3 +52,16 @@ labelsFrom-is symbols rows held small =
     (λ s h.
     (let first : 2 * (suc s - 1) ≡ 2 * s = omega arith in
     rw first (ap₂ labelOf (ranked (2 * symbols) rows held small (2 * s) (omega arith)) (ranked (2 * symbols) rows held small (2 * s + 1) (omega arith)))))
+
+-- without rows there is no support
+pub no-supports : (places : ℕ) (held : List Bool) (n from : ℕ) → tabulate n (λ i. none) ≡ tabulate n (λ i. supportOf places [] held (from + i))
+unfolding supportOf
+no-supports places held n from = tabulate-same 0 n n _ _ refl (λ i h. sym (never (rankOf places [] held (from + i)) (from + i)))
+  where
+    either : (t : Bool) → cond t none none ≡ none
+    either true = refl
+    either false = refl
+
+    never : (r p : ℕ) → supportAt (after places [] held) [] r p ≡ none
+    never zero p = unfold supportAt in refl
+    never (suc k) p = unfold supportAt firstGiver in either (eqb (suc k) none)

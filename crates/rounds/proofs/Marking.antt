@@ -1,8 +1,7 @@
--- Laws of writing ranks: `mark`, `below` and `Told`.
+-- Laws of writing ranks: `mark` and `below`.
 use Prim.Native.Nat.{ℕ, zero, suc, _<_}
 use mathlib.Core.Path.{_≡_, refl, sym, ap, _∙_}
-use mathlib.Core.Logic.{_⊎_, inl, inr}
-use mathlib.Core.Bool.{Bool, true, false, cond, _&&_, _||_, true≢false, false≢true, and-false, or-false, or-assoc}
+use mathlib.Core.Bool.{Bool, true, false, cond, _&&_, _||_, and-false, or-false, or-assoc}
 use mathlib.Core.List.{List, [], _∷_}
 use native.Mathlib.Nat.{le-of-suc-le-suc, not-suc-le-zero}
 use native.Mathlib.Omega.{arith}
@@ -10,11 +9,16 @@ use lib.ListN.{length, getD, set, length-set, length-map}
 use lib.Seq.{ext-getD, getD-set-same, getD-set-other}
 use lib.Dec.{ltb, eqb}
 use borrow.Author.Tests.{le-ltb, eq-eqb, ne-eqb, eqb-true, eqb-false}
+use mathlib.Core.Logic.{_⊎_, inl, inr, ⊎-elim}
 use Rattle.meaning.specs.Tests.{member, none, tabulate}
+use Rattle.meaning.proofs.Tests.{true-or-false}
 use Rattle.meaning.specs.Literals.{has}
-use Rattle.meaning.proofs.Tests.{clash}
 use Rattle.meaning.proofs.Tables.{length-tabulate, getD-tabulate, tabulate-ext, map-tabulate}
-use Rattle.rounds.specs.Ranks.{below, mark, Told}
+use Rattle.rounds.specs.Ranks.{below, mark}
+
+-- two numbers are the same, or they differ
+pub same-or-not : (a b : ℕ) → (a ≡ b) ⊎ (a ≡ b → ⊥)
+same-or-not a b = ⊎-elim (λ e. inl (eqb-true a b e)) (λ e. inr (eqb-false a b e)) (true-or-false (eqb a b))
 
 -- ---- the places whose rank is below k
 
@@ -44,14 +48,14 @@ any-default (r ∷ l) (suc p) d e h = any-default l p d e (le-of-suc-le-suc h)
 -- ---- writing a rank
 
 -- one place
-abbrev put : ℕ → ℕ → Bool → ℕ
+abbrev pub put : ℕ → ℕ → Bool → ℕ
 put k r t = cond (eqb r none && t) k r
 
-length-mark : (k : ℕ) (f : ℕ → Bool) (l : List ℕ) → length (mark k f l) ≡ length l
+pub length-mark : (k : ℕ) (f : ℕ → Bool) (l : List ℕ) → length (mark k f l) ≡ length l
 unfolding mark
 length-mark k f l = length-tabulate (length l) _
 
-getD-mark : (k : ℕ) (f : ℕ → Bool) (l : List ℕ) (p : ℕ) → p < length l → getD (mark k f l) p 0 ≡ put k (getD l p 0) (f p)
+pub getD-mark : (k : ℕ) (f : ℕ → Bool) (l : List ℕ) (p : ℕ) → p < length l → getD (mark k f l) p 0 ≡ put k (getD l p 0) (f p)
 unfolding mark
 getD-mark k f l p h = getD-tabulate (length l) _ p 0 h
 
@@ -69,7 +73,7 @@ put-put k r s t small = go (eqb r none) s t refl
     go false s t e = rw e
 
 -- two writings are one
-mark-mark : (k : ℕ) (f g : ℕ → Bool) (l : List ℕ) → k < none → mark k g (mark k f l) ≡ mark k (λ p. f p || g p) l
+pub mark-mark : (k : ℕ) (f g : ℕ → Bool) (l : List ℕ) → k < none → mark k g (mark k f l) ≡ mark k (λ p. f p || g p) l
 mark-mark k f g l small =
     mark-ext k (λ p. f p || g p) l (mark k g (mark k f l)) (length-mark k g (mark k f l) ∙ length-mark k f l)
     (λ p h. getD-mark k g (mark k f l) p (rw length-mark h) ∙ ap (λ r. put k r (g p)) (getD-mark k f l p h) ∙ put-put k (getD l p 0) (f p) (g p) small)
@@ -78,6 +82,18 @@ mark-mark k f g l small =
 pub mark-same : (k : ℕ) (f g : ℕ → Bool) (l : List ℕ) → ((p : ℕ) → f p ≡ g p) → mark k f l ≡ mark k g l
 mark-same k f g l h =
     mark-ext k g l (mark k f l) (length-mark k f l) (λ p b. getD-mark k f l p b ∙ ap (put k (getD l p 0)) (h p))
+
+pub mark-as : (k : ℕ) (f g : ℕ → Bool) (l : List ℕ) {m : List ℕ} → m ≡ mark k f l → ((p : ℕ) → g p ≡ f p) → m ≡ mark k g l
+mark-as k f g l e h = e ∙ mark-same k f g l (λ p. sym (h p))
+
+-- and that only where there is no rank
+pub mark-open : (k : ℕ) (f g : ℕ → Bool) (l : List ℕ) → ((p : ℕ) → p < length l → getD l p 0 ≡ none → f p ≡ g p) → mark k f l ≡ mark k g l
+mark-open k f g l h =
+    mark-ext k g l (mark k f l) (length-mark k f l) (λ p b. getD-mark k f l p b ∙ go p b (eqb (getD l p 0) none) refl)
+  where
+    go : (p : ℕ) → p < length l → (t : Bool) → eqb (getD l p 0) none ≡ t → cond (t && f p) k (getD l p 0) ≡ cond (t && g p) k (getD l p 0)
+    go p b true e = rw (h p b (eqb-true (getD l p 0) none e))
+    go p b false e = refl
 
 -- where no place passes nothing is written
 mark-no : (k : ℕ) (f : ℕ → Bool) (l : List ℕ) → ((p : ℕ) → p < length l → (eqb (getD l p 0) none && f p) ≡ false) → l ≡ mark k f l
@@ -95,7 +111,7 @@ ltb-put k r t small = go (eqb r none) t refl
     go false t e = refl
 
 -- writing k changes nothing about which ranks are below k
-below-mark : (k : ℕ) (f : ℕ → Bool) (l : List ℕ) → k < none → below k (mark k f l) ≡ below k l
+pub below-mark : (k : ℕ) (f : ℕ → Bool) (l : List ℕ) → k < none → below k (mark k f l) ≡ below k l
 below-mark k f l small =
     ext-getD false (below k (mark k f l)) (below k l) (length-below k (mark k f l) ∙ length-mark k f l ∙ sym (length-below k l)) same
   where
@@ -104,25 +120,6 @@ below-mark k f l small =
         let i : p < length (mark k f l) = rw (length-below k (mark k f l)) at h in
         let b : p < length l = rw (length-mark k f l) at i in
         below-rank k (mark k f l) p i ∙ ap (λ r. ltb r k) (getD-mark k f l p b) ∙ ltb-put k (getD l p 0) (f p) small ∙ sym (below-rank k l p b)
-
--- a place that was written is not taken back
-put-kept : (k r : ℕ) (s t : Bool) → k < none → put k (put k r s) t ≡ r → put k r s ≡ r
-put-kept k r s t small = go (eqb r none) s t
-  where
-    go : (b s t : Bool) → put k (cond (b && s) k r) t ≡ r → cond (b && s) k r ≡ r
-    go true true t q = rw (ne-eqb k none (λ e. omega (arith, e))) at q
-    go true false t q = refl
-    go false s t q = refl
-
-mark-kept : (k : ℕ) (f g : ℕ → Bool) (l : List ℕ) → k < none → mark k g (mark k f l) ≡ l → mark k f l ≡ l
-mark-kept k f g l small e =
-    ext-getD 0 (mark k f l) l (length-mark k f l) (λ p h. same p (rw (← length-mark k f l) h))
-  where
-    same : (p : ℕ) → p < length l → getD (mark k f l) p 0 ≡ getD l p 0
-    same p h =
-        let here : getD (mark k f l) p 0 ≡ put k (getD l p 0) (f p) = getD-mark k f l p h in
-        let there : getD (mark k g (mark k f l)) p 0 ≡ put k (getD (mark k f l) p 0) (g p) = getD-mark k g (mark k f l) p (rw length-mark h) in
-        here ∙ put-kept k (getD l p 0) (f p) (g p) small (ap (λ r. put k r (g p)) (sym here) ∙ sym there ∙ ap (λ m. getD m p 0) e)
 
 -- ---- one place
 
@@ -146,75 +143,27 @@ module _ (k : ℕ) (l : List ℕ) (q : ℕ) where
           rw (at-q, ne-eqb (getD l q 0) none n)
       go p false differ = and-false (eqb (getD l p 0) none)
 
--- ---- what was told
-
-pub told-no : (l : List ℕ) → Told false l l
-told-no l = record { same = λ _. refl; other = λ e _. false≢true e }
-
-pub told-set : (l : List ℕ) (q k : ℕ) → q < length l → k < none → getD l q 0 ≡ none → Told true l (set l q k)
-told-set l q k h small e =
-    record {
-      same = λ n. absurd (true≢false n);
-      other = λ _ s. (let w : k ≡ none = sym (getD-set-same l q k 0 h) ∙ ap (λ m. getD m q 0) s ∙ e in omega arith);
-    }
-
--- an answer r added to those before it
-abbrev pub Adds : (r added now : Bool) → Type 0
-Adds r added now = ((r ≡ true) × (now ≡ true)) ⊎ ((r ≡ false) × (now ≡ added))
-
--- the ranks m come from l by marking what passes a test, as the answer told
-pub record Marked (k : ℕ) (test : ℕ → Bool) (l m : List ℕ) (added : Bool) : Type 0 where
-  pub is : m ≡ mark k test l
-  pub told : Told added l m
-
-module _ {k : ℕ} (small : k < none) {l : List ℕ} where
-  pub marked-none : (test : ℕ → Bool) → ((p : ℕ) → test p ≡ false) → Marked k test l l false
-  marked-none test h = record { is = mark-never k test l h; told = told-no l }
-
-  -- what is below k stays as it was
-  pub marked-below : {f : ℕ → Bool} {m : List ℕ} {added : Bool} → Marked k f l m added → below k m ≡ below k l
-  marked-below w = ap (below k) (w .is) ∙ below-mark k _ l small
-
-  module _ {f : ℕ → Bool} (g h : ℕ → Bool) (both : (p : ℕ) → (f p || g p) ≡ h p)
-      {m n : List ℕ} {added : Bool} (w : Marked k f l m added) (e : n ≡ mark k g m) where
-    whole : n ≡ mark k h l
-    whole = e ∙ ap (mark k g) (w .is) ∙ mark-mark k f g l small ∙ mark-same k _ h l both
-
-    -- one writing more: something was written, or nothing was
-    pub marked-more : {r now : Bool} → Told r m n → Adds r added now → Marked k h l n now
-    marked-more t (inl y) =
-        record {
-          is = whole;
-          told = record {
-            same = λ no. clash (y .1) no;
-            other = λ _ s.
-                (let back : mark k g (mark k f l) ≡ l = ap (mark k g) (sym (w .is)) ∙ sym e ∙ s in
-                t .other (y .0) (s ∙ sym (mark-kept k f g l small back) ∙ sym (w .is)));
-          };
-        }
-    marked-more t (inr y) = record { is = whole; told = rw (y .1, t .same (y .0)) (w .told) }
-
 -- ---- a row's literals, one by one
 
 -- the ranks m come from l by marking the row's literals but for those left
-pub record Passed (k : ℕ) (row left l m : List ℕ) (added : Bool) : Type 0 where
+pub record Passed (k : ℕ) (row left l m : List ℕ) : Type 0 where
   pub test : ℕ → Bool
   pub split : (p : ℕ) → (test p || member p left) ≡ member p row
-  pub marked : Marked k test l m added
+  pub is : m ≡ mark k test l
 
 module _ {k : ℕ} (small : k < none) {row l : List ℕ} where
-  pub passed-none : Passed k row row l l false
-  passed-none = record { test = λ _. false; split = λ p. refl; marked = marked-none small (λ _. false) (λ p. refl) }
+  pub passed-none : Passed k row row l l
+  passed-none = record { test = λ _. false; split = λ p. refl; is = mark-never k (λ _. false) l (λ p. refl) }
 
-  module _ {q : ℕ} {left m n : List ℕ} {added : Bool} (w : Passed k row (q ∷ left) l m added) (e : n ≡ mark k (eqb q) m) where
+  module _ {q : ℕ} {left m n : List ℕ} (w : Passed k row (q ∷ left) l m) (e : n ≡ mark k (eqb q) m) where
     -- one literal more
-    pub passed-more : {r now : Bool} → Told r m n → Adds r added now → Passed k row left l n now
-    passed-more t y =
+    pub passed-more : Passed k row left l n
+    passed-more =
         record {
           test = λ p. w .test p || eqb q p;
           split = λ p. or-assoc (w .test p) (eqb q p) (member p left) ∙ w .split p;
-          marked = marked-more small (eqb q) _ (λ p. refl) (w .marked) e t y;
+          is = e ∙ ap (mark k (eqb q)) (w .is) ∙ mark-mark k (w .test) (eqb q) l small;
         }
 
-  pub passed-all : {m : List ℕ} {added : Bool} → Passed k row [] l m added → (m ≡ mark k (λ p. member p row) l) × Told added l m
-  passed-all w = (w .marked .is ∙ mark-same k (w .test) (λ p. member p row) l (λ p. sym (or-false (w .test p)) ∙ w .split p), w .marked .told)
+  pub passed-all : {m : List ℕ} → Passed k row [] l m → m ≡ mark k (λ p. member p row) l
+  passed-all w = w .is ∙ mark-same k (w .test) (λ p. member p row) l (λ p. sym (or-false (w .test p)) ∙ w .split p)

@@ -21,9 +21,9 @@ use Rattle.literals.specs.Literal.{placeOf, literalAt}
 use Rattle.literals.proofs.Signed.{small-abs, zero-bits, bits-zero}
 use Rattle.literals.proofs.Places.{literal-at-place}
 use Rattle.rounds.specs.Ranks.{openAfter, openIn}
-use Rattle.rounds.specs.declared.ranks.Open.{Open}
-use Rattle.rounds.specs.declared.ranks.Open.the-variants.{Nothing, One, More}
-use Rattle.rounds.proofs.Scanning.{numberAt, Literal}
+use Rattle.rounds.specs.declared.marks.Open.{Open}
+use Rattle.rounds.specs.declared.marks.Open.the-variants.{Nothing, One, More}
+use Rattle.literals.proofs.Scanning.{numberAt, Literal}
 
 -- ---- what the open literals say of the row
 

@@ -1,3 +1,5 @@
--- What the functions say of tables of ranks. Each speaks of its inputs only; one law at the top turns it into document 01's words.
+-- What the functions say of tables of ranks, of the queue, of the rows that are looked at, and of what literals reach.
 pub mod Ranks
+pub mod Queue
+pub mod Visits
 pub mod Reach

@@ -1,22 +1,14 @@
 -- A table of ranks, one number for each place, and what it tells.
-use mathlib.Core.Path.{_≡_}
-use mathlib.Core.Bool.{Bool, true, false, cond, _&&_}
+use mathlib.Core.Bool.{Bool, cond, _&&_}
 use mathlib.Core.List.{List, [], _∷_, map}
 use Prim.Native.Nat.{ℕ, suc, _+_, _*_}
 use lib.Dec.{ltb, eqb}
-use lib.IntN.{ℤ}
 use lib.ListN.{length, getD}
-use Rattle.meaning.specs.Tests.{any, from, tabulate, none}
+use Rattle.meaning.specs.Tests.{tabulate, none}
 use Rattle.meaning.specs.Literals.{opp, has}
 use Rattle.meaning.specs.Rounds.{byRows, rankBy, labelOf, supportAt}
-use Rattle.meaning.specs.Ground.{reaches}
-use Rattle.literals.specs.Row.{Sound}
-use Rattle.rounds.specs.declared.ranks.Open.{Open}
-use Rattle.rounds.specs.declared.ranks.Open.the-variants.{Nothing, One, More}
-
--- the first `used` rows are sound for so many places
-abbrev pub Fit : (places used : ℕ) → List ℤ → Type 0
-Fit places used table = (S : ℕ) × (places ≡ 2 * S) × Sound S used table
+use Rattle.rounds.specs.declared.marks.Open.{Open}
+use Rattle.rounds.specs.declared.marks.Open.the-variants.{Nothing, One, More}
 
 -- the places whose rank is below k
 unfoldable pub below : ℕ → List ℕ → List Bool
@@ -44,11 +36,6 @@ ranksAfter k rows ranks = mark k (byRows rows (below k ranks)) ranks
 unfoldable pub startRanks : ℕ → List Bool → List ℕ
 startRanks places held = tabulate places (λ p. cond (has held p) 0 none)
 
--- an answer says whether the ranks were changed
-pub record Told (added : Bool) (before after : List ℕ) : Type 0 where
-  pub same : added ≡ false → after ≡ before
-  pub other : added ≡ true → after ≡ before → ⊥
-
 -- the ranks as far as k rounds tell
 unfoldable pub ranksBy : ℕ → List (List ℕ) → List Bool → ℕ → List ℕ
 ranksBy places rows held k = tabulate places (rankBy places rows held k)
@@ -57,16 +44,9 @@ ranksBy places rows held k = tabulate places (rankBy places rows held k)
 unfoldable pub supportFrom : List (List ℕ) → List ℕ → ℕ → ℕ
 supportFrom rows ranks p = supportAt (λ k. below (suc k) ranks) rows (getD ranks p 0) p
 
-unfoldable pub supportsFrom : List (List ℕ) → List ℕ → List ℕ
-supportsFrom rows ranks = tabulate (length ranks) (supportFrom rows ranks)
-
 unfoldable pub labelsFrom : ℕ → List ℕ → List ℕ
 labelsFrom symbols ranks = tabulate symbols (λ s. labelOf (ltb (getD ranks (2 * s) none) none) (ltb (getD ranks (2 * s + 1) none) none))
 
 -- both literals of a symbol, counted from 0, have a rank
 unfoldable pub clashIn : List ℕ → ℕ → Bool
 clashIn ranks s = ltb (getD ranks (2 * s) 0) none && ltb (getD ranks (2 * s + 1) 0) none
-
--- the premises that some marked literal reaches
-unfoldable pub reachedFrom : ℕ → List (List ℕ) → List Bool → List Bool → List Bool
-reachedFrom places rows held marks = tabulate places (λ h. any (λ q. has marks q && reaches places rows held q h) (from 0 places))

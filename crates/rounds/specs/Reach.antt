@@ -1,33 +1,47 @@
--- What a table of ranks tells of reaching: where a literal leads, through its support.
-use mathlib.Core.Bool.{Bool, not, _&&_, _||_}
+-- What literals reach through their supports.
+use mathlib.Core.Path.{_≡_}
+use mathlib.Core.Bool.{Bool, true, false, cond, not, _&&_, _||_}
 use mathlib.Core.List.{List, []}
-use Prim.Native.Nat.{ℕ}
-use lib.Dec.{eqb}
-use lib.ListN.{length, getD}
-use Rattle.meaning.specs.Tests.{any, from, tabulate}
+use Prim.Native.Nat.{ℕ, _+_, _*_, _/_, _<_}
+use lib.Dec.{eqb, ltb}
+use lib.ListN.{length, getD, replicate}
+use Rattle.meaning.specs.Tests.{any, tabulate, none, first}
 use Rattle.meaning.specs.Literals.{opp, has}
-use Rattle.rounds.specs.Ranks.{supportFrom}
+use Rattle.meaning.specs.Rounds.{ranksOf}
+use Rattle.meaning.specs.Ground.{reaches}
+use Rattle.rounds.specs.Ranks.{supportFrom, clashIn}
 
 -- x is the opposite of a literal of the row other than p
 unfoldable pub opposed : ℕ → List ℕ → ℕ → Bool
 opposed p row x = any (λ q. not (eqb q p) && eqb (opp q) x) row
 
--- the literal p leads to x: x is the opposite of another literal of p's support
-unfoldable pub leads : List (List ℕ) → List ℕ → ℕ → ℕ → Bool
+-- the literal p leads to x: x is the opposite of another literal of the support that the ranks tell of p
+unfoldable pub leads : List (List ℕ) → (ranks : List ℕ) → ℕ → ℕ → Bool
 leads rows ranks p = opposed p (getD rows (supportFrom rows ranks p) [])
 
 -- the set with all that pass the test
 unfoldable pub join : List Bool → (ℕ → Bool) → List Bool
 join marks test = tabulate (length marks) (λ x. has marks x || test x)
 
--- the set with what its literals of rank k lead to, of those below n
-unfoldable pub expandedTo : List (List ℕ) → List ℕ → ℕ → List Bool → ℕ → List Bool
-expandedTo rows ranks k marks n = join marks (λ x. any (λ p. has marks p && eqb (getD ranks p 0) k && leads rows ranks p x) (from 0 n))
-
--- of all of them
-abbrev pub expanded : List (List ℕ) → List ℕ → ℕ → List Bool → List Bool
-expanded rows ranks k marks = expandedTo rows ranks k marks (length ranks)
+-- `last` is the smallest set that has all of `first` and whatever its literals lead to
+pub record Followed (rows : List (List ℕ)) (ranks : List ℕ) (first last : List Bool) : Type 0 where
+  pub has-first : (x : ℕ) → has first x ≡ true → has last x ≡ true
+  pub closed : (p x : ℕ) → has last p ≡ true → x < length last → leads rows ranks p x ≡ true → has last x ≡ true
+  pub smallest : (inside : ℕ → Bool) → ((x : ℕ) → has first x ≡ true → inside x ≡ true)
+      → ((p x : ℕ) → inside p ≡ true → leads rows ranks p x ≡ true → inside x ≡ true)
+      → (x : ℕ) → has last x ≡ true → inside x ≡ true
 
 -- the held premises of the set
 unfoldable pub heldOnly : List Bool → List Bool → List Bool
 heldOnly held marks = tabulate (length marks) (λ p. has marks p && has held p)
+
+-- the premises that one of two literals reaches
+unfoldable pub reachedFrom : (places : ℕ) → List (List ℕ) → List Bool → (p q : ℕ) → List Bool
+reachedFrom places rows held p q = tabulate places (λ h. reaches places rows held p h || reaches places rows held q h)
+
+-- the premises that the literal p reaches; where p is no place, those that the lowest symbol with both literals derived reaches, if there is one
+unfoldable pub reachedAsked : (places : ℕ) → List (List ℕ) → List Bool → ℕ → List Bool
+reachedAsked places rows held p =
+    let s = first (clashIn (ranksOf places rows held)) (places / 2) in
+    cond (ltb p places) (reachedFrom places rows held p p)
+    (cond (ltb s none) (reachedFrom places rows held (2 * s) (2 * s + 1)) (replicate places false))

@@ -2,9 +2,15 @@
 // each place; its length is the number of places. `board` tests the table and cuts every slice to its exact length first.
 
 pub mod labels;
-pub mod ranks;
-pub mod reach;
-pub mod supports;
+mod marks;
+pub mod propagation;
+mod ranks;
+mod reach;
+mod supports;
+mod visits;
 
 // No rank, no support.
 pub const NONE: u16 = 65535;
+
+// The most places that a board has.
+const PLACES: usize = 400;

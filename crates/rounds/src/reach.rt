@@ -1,25 +1,52 @@
 // What literals reach through their supports.
 
 ghost use mathlib.Core.Path.{_≡_};
-ghost use Prim.Native.Nat.{ℕ, _+_, _<_, _≤_};
-ghost use mathlib.Core.Bool.{true};
-ghost use lib.ListN.{length, getD};
-ghost use Rattle.meaning.specs.Tests.{none};
-ghost use Rattle.meaning.specs.Literals.{has};
+ghost use Prim.Native.Nat.{_+_, _<_, _≤_};
+ghost use lib.Dec.{eqb};
+ghost use lib.ListN.{length, replicate};
+ghost use mathlib.Core.Bool.{false};
 ghost use Rattle.meaning.specs.Rounds.{ranksOf};
-ghost use Rattle.literals.specs.Row.{numbersAt, decode, rowsIn};
-ghost use Rattle.rounds.specs.Ranks.{Fit, reachedFrom};
-ghost use Rattle.rounds.specs.Reach.{opposed, leads, join, expanded, heldOnly};
+ghost use Rattle.literals.specs.Row.{numbersAt, decode, rowsIn, Fit};
+ghost use Rattle.index.specs.Index.{Index};
+ghost use Rattle.rounds.specs.Queue.{marked, Room, Queued};
+ghost use Rattle.rounds.specs.Reach.{opposed, Followed, join, heldOnly, reachedFrom, reachedAsked};
 use crate::NONE;
+use crate::PLACES;
+use crate::labels::first_clash;
 use crate::supports::support;
 use literals::WIDTH;
 
-// Marks the opposites of a row's literals other than p.
-fn mark_others(table: &[i16], row: usize, p: usize, marks: &mut [bool])
+// Marks the literal at p and puts it at the end of the queue, if it is not marked. Gives the queue's end.
+fn mark_literal(p: usize, marks: &mut [bool], queue: &mut [u16], end: usize) -> usize
+    requires { ⌜ p < length (now marks) ⌝ }
+    requires { ⌜ Room marked (now marks) (now queue) end ⌝ }
+    ensures { λ r. ⌜ now (marks .exit) ≡ join (now (marks .entry)) (eqb p) ⌝ }
+    ensures { λ r. ⌜ Queued marked false (now (marks .entry)) (now (marks .exit)) (now (queue .entry)) end (now (queue .exit)) r ⌝ }
+{
+    if marks[p] {
+        return end;
+    }
+    marks[p] = true;
+    queue[end] = p as u16;
+    end + 1
+}
+
+// Marks the opposites of a row's literals other than p. Gives the queue's end.
+fn mark_others(
+    table: &[i16],
+    row: usize,
+    p: usize,
+    marks: &mut [bool],
+    queue: &mut [u16],
+    end: usize,
+) -> usize
     requires { ⌜ Fit (length (now marks)) (row + 1) (now table) ⌝ }
-    ensures { λ _. ⌜ now (marks .exit) ≡ join (now (marks .entry)) (opposed p (decode (numbersAt (now (table .entry)) row))) ⌝ }
+    requires { ⌜ Room marked (now marks) (now queue) end ⌝ }
+    ensures { λ r. ⌜ now (marks .exit) ≡ join (now (marks .entry)) (opposed p (decode (numbersAt (now (table .entry)) row))) ⌝ }
+    ensures { λ r. ⌜ Queued marked false (now (marks .entry)) (now (marks .exit)) (now (queue .entry)) end (now (queue .exit)) r ⌝ }
 {
     let base = WIDTH * row;
+    let mut next = end;
     let mut j = 0;
     while j < WIDTH {
         let l = table[base + j];
@@ -27,54 +54,42 @@ fn mark_others(table: &[i16], row: usize, p: usize, marks: &mut [bool])
             break;
         }
         if literals::place(l) != p {
-            marks[literals::place(literals::opposite(l))] = true;
+            next = mark_literal(literals::place(literals::opposite(l)), marks, queue, next);
         }
         j += 1;
     }
+    next
 }
 
-// Marks what the literal at p leads to: the opposites of the other literals of its support, if it has one.
-fn expand(table: &[i16], rows: usize, p: usize, ranks: &[u16], marks: &mut [bool])
-    requires { ⌜ Fit (length (now ranks)) rows (now table) ⌝ }
-    requires { ⌜ (p < length (now ranks)) × (length (now marks) ≡ length (now ranks)) ⌝ }
-    ensures { λ _. ⌜ now (marks .exit) ≡ join (now (marks .entry)) (leads (rowsIn rows (now (table .entry))) (now (ranks .entry)) p) ⌝ }
+// Marks what the marked literals lead to, and what that leads to: each literal of the queue is taken once, its support is searched, and
+// the opposites of the support's other literals are put at the end.
+fn follow(
+    table: &[i16],
+    rows: usize,
+    heads: &[u16],
+    links: &[u16],
+    ranks: &[u16],
+    marks: &mut [bool],
+    queue: &mut [u16],
+    end: usize,
+)
+    requires { ⌜ Fit (length (now marks)) rows (now table) ⌝ }
+    requires { ⌜ Index (length (now marks)) rows (now table) (now heads) (now links) ⌝ }
+    requires { ⌜ length (now ranks) ≡ length (now marks) ⌝ }
+    requires { ⌜ Room marked (now marks) (now queue) end ⌝ }
+    requires { ⌜ Queued marked false (replicate (length (now marks)) false) (now marks) (now queue) 0 (now queue) end ⌝ }
+    ensures { λ _. ⌜ Followed (rowsIn rows (now (table .entry))) (now (ranks .entry)) (now (marks .entry)) (now (marks .exit)) ⌝ }
 {
-    let row = support(table, rows, p, ranks);
-    if row != NONE {
-        mark_others(table, row as usize, p, marks);
-    }
-}
-
-// Marks what the marked literals of rank k lead to.
-fn expand_rank(table: &[i16], rows: usize, ranks: &[u16], k: u16, marks: &mut [bool])
-    requires { ⌜ Fit (length (now ranks)) rows (now table) ⌝ }
-    requires { ⌜ length (now marks) ≡ length (now ranks) ⌝ }
-    ensures { λ _. ⌜ now (marks .exit) ≡ expanded (rowsIn rows (now (table .entry))) (now (ranks .entry)) k (now (marks .entry)) ⌝ }
-{
-    let mut p = 0;
-    while p < ranks.len() {
-        if ranks[p] == k && marks[p] {
-            expand(table, rows, p, ranks, marks);
+    let mut next = end;
+    let mut at = 0;
+    while at < next {
+        let p = queue[at] as usize;
+        let row = support(table, rows, heads, links, p, ranks);
+        if row != NONE {
+            next = mark_others(table, row as usize, p, marks, queue, next);
         }
-        p += 1;
+        at += 1;
     }
-}
-
-// A bound on the ranks of the marked literals, from which `reach` counts down. That it is the least saves rounds; nothing rests on it.
-fn largest(ranks: &[u16], marks: &[bool]) -> u16
-    requires { ⌜ length (now marks) ≡ length (now ranks) ⌝ }
-    ensures { λ r. ⌜ ((p : ℕ) → p < length (now (ranks .entry)) → has (now (marks .entry)) p ≡ true → getD (now (ranks .entry)) p 0 < none → getD (now (ranks .entry)) p 0 ≤ r) ⌝ }
-{
-    let mut most = 0;
-    let mut p = 0;
-    while p < ranks.len() {
-        let rank = ranks[p];
-        if marks[p] && rank < NONE && most < rank {
-            most = rank;
-        }
-        p += 1;
-    }
-    most
 }
 
 // Keeps the marks of the held premises only.
@@ -84,25 +99,85 @@ fn keep_held(held: &[bool], marks: &mut [bool])
 {
     let mut p = 0;
     while p < marks.len() {
-        if !held[p] {
-            marks[p] = false;
-        }
+        marks[p] = marks[p] & held[p];
         p += 1;
     }
 }
 
-// From the marked literals, the premises that they reach: afterwards exactly those are marked. Literals are taken in falling order
-// of rank, so that each is expanded once, after all that lead to it.
-pub fn reach(table: &[i16], rows: usize, held: &[bool], ranks: &[u16], marks: &mut [bool])
-    requires { ⌜ Fit (length (now ranks)) rows (now table) ⌝ }
-    requires { ⌜ (length (now ranks) ≤ length (now held)) × (length (now marks) ≡ length (now ranks)) ⌝ }
-    requires { ⌜ now ranks ≡ ranksOf (length (now ranks)) (rowsIn rows (now table)) (now held) ⌝ }
-    ensures { λ _. ⌜ now (marks .exit) ≡ reachedFrom (length (now (ranks .entry))) (rowsIn rows (now (table .entry))) (now (held .entry)) (now (marks .entry)) ⌝ }
+// The premises that the literals at p and q reach: afterwards exactly those are marked. The marks lent have none set.
+fn reach(
+    table: &[i16],
+    rows: usize,
+    heads: &[u16],
+    links: &[u16],
+    held: &[bool],
+    ranks: &[u16],
+    p: usize,
+    q: usize,
+    marks: &mut [bool],
+)
+    requires { ⌜ Fit (length (now marks)) rows (now table) ⌝ }
+    requires { ⌜ Index (length (now marks)) rows (now table) (now heads) (now links) ⌝ }
+    requires { ⌜ (length (now marks) ≤ length (now held)) × (p < length (now marks)) × (q < length (now marks)) ⌝ }
+    requires { ⌜ now ranks ≡ ranksOf (length (now marks)) (rowsIn rows (now table)) (now held) ⌝ }
+    requires { ⌜ now marks ≡ replicate (length (now marks)) false ⌝ }
+    ensures { λ _. ⌜ now (marks .exit) ≡ reachedFrom (length (now (marks .entry))) (rowsIn rows (now (table .entry))) (now (held .entry)) p q ⌝ }
 {
-    let mut k = largest(ranks, marks);
-    while k > 0 {
-        expand_rank(table, rows, ranks, k, marks);
-        k -= 1;
-    }
+    let places = marks.len();
+    let mut queue = [0; PLACES];
+    let one = mark_literal(p, marks, &mut queue[..places], 0);
+    let two = mark_literal(q, marks, &mut queue[..places], one);
+    follow(
+        table,
+        rows,
+        heads,
+        links,
+        ranks,
+        marks,
+        &mut queue[..places],
+        two,
+    );
     keep_held(held, marks);
+}
+
+// What ground and blame ask: the premises that the literal at p reaches; where p is no place, those that the lowest symbol with both literals
+// derived reaches by either of them, or none where there is no such symbol. A literal without a rank reaches nothing.
+pub fn reach_asked(
+    table: &[i16],
+    rows: usize,
+    heads: &[u16],
+    links: &[u16],
+    held: &[bool],
+    ranks: &[u16],
+    p: usize,
+    marks: &mut [bool],
+)
+    requires { ⌜ Fit (length (now marks)) rows (now table) ⌝ }
+    requires { ⌜ Index (length (now marks)) rows (now table) (now heads) (now links) ⌝ }
+    requires { ⌜ length (now marks) ≤ length (now held) ⌝ }
+    requires { ⌜ now ranks ≡ ranksOf (length (now marks)) (rowsIn rows (now table)) (now held) ⌝ }
+    requires { ⌜ now marks ≡ replicate (length (now marks)) false ⌝ }
+    ensures { λ _. ⌜ now (marks .exit) ≡ reachedAsked (length (now (marks .entry))) (rowsIn rows (now (table .entry))) (now (held .entry)) p ⌝ }
+{
+    if p < marks.len() {
+        if ranks[p] == NONE {
+            return;
+        }
+        reach(table, rows, heads, links, held, ranks, p, p, marks);
+        return;
+    }
+    let s = first_clash(ranks);
+    if s != NONE as usize {
+        reach(
+            table,
+            rows,
+            heads,
+            links,
+            held,
+            ranks,
+            2 * s,
+            2 * s + 1,
+            marks,
+        );
+    }
 }

@@ -1,51 +1,68 @@
 // The support of a literal: the lowest-numbered row that gave it its rank.
 
 ghost use mathlib.Core.Path.{_≡_};
-ghost use Prim.Native.Nat.{_<_};
+ghost use Prim.Native.Nat.{_+_, _<_, _≤_};
 ghost use lib.ListN.{length};
+ghost use Rattle.meaning.specs.Tests.{tabulate, none};
 ghost use Rattle.meaning.specs.Rounds.{firstGiver};
-ghost use Rattle.literals.specs.Row.{rowsIn};
-ghost use Rattle.rounds.specs.Ranks.{Fit, below, supportFrom, supportsFrom};
+ghost use Rattle.literals.specs.Row.{rowsIn, Fit};
+ghost use Rattle.index.specs.Index.{Index};
+ghost use Rattle.rounds.specs.Ranks.{below, supportFrom};
+ghost use Rattle.rounds.specs.Queue.{AllQueued};
 use crate::NONE;
 use literals::WIDTH;
 
-// The lowest-numbered row that gives the literal at p in round k, else NONE. A row is left at the first literal that disqualifies
-// it.
-pub fn support_row(table: &[i16], rows: usize, p: usize, ranks: &[u16], k: u16) -> u16
+// The lowest-numbered row that gives the literal at p in round k, else NONE: of the rows that contain it, lowest first, each is left at the
+// first literal that disqualifies it.
+fn support_row(
+    table: &[i16],
+    rows: usize,
+    heads: &[u16],
+    links: &[u16],
+    p: usize,
+    ranks: &[u16],
+    k: u16,
+) -> u16
     requires { ⌜ Fit (length (now ranks)) rows (now table) ⌝ }
+    requires { ⌜ Index (length (now ranks)) rows (now table) (now heads) (now links) ⌝ }
+    requires { ⌜ p < length (now ranks) ⌝ }
     ensures { λ r. ⌜ r ≡ firstGiver (below k (now (ranks .entry))) (rowsIn rows (now (table .entry))) p ⌝ }
 {
-    let mut next = 0;
+    let cells = WIDTH * rows;
+    let mut cell = heads[p] as usize;
     'rows: loop {
-        if next == rows {
+        if cell >= cells {
             break NONE;
         }
-        let row = next;
-        next += 1;
+        let row = cell / WIDTH;
+        cell = links[cell] as usize;
         let base = WIDTH * row;
-        let mut has = false;
         let mut j = 0;
         while j < WIDTH {
             let l = table[base + j];
             if l == 0 {
                 break;
             }
-            if literals::place(l) == p {
-                has = true;
-            } else if ranks[literals::place(literals::opposite(l))] >= k {
+            if literals::place(l) != p && ranks[literals::place(literals::opposite(l))] >= k {
                 continue 'rows;
             }
             j += 1;
         }
-        if has {
-            break row as u16;
-        }
+        break row as u16;
     }
 }
 
 // The support that the ranks tell: for a place with a rank above 0, the row that gave it.
-pub fn support(table: &[i16], rows: usize, p: usize, ranks: &[u16]) -> u16
+pub fn support(
+    table: &[i16],
+    rows: usize,
+    heads: &[u16],
+    links: &[u16],
+    p: usize,
+    ranks: &[u16],
+) -> u16
     requires { ⌜ Fit (length (now ranks)) rows (now table) ⌝ }
+    requires { ⌜ Index (length (now ranks)) rows (now table) (now heads) (now links) ⌝ }
     requires { ⌜ p < length (now ranks) ⌝ }
     ensures { λ r. ⌜ r ≡ supportFrom (rowsIn rows (now (table .entry))) (now (ranks .entry)) p ⌝ }
 {
@@ -53,18 +70,69 @@ pub fn support(table: &[i16], rows: usize, p: usize, ranks: &[u16]) -> u16
     if rank == 0 || rank == NONE {
         return NONE;
     }
-    support_row(table, rows, p, ranks, rank)
+    support_row(table, rows, heads, links, p, ranks, rank)
 }
 
-// The supports that the ranks tell.
-pub fn write_supports(table: &[i16], rows: usize, ranks: &[u16], supports: &mut [u16])
-    requires { ⌜ Fit (length (now ranks)) rows (now table) ⌝ }
-    requires { ⌜ length (now supports) ≡ length (now ranks) ⌝ }
-    ensures { λ _. ⌜ now (supports .exit) ≡ supportsFrom (rowsIn rows (now (table .entry))) (now (ranks .entry)) ⌝ }
+// No support anywhere.
+pub fn clear(supports: &mut [u16])
+    ensures { λ _. ⌜ now (supports .exit) ≡ tabulate (length (now (supports .entry))) (λ i. none) ⌝ }
 {
-    let mut p = 0;
-    while p < ranks.len() {
-        supports[p] = support(table, rows, p, ranks);
-        p += 1;
+    let mut i = 0;
+    while i < supports.len() {
+        supports[i] = NONE;
+        i += 1;
     }
+}
+
+// Writes the supports of the places that stand in the queue, over none: the others have no rank, and so no support.
+fn search_supports(
+    table: &[i16],
+    rows: usize,
+    heads: &[u16],
+    links: &[u16],
+    ranks: &[u16],
+    queue: &[u16],
+    end: usize,
+    from: usize,
+    supports: &mut [u16],
+)
+    requires { ⌜ Fit (length (now ranks)) rows (now table) ⌝ }
+    requires { ⌜ Index (length (now ranks)) rows (now table) (now heads) (now links) ⌝ }
+    requires { ⌜ from + length (now supports) ≤ length (now ranks) ⌝ }
+    requires { ⌜ AllQueued (now ranks) (now queue) end ⌝ }
+    requires { ⌜ end ≤ length (now queue) ⌝ }
+    requires { ⌜ now supports ≡ tabulate (length (now supports)) (λ i. none) ⌝ }
+    ensures { λ _. ⌜ now (supports .exit) ≡ tabulate (length (now (supports .entry))) (λ i. supportFrom (rowsIn rows (now (table .entry))) (now (ranks .entry)) (from + i)) ⌝ }
+{
+    let mut at = 0;
+    while at < end {
+        let p = queue[at] as usize;
+        if from <= p && p - from < supports.len() {
+            supports[p - from] = support(table, rows, heads, links, p, ranks);
+        }
+        at += 1;
+    }
+}
+
+// The supports that the ranks tell, of as many places from `from` on as are lent. The places that have a rank stand in the queue.
+pub fn write_supports(
+    table: &[i16],
+    rows: usize,
+    heads: &[u16],
+    links: &[u16],
+    ranks: &[u16],
+    queue: &[u16],
+    end: usize,
+    from: usize,
+    supports: &mut [u16],
+)
+    requires { ⌜ Fit (length (now ranks)) rows (now table) ⌝ }
+    requires { ⌜ Index (length (now ranks)) rows (now table) (now heads) (now links) ⌝ }
+    requires { ⌜ from + length (now supports) ≤ length (now ranks) ⌝ }
+    requires { ⌜ AllQueued (now ranks) (now queue) end ⌝ }
+    requires { ⌜ end ≤ length (now queue) ⌝ }
+    ensures { λ _. ⌜ now (supports .exit) ≡ tabulate (length (now (supports .entry))) (λ i. supportFrom (rowsIn rows (now (table .entry))) (now (ranks .entry)) (from + i)) ⌝ }
+{
+    clear(supports);
+    search_supports(table, rows, heads, links, ranks, queue, end, from, supports);
 }

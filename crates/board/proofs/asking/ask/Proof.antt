@@ -14,44 +14,51 @@ use Rattle.board.specs.Ranking.{rowsOn, tooHigh}
 use Rattle.board.specs.Asking.{askFaults, asked, standing}
 use Rattle.board.proofs.Arguments.{range-facts}
 use Rattle.board.proofs.Placing.{PlacedAt, placed-at, placed-refused}
-use Rattle.board.proofs.Lending.{Front, ranks-front, ranks-high}
+use Rattle.board.proofs.Lending.{RanksIn, ranks-front, ranks-high}
 use Rattle.board.proofs.asking.ask.Statement.{statement}
 use Rattle.board.proofs.asking.ask.Tie as tie
 
--- both tests have passed
-at : (c : tie.After-enum-told) → let s = c .before .before .before in PlacedAt (s .args .table .now) (s .args .board) (s .args .l) (c .enum-told .given .0 .0)
-at c = let s = c .before .before .before in placed-at _ _ (s .fits .l) (c .before .before .place-on .ensures) (c .enum-told .given .1)
+-- where the tests have passed, and where the call began
+abbrev tested : tie.After-ranks-on → tie.After-enum-told
+tested c = c .before .before .before
+
+abbrev start : tie.After-enum-told → tie.Start
+start c = c .before .before .before
+
+at : (c : tie.After-enum-told) → let s = start c in PlacedAt (s .args .table .now) (s .args .board) (s .args .l) (c .enum-told .given .0 .0)
+at c = let s = start c in placed-at _ _ (s .fits .l) (c .before .before .place-on .ensures) (c .enum-told .given .1)
 
 -- the ranks, and whether one is too high
-front : (c : tie.After-ranks-on) → let s = c .before .before .before .before .before in Front (s .args .table .now) (s .args .board) (c .ranks-on .result .list)
-front c = ranks-front _ _ (at (c .before .before) .good) (c .ranks-on .ensures)
+front : (c : tie.After-ranks-on) → let s = start (tested c) in RanksIn (s .args .table .now) (s .args .board) (c .ranks-on .result .list)
+front c = ranks-front _ _ (c .ranks-on .ensures .0)
 
-high : (c : tie.After-ranks-on) → let s = c .before .before .before .before .before in tooHigh (s .args .table .now) (s .args .board) ≡ c .ranks-on .result .high
-high c = ranks-high _ _ (c .ranks-on .ensures)
+high : (c : tie.After-ranks-on) → let s = start (tested c) in tooHigh (s .args .table .now) (s .args .board) ≡ c .ranks-on .result .high
+high c = ranks-high _ _ (c .ranks-on .ensures .0)
 
 mul-places : tie.Need-mul-places
 mul-places c = omega (arith, at (c .before) .good .sound .symbols)
 
 ranks-on-requires : tie.Need-ranks-on-requires
-ranks-on-requires c κs = at (c .before) .is-good
+ranks-on-requires c κs = (at (c .before .before) .is-good, omega arith)
 
 returns : tie.Need-returns
 unfolding asked askFaults
 returns c =
-    let p = at (c .before .before .before) in
-    rw (p .is-good, p .in-range, high (c .before) ∙ c .if1 .taken)
+    let r = c .before .before in
+    let p = at (tested r) in
+    rw (p .is-good, p .in-range, high r ∙ c .if1 .taken)
 
 array-share-prefix-ranks : tie.Need-array-share-prefix-ranks
-array-share-prefix-ranks c = front (c .before .before) .room
+array-share-prefix-ranks c = front (c .before .before .before) .room
 
 slice-aggregate-standing-by : tie.Need-slice-aggregate-standing-by
-slice-aggregate-standing-by c = sym (front (c .before .before .before) .long)
+slice-aggregate-standing-by c = sym (front (c .before .before .before .before) .long)
 
 standing-by-requires : tie.Need-standing-by-requires
 standing-by-requires c κs =
-    let r = c .before .before .before in
-    let p = at (r .before .before) in
-    let s = r .before .before .before .before .before in
+    let r = c .before .before .before .before in
+    let p = at (tested r) in
+    let s = start (tested r) in
     let long = front r .long in
     let range = range-facts (s .args .board .symbols) (s .args .l) (p .in-range) in
     let same = back-abs (s .fits .l) in
@@ -69,16 +76,17 @@ returns-3 : tie.Need-returns-3
 unfolding asked askFaults
 returns-3 c =
     let e = c .before .before .before in
-    let r = e .before in
-    let w = r .before .before in
+    let r = e .before .before in
+    let w = tested r in
     let p = at w in
-    let s = w .before .before .before in
+    let s = start w in
     let b = s .args .board in
     let stands = rw (toZ-ofZ (s .fits .l)) at (c .standing-by .ensures) in
     rw (p .is-good, p .in-range, high r ∙ e .if1 .left)
     (stands
     ∙ ap (λ known. standing known (placeOf (s .args .l)))
-    (ap (below none) (front r .is) ∙ below-derived (2 * b .symbols) (rowsOn (s .args .table .now) b) (b .held) (omega (arith, p .good .sound .symbols))))
+    (ap (below none) (front r .is)
+    ∙ below-derived (2 * b .symbols) (rowsOn (s .args .table .now) b) (b .held) (omega (arith, p .good .sound .symbols))))
 
 pub ask-spec : {M : Type 1} → statement M
 ask-spec =
@@ -88,6 +96,8 @@ ask-spec =
     (λ c. search needs)
     (λ c. search needs)
     mul-places
+    (λ c. search needs)
+    (λ c. search needs)
     ranks-on-requires
     returns
     array-share-prefix-ranks

@@ -2,57 +2,67 @@
 -- literals reach.
 use borrow.Author.Needs.{needs}
 use mathlib.Core.Path.{_≡_, sym, _∙_}
-use mathlib.Core.Bool.{true}
-use Prim.Native.Nat.{_*_, _<_}
+use mathlib.Core.Bool.{true, false}
+use mathlib.Core.List.{_++_}
+use Prim.Native.Nat.{_*_, _≤_, _<_}
 use native.Mathlib.Omega.{arith}
 use borrow.Author.Tests.{not-true, not-false, le-leb, lt-leb}
+use lib.ListN.{length, drop, replicate}
 use Rattle.meaning.specs.Tests.{none, first}
-use Rattle.meaning.specs.Literals.{conflict}
 use Rattle.meaning.specs.Rounds.{ranksOf}
 use Rattle.literals.specs.declared.refusal.Refusal.the-variants.{BadBoard, TableTooShort, RankTooHigh, NothingToShow}
 use Rattle.rounds.specs.Ranks.{clashIn}
 use Rattle.rounds.proofs.Clashes.{clash-final, conflict-none, conflict-some}
 use Rattle.board.specs.Faults.{goodBoard}
-use Rattle.board.specs.Ranking.{rowsOn, tooHigh}
-use Rattle.board.specs.Asking.{derivedOn}
+use Rattle.board.specs.Ranking.{rowsOn}
 use Rattle.board.specs.Grounds.{blameFaults, blameOutcome}
 use Rattle.board.proofs.Goodness.{Good, good-is}
-use Rattle.board.proofs.Lending.{Front, ranks-front, ranks-high}
+use Rattle.board.proofs.Traced.{Traced, ranks-room, ranks-long, marks-room, marks-long, can-trace, come-back}
 use Rattle.board.proofs.Grounded.{blame-refused, blame-done}
 use Rattle.board.proofs.grounds.blame.Statement.{statement}
 use Rattle.board.proofs.grounds.blame.Tie as tie
 
+-- where the test of the board has passed, and where the call began
+abbrev tested : tie.After-trace → tie.Else1
+tested c = c .before .before .before .before .before .before .before
+
+abbrev start : tie.Else1 → tie.Start
+start c = c .before .before .before
+
 -- the board is good
-is-good : (c : tie.Else1) → let s = c .before .before .before in goodBoard (s .args .table .now) (s .args .board) ≡ true
+is-good : (c : tie.Else1) → let s = start c in goodBoard (s .args .table .now) (s .args .board) ≡ true
 is-good c = sym (c .before .good2 .ensures) ∙ not-false _ (c .if1 .left)
 
-good : (c : tie.Else1) → let s = c .before .before .before in Good (s .args .table .now) (s .args .board)
+good : (c : tie.Else1) → let s = start c in Good (s .args .table .now) (s .args .board)
 good c = good-is _ _ (is-good c)
 
-small : (c : tie.Else1) → 2 * c .before .before .before .args .board .symbols < none
+small : (c : tie.Else1) → 2 * start c .args .board .symbols < none
 small c = omega (arith, good c .sound .symbols)
 
--- the ranks, and whether one is too high
-front : (c : tie.After-ranks-on) → let s = c .before .before .before .before .before .before in Front (s .args .table .now) (s .args .board) (c .ranks-on .result .list)
-front c = ranks-front _ _ (good (c .before .before .before)) (c .ranks-on .ensures)
+-- as many bytes are lent as there are places
+enough : (c : tie.After-trace) → let s = start (tested c) in 2 * s .args .board .symbols ≤ length (s .args .marks .now)
+enough c = c .before .before .before .before .before .if2 .left
 
-high : (c : tie.After-ranks-on) → let s = c .before .before .before .before .before .before in tooHigh (s .args .table .now) (s .args .board) ≡ c .ranks-on .result .high
-high c = ranks-high _ _ (c .ranks-on .ensures)
+-- the ranks and the marks as they come back
+back : (c : tie.After-trace) → let s = start (tested c) in let n = 2 * s .args .board .symbols in
+    Traced (s .args .table .now) (s .args .board) none (c .trace .result)
+    (c .trace .last .1 .1 .1 .0 ++ drop n (replicate 400 none))
+    (c .trace .last .1 .1 .1 .1 .1 .0 ++ drop n (replicate 400 false))
+back c =
+    let s = start (tested c) in
+    let told = c .trace .ensures in
+    come-back (s .args .table .now) (s .args .board) (good (tested c)) none (told .0) (told .1 .0) (told .1 .1)
+    (c .trace .kept .1 .1 .1 .1 .1 .0)
 
 -- the symbol that clashes
-clash : (c : tie.After-first-clash) → let s = c .before .before .before .before .before .before .before .before .before .before in let b = s .args .board in
+abbrev tracing : tie.After-first-clash → tie.After-trace
+tracing c = c .before .before .before .before .before
+
+clash : (c : tie.After-first-clash) → let s = start (tested (tracing c)) in let b = s .args .board in
     c .first-clash .result ≡ first (clashIn (ranksOf (2 * b .symbols) (rowsOn (s .args .table .now) b) (b .held))) (b .symbols)
 clash c =
-    let r = c .before .before .before .before in
-    clash-final _ _ _ (small (r .before .before .before)) (front r .is) (c .first-clash .ensures)
-
--- there is one
-clashes : (c : tie.Else4) → let s = c .before .before .before .before .before .before .before .before .before .before .before in let b = s .args .board in
-    (c .before .first-clash .result < b .symbols) × (conflict (derivedOn (s .args .table .now) b) ≡ true)
-clashes c =
-    let f = c .before in
-    let g = f .before .before .before .before .before .before .before in
-    rw (clash f) (conflict-some _ _ _ (small g) (λ e. c .if4 .left (clash f ∙ e)))
+    let r = tracing c in
+    clash-final _ _ _ (small (tested r)) (back r .ranks .is) (c .first-clash .ensures)
 
 returns : tie.Need-returns
 unfolding blameOutcome blameFaults
@@ -65,57 +75,63 @@ returns-2 : tie.Need-returns-2
 unfolding blameOutcome blameFaults
 returns-2 c = blame-refused _ _ _ TableTooShort (rw (is-good (c .before .before), lt-leb _ _ (c .if2 .taken)))
 
-ranks-on-requires : tie.Need-ranks-on-requires
-ranks-on-requires c κs = is-good (c .before .before)
+slice-aggregate-trace : tie.Need-slice-aggregate-trace
+slice-aggregate-trace c = search needs
+
+array-borrow-prefix-ranks : tie.Need-array-borrow-prefix-ranks
+array-borrow-prefix-ranks c = ranks-room _ _ (good (c .before .before .before .before))
+
+slice-aggregate-trace-2 : tie.Need-slice-aggregate-trace-2
+slice-aggregate-trace-2 c = sym (ranks-long _ _ (good (c .before .before .before .before .before)))
+
+array-borrow-prefix-reached : tie.Need-array-borrow-prefix-reached
+array-borrow-prefix-reached c = marks-room _ _ (good (c .before .before .before .before .before))
+
+slice-aggregate-trace-3 : tie.Need-slice-aggregate-trace-3
+slice-aggregate-trace-3 c = sym (marks-long _ _ (good (c .before .before .before .before .before .before)))
+
+trace-requires : tie.Need-trace-requires
+trace-requires c κs = can-trace _ _ (good (c .before .before .before .before .before .before)) (slice-aggregate-trace (c .before .before))
 
 returns-3 : tie.Need-returns-3
 unfolding blameOutcome blameFaults
 returns-3 c =
-    let r = c .before in
-    blame-refused _ _ _ RankTooHigh (rw (is-good (r .before .before .before), le-leb _ _ (r .before .if2 .left), high r ∙ c .if3 .taken))
+    let r = c .before .before .before in
+    blame-refused _ _ _ RankTooHigh
+    (rw (is-good (tested r), le-leb _ _ (enough r), back r .is-high ∙ c .if3 .taken))
 
 array-share-prefix-ranks : tie.Need-array-share-prefix-ranks
-array-share-prefix-ranks c = front (c .before .before) .room
+array-share-prefix-ranks c = back (c .before .before .before) .ranks .room
 
 slice-aggregate-first-clash : tie.Need-slice-aggregate-first-clash
-slice-aggregate-first-clash c = sym (front (c .before .before .before) .long)
+slice-aggregate-first-clash c = sym (back (c .before .before .before .before) .ranks .long)
 
 first-clash-requires : tie.Need-first-clash-requires
 first-clash-requires c κs =
-    let r = c .before .before .before in
-    omega (arith, front r .long, good (r .before .before .before) .sound .symbols)
+    let r = c .before .before .before .before in
+    omega (arith, back r .ranks .long, good (tested r) .sound .symbols)
 
 returns-4 : tie.Need-returns-4
 unfolding blameOutcome blameFaults
 returns-4 c =
     let f = c .before in
-    let e = f .before .before .before in
-    let r = e .before in
-    let g = r .before .before .before in
+    let e = f .before .before in
+    let r = tracing f in
+    let g = tested r in
     let clear = conflict-none _ _ _ (small g) (sym (clash f) ∙ c .if4 .taken) in
-    blame-refused _ _ _ NothingToShow (rw (is-good g, le-leb _ _ (r .before .if2 .left), high r ∙ e .if3 .left, clear))
+    blame-refused _ _ _ NothingToShow
+    (rw (is-good g, le-leb _ _ (enough r), back r .is-high ∙ e .if3 .left, clear))
 
-array-share-prefix-ranks-2 : tie.Need-array-share-prefix-ranks-2
-array-share-prefix-ranks-2 c = front (c .before .before .before .before .before) .room
+array-share-prefix-reached : tie.Need-array-share-prefix-reached
+array-share-prefix-reached c = back (tracing (c .before)) .marks .room
 
-slice-aggregate-mark-from : tie.Need-slice-aggregate-mark-from
-slice-aggregate-mark-from c = sym (front (c .before .before .before .before .before .before) .long)
+slice-aggregate-write-marks : tie.Need-slice-aggregate-write-marks
+slice-aggregate-write-marks c = sym (back (tracing (c .before .before)) .marks .long)
 
-mul-mark-from : tie.Need-mul-mark-from
-mul-mark-from c = let z = c .before in omega (arith, clashes z .0, good (z .before .before .before .before .before .before .before .before) .sound .symbols)
-
-mul-mark-from-2 : tie.Need-mul-mark-from-2
-mul-mark-from-2 c = mul-mark-from c
-
-add-mark-from : tie.Need-add-mark-from
-add-mark-from c = let z = c .before in omega (arith, clashes z .0, good (z .before .before .before .before .before .before .before .before) .sound .symbols)
-
-mark-from-requires : tie.Need-mark-from-requires
-mark-from-requires c κs =
-    let z = c .before .before in
-    let r = z .before .before .before .before .before in
-    let low = clashes z .0 in
-    ((is-good (r .before .before .before), front r .is), (omega (arith, low), omega (arith, low), r .before .if2 .left))
+write-marks-requires : tie.Need-write-marks-requires
+write-marks-requires c κs =
+    let r = tracing (c .before .before .before) in
+    omega (arith, back r .marks .long, enough r)
 
 returns-5 : tie.Need-returns-5
 unfolding blameOutcome blameFaults
@@ -123,13 +139,18 @@ returns-5 c =
     let m = c .before .before in
     let z = m .before .before .before in
     let f = z .before in
-    let e = f .before .before .before in
-    let r = e .before in
-    let g = r .before .before .before in
-    let s = g .before .before .before in
-    blame-done (s .args .table .now) (s .args .board) (s .args .marks .now) (f .first-clash .result) (small g) (clash f)
-    (rw (is-good g, le-leb _ _ (r .before .if2 .left), high r ∙ e .if3 .left, clashes z .1))
-    (m .mark-from .ensures)
+    let e = f .before .before in
+    let r = tracing f in
+    let g = tested r in
+    let s = start g in
+    let b = s .args .board in
+    let rows = rowsOn (s .args .table .now) b in
+    let some : first (clashIn (ranksOf (2 * b .symbols) rows (b .held))) (b .symbols) ≡ none → ⊥ = λ e. z .if4 .left (clash f ∙ e) in
+    let shows = conflict-some (b .symbols) rows (b .held) (small g) some .1 in
+    blame-done (s .args .table .now) b (s .args .marks .now) none (small g) (omega (arith, small g)) some
+    (rw (is-good g, le-leb _ _ (enough r), back r .is-high ∙ e .if3 .left, shows))
+    (back r .marks .is)
+    (m .write-marks .ensures)
 
 pub blame-spec : {M : Type 1} → statement M
 blame-spec =
@@ -139,18 +160,21 @@ blame-spec =
     returns
     mul-places
     returns-2
-    ranks-on-requires
+    slice-aggregate-trace
+    array-borrow-prefix-ranks
+    slice-aggregate-trace-2
+    (λ c. search needs)
+    array-borrow-prefix-reached
+    slice-aggregate-trace-3
+    trace-requires
     returns-3
     array-share-prefix-ranks
     slice-aggregate-first-clash
     first-clash-requires
     (λ c. search needs)
     returns-4
-    array-share-prefix-ranks-2
-    slice-aggregate-mark-from
-    mul-mark-from
-    mul-mark-from-2
-    add-mark-from
-    mark-from-requires
+    array-share-prefix-reached
+    slice-aggregate-write-marks
+    write-marks-requires
     (λ c. search needs)
     returns-5)

@@ -1,40 +1,60 @@
 -- `grounds::ground` meets its contract: its tests are the faults of `groundFaults`, in their order, and it marks what the literal reaches.
 use borrow.Author.Needs.{needs}
 use mathlib.Core.Path.{_≡_, sym, _∙_}
-use Prim.Native.Nat.{_*_, _<_}
+use mathlib.Core.Bool.{false}
+use mathlib.Core.List.{_++_}
+use Prim.Native.Nat.{_*_, _≤_, _<_}
 use native.Mathlib.Omega.{arith}
 use borrow.Author.Tests.{le-leb, lt-leb}
-use lib.ListN.{drop, getD}
+use lib.ListN.{length, drop, getD, replicate}
 use Rattle.meaning.specs.Tests.{none}
 use Rattle.meaning.specs.Rounds.{rankOf}
 use Rattle.literals.specs.declared.refusal.Refusal.the-variants.{TableTooShort, RankTooHigh, NothingToShow}
-use Rattle.board.specs.Ranking.{rowsOn, tooHigh}
+use Rattle.board.specs.Ranking.{rowsOn}
 use Rattle.board.specs.Grounds.{groundFaults, groundOutcome}
 use Rattle.board.proofs.Placing.{PlacedAt, placed-at, placed-refused}
 use Rattle.board.proofs.Ranked.{not-derived, is-derived}
-use Rattle.board.proofs.Lending.{Front, ranks-front, ranks-high}
+use Rattle.board.proofs.Lending.{rank-at}
+use Rattle.board.proofs.Traced.{Traced, ranks-room, ranks-long, marks-room, marks-long, can-trace, come-back}
 use Rattle.board.proofs.Grounded.{ground-refused, ground-done}
 use Rattle.board.proofs.grounds.ground.Statement.{statement}
 use Rattle.board.proofs.grounds.ground.Tie as tie
 
--- the place that the call looks at
-at : (c : tie.After-p) → let s = c .before .before .before .before in PlacedAt (s .args .table .now) (s .args .board) (s .args .l) (c .p .given .0 .0)
-at c = let s = c .before .before .before .before in placed-at _ _ (s .fits .l) (c .before .before .place-on .ensures) (c .p .given .1)
+-- where the tests have passed, and where the call began
+abbrev tested : tie.After-trace → tie.After-p
+tested c = c .before .before .before .before .before .before .before .before
 
-small : (c : tie.After-p) → 2 * c .before .before .before .before .args .board .symbols < none
+abbrev start : tie.After-p → tie.Start
+start c = c .before .before .before .before
+
+-- the place that the call looks at
+at : (c : tie.After-p) → let s = start c in PlacedAt (s .args .table .now) (s .args .board) (s .args .l) (c .p .given .0 .0)
+at c = let s = start c in placed-at _ _ (s .fits .l) (c .before .before .place-on .ensures) (c .p .given .1)
+
+small : (c : tie.After-p) → 2 * start c .args .board .symbols < none
 small c = omega (arith, at c .good .sound .symbols)
 
--- the ranks, and whether one is too high
-front : (c : tie.After-ranks-on) → let s = c .before .before .before .before .before .before .before .before in Front (s .args .table .now) (s .args .board) (c .ranks-on .result .list)
-front c = ranks-front _ _ (at (c .before .before .before .before) .good) (c .ranks-on .ensures)
+-- as many bytes are lent as there are places
+enough : (c : tie.After-trace) → let s = start (tested c) in 2 * s .args .board .symbols ≤ length (s .args .marks .now)
+enough c = c .before .before .before .before .before .if1 .left
 
-high : (c : tie.After-ranks-on) → let s = c .before .before .before .before .before .before .before .before in tooHigh (s .args .table .now) (s .args .board) ≡ c .ranks-on .result .high
-high c = ranks-high _ _ (c .ranks-on .ensures)
+-- the ranks and the marks as they come back
+back : (c : tie.After-trace) → let w = tested c in let s = start w in let n = 2 * s .args .board .symbols in
+    Traced (s .args .table .now) (s .args .board) (w .p .given .0 .0) (c .trace .result)
+    (c .trace .last .1 .1 .1 .0 ++ drop n (replicate 400 none))
+    (c .trace .last .1 .1 .1 .1 .1 .0 ++ drop n (replicate 400 false))
+back c =
+    let w = tested c in
+    let s = start w in
+    let told = c .trace .ensures in
+    come-back (s .args .table .now) (s .args .board) (at w .good) (w .p .given .0 .0) (told .0) (told .1 .0) (told .1 .1)
+    (c .trace .kept .1 .1 .1 .1 .1 .0)
 
 -- the literal's rank
-rank : (c : tie.After-ranks-on) → let w = c .before .before .before .before in let s = w .before .before .before .before in let b = s .args .board in
-    getD (c .ranks-on .result .list) (w .p .given .0 .0) 0 ≡ rankOf (2 * b .symbols) (rowsOn (s .args .table .now) b) (b .held) (w .p .given .0 .0)
-rank c = let w = c .before .before .before .before in front c .at (w .p .given .0 .0) (at w .low)
+rank : (c : tie.After-trace) → let w = tested c in let s = start w in let b = s .args .board in
+    getD (c .trace .last .1 .1 .1 .0 ++ drop (2 * b .symbols) (replicate 400 none)) (w .p .given .0 .0) 0
+    ≡ rankOf (2 * b .symbols) (rowsOn (s .args .table .now) b) (b .held) (w .p .given .0 .0)
+rank c = let w = tested c in rank-at _ _ (back c .ranks) (w .p .given .0 .0) (at w .low)
 
 mul-places : tie.Need-mul-places
 mul-places c = omega (arith, at (c .before .before) .good .sound .symbols)
@@ -45,47 +65,59 @@ returns c =
     let p = at (c .before .before .before) in
     ground-refused _ _ _ _ TableTooShort (rw (p .is-good, p .in-range, lt-leb _ _ (c .if1 .taken)))
 
-ranks-on-requires : tie.Need-ranks-on-requires
-ranks-on-requires c κs = at (c .before .before .before) .is-good
+slice-aggregate-trace : tie.Need-slice-aggregate-trace
+slice-aggregate-trace c = search needs
+
+array-borrow-prefix-ranks : tie.Need-array-borrow-prefix-ranks
+array-borrow-prefix-ranks c = ranks-room _ _ (at (c .before .before .before .before .before) .good)
+
+slice-aggregate-trace-2 : tie.Need-slice-aggregate-trace-2
+slice-aggregate-trace-2 c = sym (ranks-long _ _ (at (c .before .before .before .before .before .before) .good))
+
+array-borrow-prefix-reached : tie.Need-array-borrow-prefix-reached
+array-borrow-prefix-reached c = marks-room _ _ (at (c .before .before .before .before .before .before) .good)
+
+slice-aggregate-trace-3 : tie.Need-slice-aggregate-trace-3
+slice-aggregate-trace-3 c = sym (marks-long _ _ (at (c .before .before .before .before .before .before .before) .good))
+
+trace-requires : tie.Need-trace-requires
+trace-requires c κs = can-trace _ _ (at (c .before .before .before .before .before .before .before) .good) (slice-aggregate-trace (c .before .before))
 
 returns-2 : tie.Need-returns-2
 unfolding groundOutcome groundFaults
 returns-2 c =
-    let r = c .before in
-    let p = at (r .before .before .before .before) in
-    ground-refused _ _ _ _ RankTooHigh (rw (p .is-good, p .in-range, le-leb _ _ (r .before .if1 .left), high r ∙ c .if2 .taken))
+    let r = c .before .before .before in
+    let p = at (tested r) in
+    ground-refused _ _ _ _ RankTooHigh
+    (rw (p .is-good, p .in-range, le-leb _ _ (enough r), back r .is-high ∙ c .if2 .taken))
 
 mul-if3 : tie.Need-mul-if3
-mul-if3 c =
-    let p = at (c .before .before .before .before .before .before) in
-    omega (arith, p .low, p .good .sound .symbols)
+mul-if3 c = let p = at (tested (c .before .before .before)) in omega (arith, p .low, p .good .sound .symbols)
 
 array-read-if3 : tie.Need-array-read-if3
-array-read-if3 c =
-    let p = at (c .before .before .before .before .before .before) in
-    omega (arith, p .low, p .good .sound .symbols)
+array-read-if3 c = let p = at (tested (c .before .before .before)) in omega (arith, p .low, p .good .sound .symbols)
 
 returns-3 : tie.Need-returns-3
 unfolding groundOutcome groundFaults
 returns-3 c =
-    let e = c .before .before in
-    let r = e .before in
-    let w = r .before .before .before .before in
+    let e = c .before in
+    let r = e .before .before .before in
+    let w = tested r in
     let p = at w in
     let hides = not-derived _ _ _ (small w) (w .p .given .0 .0) (sym (rank r) ∙ c .if3 .taken) in
-    ground-refused _ _ _ _ NothingToShow (rw (p .is-good, p .in-range, le-leb _ _ (r .before .if1 .left), high r ∙ e .if2 .left, ← p .place, hides))
+    ground-refused _ _ _ _ NothingToShow
+    (rw (p .is-good, p .in-range, le-leb _ _ (enough r), back r .is-high ∙ e .if2 .left, ← p .place, hides))
 
-array-share-prefix-ranks : tie.Need-array-share-prefix-ranks
-array-share-prefix-ranks c = front (c .before .before .before) .room
+array-share-prefix-reached : tie.Need-array-share-prefix-reached
+array-share-prefix-reached c = back (c .before .before .before .before) .marks .room
 
-slice-aggregate-mark-from : tie.Need-slice-aggregate-mark-from
-slice-aggregate-mark-from c = sym (front (c .before .before .before .before) .long)
+slice-aggregate-write-marks : tie.Need-slice-aggregate-write-marks
+slice-aggregate-write-marks c = sym (back (c .before .before .before .before .before) .marks .long)
 
-mark-from-requires : tie.Need-mark-from-requires
-mark-from-requires c κs =
-    let r = c .before .before .before .before .before in
-    let p = at (r .before .before .before .before) in
-    ((p .is-good, front r .is), (p .low, p .low, r .before .if1 .left))
+write-marks-requires : tie.Need-write-marks-requires
+write-marks-requires c κs =
+    let r = c .before .before .before .before .before .before in
+    omega (arith, back r .marks .long, enough r)
 
 returns-4 : tie.Need-returns-4
 unfolding groundOutcome groundFaults
@@ -100,15 +132,16 @@ unfolding groundOutcome groundFaults
 returns-5 c =
     let m = c .before .before in
     let z = m .before .before .before in
-    let e = z .before .before in
-    let r = e .before in
-    let w = r .before .before .before .before in
+    let e = z .before in
+    let r = e .before .before .before in
+    let w = tested r in
     let p = at w in
-    let s = w .before .before .before .before in
+    let s = start w in
     let shows = is-derived _ _ _ (small w) (w .p .given .0 .0) (λ e. z .if3 .left (rank r ∙ e)) in
-    ground-done (s .args .table .now) (s .args .board) (s .args .marks .now) (s .args .l) (w .p .given .0 .0) (p .place)
-    (rw (p .is-good, p .in-range, le-leb _ _ (r .before .if1 .left), high r ∙ e .if2 .left, ← p .place, shows))
-    (m .mark-from .ensures)
+    ground-done (s .args .table .now) (s .args .board) (s .args .marks .now) (s .args .l) (w .p .given .0 .0) (p .place) (p .low)
+    (rw (p .is-good, p .in-range, le-leb _ _ (enough r), back r .is-high ∙ e .if2 .left, ← p .place, shows))
+    (back r .marks .is)
+    (m .write-marks .ensures)
 
 pub ground-spec : {M : Type 1} → statement M
 ground-spec =
@@ -119,14 +152,19 @@ ground-spec =
     (λ c. search needs)
     mul-places
     returns
-    ranks-on-requires
+    slice-aggregate-trace
+    array-borrow-prefix-ranks
+    slice-aggregate-trace-2
+    array-borrow-prefix-reached
+    slice-aggregate-trace-3
+    trace-requires
     returns-2
     mul-if3
     array-read-if3
     returns-3
-    array-share-prefix-ranks
-    slice-aggregate-mark-from
-    mark-from-requires
+    array-share-prefix-reached
+    slice-aggregate-write-marks
+    write-marks-requires
     returns-4
     (λ c. search needs)
     returns-5)

@@ -1,69 +1,91 @@
--- `rounds::ranks::round` meets its contract. The loop's invariant: what the rows passed give is marked. The measure is the rows left.
+-- `rounds::ranks::round` meets its contract: only a row that contains the opposite of a place of rank k, or in round 1 a row that counts one
+-- literal or none, can give something new.
 use borrow.Author.Needs.{needs}
-use Prim.Native.Nat.{_≤_, _-_, _+_}
+use Prim.Native.Nat.{_≤_}
+use mathlib.Core.Path.{_∙_}
+use mathlib.Core.Logic.{⊎-elim}
 use native.Mathlib.Omega.{arith}
-use native.Mathlib.Numerals.{add-one}
-use mathlib.Core.Path.{_≡_, refl, _∙_}
-use mathlib.Core.Logic.{inl, inr, ⊎-elim}
 use lib.ListN.{length}
-use Rattle.literals.specs.Row.{rowsIn}
-use Rattle.literals.proofs.Decoding.{rows-snoc}
-use Rattle.rounds.specs.Ranks.{Fit}
-use Rattle.rounds.proofs.Scanning.{fit-row}
-use Rattle.rounds.proofs.RankTables.{Rounded, rounded-none, rounded-more, rounded-all}
+use Rattle.literals.specs.Row.{Fit}
+use Rattle.index.specs.Index.{Index}
+use Rattle.rounds.specs.Queue.{ranked}
+use Rattle.rounds.proofs.Queueing.{queued-more, room-after, counted-le}
+use Rattle.rounds.proofs.Counting.{counts-kept}
+use Rattle.rounds.proofs.Needed.{Begun, begun-first, begun-later, begun-front, begun-whole}
 use Rattle.rounds.proofs.ranks.round.Statement.{statement}
 use Rattle.rounds.proofs.ranks.round.Tie as tie
 
-abbrev Inv-loop : tie.InvT-loop
-Inv-loop table rows ranks₀ k added₀ row₀ ranks added row =
-    (row ≤ rows) × (length ranks ≡ length ranks₀) × Rounded k (rowsIn row table) ranks₀ ranks added
+abbrev start : tie.Joined1 → tie.Start
+start j = j .before .before .before .before .before .before
 
-abbrev μ-loop : tie.MeasureT-loop
-μ-loop table rows ranks₀ k added₀ row₀ ranks added row = rows - row
+-- the queue has room up to its end
+in-queue : (s : tie.Start) → s .args .to ≤ length (s .args .queue .now)
+in-queue s = let room = s .pre .1 .1 .1 .0 in omega (arith, room .count, room .long, counted-le ranked (s .args .ranks .now))
 
-abbrev start : tie.At-loop Inv-loop μ-loop → tie.Start Inv-loop μ-loop
-start l = l .before .before
+begun : (j : tie.Joined1)
+    → let a = start j .args in
+    Begun (a .k) (a .rows) (a .table .now) (a .counts .now) (a .ranks .now) (j .if1 .ranks) (a .queue .now) (a .to) (j .if1 .queue) (j .if1 .end)
+begun j =
+    ⊎-elim
+    (λ y. (let u = y .4 in begun-first (y .0 .taken) (y .9) (y .10) (y .11) (u .kept .1 .1 .0) (u .kept .1 .1 .1 .0) (u .ensures .0) (u .ensures .1)))
+    (λ y. begun-later (y .0 .left) (y .1) (y .2) (y .3) (start j .pre .1 .1 .1 .0 .count))
+    (j .if1 .came)
 
-loop-holds : tie.Need-loop-holds Inv-loop μ-loop
-unfolding rowsIn
-loop-holds c = (search needs, refl, rounded-none (c .before .pre .1))
+visit-units-requires : tie.Need-visit-units-requires
+visit-units-requires c κs =
+    let t = c .before .before .before in
+    let s = t .before .before .before .before .before .before in
+    (s .pre .0, (s .pre .1 .1 .1 .1 .1 .1 .1 (t .if1 .taken), s .pre .1 .1 .1 .0))
 
-mark-row-requires : tie.Need-mark-row-requires Inv-loop μ-loop
-mark-row-requires c κs =
-    let l = c .before .before in
-    let a = start l in
-    let s : Fit (length (l .loop .ranks)) (l .loop .row + 1) (a .args .table .now) =
-    rw (l .loop .inv .1) (fit-row _ (a .args .rows) _ (a .pre .0) (l .loop .row) (omega arith)) in
-    (s, a .pre .1)
+visit-rows-requires : tie.Need-visit-rows-requires
+visit-rows-requires c κs =
+    let j = c .before .before .before in
+    let s = start j in
+    let a = s .args in
+    let p = s .pre .1 .1 in
+    let b = begun j in
+    let fit : Fit (length (j .if1 .ranks)) (a .rows) (a .table .now) = rw (b .long) (s .pre .0) in
+    let index : Index (length (j .if1 .ranks)) (a .rows) (a .table .now) (a .heads .now) (a .links .now) = rw (b .long) (s .pre .1 .0) in
+    let room = room-after (p .1 .0) (b .queued) (b .long) (b .room) in
+    let front = begun-front b (p .0 .1) (p .1 .1 .0) in
+    let counts =
+    counts-kept (omega (arith, p .0 .1, in-queue s)) (b .room) (λ i h. b .queued .kept i (omega (arith, h, p .0 .1))) (p .1 .1 .1 .1 .0) in
+    (fit, (index, ((p .0 .0, p .0 .1, b .queued .more, p .0 .2), (room, (λ i h. rw (b .long) (front .inside i h), counts)))))
 
-loop-again : tie.Need-loop-again Inv-loop μ-loop
-loop-again c =
-    let m = c .before .before .before in
-    let l = m .before .before .before in
-    let e = m .mark-row .ensures in (
-      omega arith,
-      m .mark-row .kept .1 .1 .0 ∙ l .loop .inv .1,
-      rw (add-one (l .loop .row), rows-snoc (l .loop .row) (start l .args .table .now))
-          (rounded-more (start l .pre .1) _ (l .loop .inv .2) (e .0) (e .1)
-          (⊎-elim (λ y. inl (y .0 .taken, y .1)) (λ y. inr (y .0 .left, y .1)) (c .if1 .came))),
-    )
+same-length : tie.Need-same-length
+same-length c =
+    let v = c .before .before .before .before .before .before in
+    v .visit-rows .kept .1 .1 .1 .1 .0 ∙ begun (v .before .before .before .before) .long
 
-returns : tie.Need-returns Inv-loop μ-loop
+same-length-2 : tie.Need-same-length-2
+same-length-2 c =
+    let v = c .before .before .before .before .before .before in
+    v .visit-rows .kept .1 .1 .1 .1 .1 .1 .0 ∙ begun (v .before .before .before .before) .room
+
+returns : tie.Need-returns
 returns c =
-    let l = c .before in
-    let all : l .loop .row ≡ start l .args .rows = omega (arith, l .loop .inv .0, c .loop-test .left) in
-    rounded-all (rw all at (l .loop .inv .2))
+    let v = c .before .before .before .before .before .before in
+    let j = v .before .before .before .before in
+    let s = start j in
+    let p = s .pre .1 .1 in
+    let b = begun j in
+    let e = v .visit-rows .ensures in (
+      begun-whole b (p .0 .1) (p .1 .1 .0) (p .0 .0) (s .pre .0) (in-queue s) (p .1 .1 .1 .0) (e .0) (e .1 .1 .0) (e .1 .1 .1),
+      (
+        queued-more (b .long) (b .queued) (e .1 .0),
+        counts-kept (omega (arith, b .room, in-queue s)) (v .visit-rows .kept .1 .1 .1 .1 .1 .1 .0)
+            (λ i h. e .1 .0 .kept i (omega (arith, h, b .queued .more))) (e .1 .1 .0),
+      ),
+    )
 
 pub round-spec : {M : Type 1} → statement M
 round-spec =
     tie.close
     (tie.spec
-    Inv-loop
-    μ-loop
-    loop-holds
-    mark-row-requires
-    (λ c. omega arith)
-    (λ c. omega arith)
-    loop-again
-    (λ c. omega arith)
+    visit-units-requires
+    (λ c. search needs)
+    visit-rows-requires
+    same-length
+    same-length-2
+    (λ c. search needs)
     returns)

@@ -1,16 +1,14 @@
 -- `rounds::reach::keep_held` meets its contract. The loop's invariant: of the places passed only the held premises are kept. The measure
 -- is the places left.
 use borrow.Author.Needs.{needs}
-use borrow.Author.Tests.{not-true, not-false}
 use Prim.Native.Nat.{_≤_, _-_}
 use native.Mathlib.Omega.{arith}
-use mathlib.Core.Path.{refl, sym, ap, _∙_}
-use mathlib.Core.Bool.{false, _&&_, and-true, and-false}
-use mathlib.Core.Logic.{⊎-elim}
+use mathlib.Core.Path.{refl, ap}
+use mathlib.Core.Bool.{false, _&&_}
 use lib.ListN.{length}
 use Rattle.meaning.specs.Literals.{has}
 use Rattle.rounds.specs.Reach.{heldOnly}
-use Rattle.rounds.proofs.Filling.{Filled, filled-none, filled-put, filled-left, filled-all}
+use Rattle.rounds.proofs.Filling.{Filled, filled-none, filled-put, filled-ahead, filled-all}
 use Rattle.rounds.proofs.reach.keep_held.Statement.{statement}
 use Rattle.rounds.proofs.reach.keep_held.Tie as tie
 
@@ -27,13 +25,8 @@ loop-holds c = (search needs, filled-none)
 loop-again : tie.Need-loop-again Inv-loop μ-loop
 loop-again c =
     let l = c .before .before .before in
-    let mark = has (l .before .args .marks .now) (l .loop .p) in (
-      omega arith,
-      ⊎-elim
-          (λ w. rw (w .1) (filled-put (l .loop .inv .1) false (omega arith) (sym (ap (λ t. mark && t) (not-true _ (w .0 .taken)) ∙ and-false mark))))
-          (λ w. rw (w .1) (filled-left (l .loop .inv .1) (sym (ap (λ t. mark && t) (not-false _ (w .0 .left)) ∙ and-true mark))))
-          (c .if1 .came),
-    )
+    let i = l .loop .inv .1 in
+    (omega arith, filled-put i _ (omega arith) (ap (λ t. t && has (l .before .args .held .now) (l .loop .p)) (filled-ahead i)))
 
 returns : tie.Need-returns Inv-loop μ-loop
 unfolding heldOnly
@@ -46,6 +39,7 @@ keep-held-spec =
     Inv-loop
     μ-loop
     loop-holds
+    (λ c. omega arith)
     (λ c. omega arith)
     (λ c. omega arith)
     (λ c. omega arith)

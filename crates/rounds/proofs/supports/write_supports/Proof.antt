@@ -1,49 +1,36 @@
--- `rounds::supports::write_supports` meets its contract. The loop's invariant: the places passed have their support. The measure is the
--- places left.
+-- `rounds::supports::write_supports` meets its contract: the supports are cleared, and those of the queue's places are searched.
 use borrow.Author.Needs.{needs}
-use Prim.Native.Nat.{_≤_, _-_}
+use Prim.Native.Nat.{_+_}
+use mathlib.Core.Path.{_≡_, sym, ap, _∙_}
 use native.Mathlib.Omega.{arith}
 use lib.ListN.{length}
+use Rattle.meaning.specs.Tests.{tabulate, none}
+use Rattle.rounds.specs.Ranks.{supportFrom}
 use Rattle.literals.specs.Row.{rowsIn}
-use Rattle.rounds.specs.Ranks.{supportFrom, supportsFrom}
-use Rattle.rounds.proofs.Filling.{Filled, filled-none, filled-put, filled-all}
 use Rattle.rounds.proofs.supports.write_supports.Statement.{statement}
 use Rattle.rounds.proofs.supports.write_supports.Tie as tie
 
-abbrev Inv-loop : tie.InvT-loop
-Inv-loop table rows ranks supports₀ p₀ supports p =
-    (p ≤ length ranks) × Filled 0 (supportFrom (rowsIn rows table) ranks) supports₀ p supports
+abbrev start : tie.After-clear → tie.Start
+start k = k .before .before .before .before .before .before .before
 
-abbrev μ-loop : tie.MeasureT-loop
-μ-loop table rows ranks supports₀ p₀ supports p = length ranks - p
+-- there is a support for each place, as before
+same : (k : tie.After-clear) → length (k .clear .last .0) ≡ length (start k .args .supports .now)
+same k = k .clear .kept .0
 
-abbrev start : tie.At-loop Inv-loop μ-loop → tie.Start Inv-loop μ-loop
-start l = l .before .before .before
+search-supports-requires : tie.Need-search-supports-requires
+search-supports-requires c κs =
+    let k = c .before .before .before in
+    let p = start k .pre in
+    let cleared = k .clear .ensures ∙ ap (λ n. tabulate n (λ i. none)) (sym (same k)) in
+    (p .0, (p .1 .0, (omega (arith, p .1 .1 .0, same k), (p .1 .1 .1 .0, (p .1 .1 .1 .1, cleared)))))
 
-loop-holds : tie.Need-loop-holds Inv-loop μ-loop
-loop-holds c = (search needs, filled-none)
-
-loop-again : tie.Need-loop-again Inv-loop μ-loop
-loop-again c =
-    let l = c .before .before in
-    (omega arith, filled-put (l .loop .inv .1) (c .support .result) (omega arith) (c .support .ensures))
-
-returns : tie.Need-returns Inv-loop μ-loop
-unfolding supportsFrom
-returns c = let l = c .before in filled-all (l .loop .inv .1) _ (start l .pre .1) (omega arith)
+returns : tie.Need-returns
+returns c =
+    let f = c .before .before in
+    let k = f .before .before .before .before in
+    let a = start k .args in
+    f .search-supports .ensures ∙ ap (λ n. tabulate n (λ i. supportFrom (rowsIn (a .rows) (a .table .now)) (a .ranks .now) (a .from + i))) (same k)
 
 pub write-supports-spec : {M : Type 1} → statement M
 write-supports-spec =
-    tie.close
-    (tie.spec
-    Inv-loop
-    μ-loop
-    loop-holds
-    (λ c κs. search needs)
-    (λ c. omega arith)
-    (λ c. omega arith)
-    (λ c. omega arith)
-    (λ c. omega arith)
-    loop-again
-    (λ c. omega arith)
-    returns)
+    tie.close (tie.spec (λ c κs. search needs) search-supports-requires (λ c. search needs) returns)

@@ -1,0 +1,129 @@
+/* The boards of the measure. */
+#include "boards.h"
+
+#include <string.h>
+
+#include "plain.h"
+
+enum { WIDTH = TUP_ROW_WIDTH };
+
+static const uint8_t implication[] = {0x14, 0x10, 1, 0x10, 2};
+static const uint8_t parity[] = {0x15, 0x15, 0x15, 0x15, 0x15, 0x15, 0x15, 0x10, 1, 0x10, 2, 0x10, 3, 0x10, 4, 0x10, 5, 0x10, 6, 0x10, 7, 0x10, 8};
+setting now;
+
+static uint64_t state;
+
+/* A number from 0 to limit - 1; the same sequence for every board. */
+static unsigned draw(unsigned limit) {
+    state = state * UINT64_C(6364136223846793005) + UINT64_C(1442695040888963407);
+    return (unsigned)((state >> 33) % limit);
+}
+
+/* An empty board. */
+static void start(unsigned symbols) {
+    memset(&now, 0, sizeof now);
+    now.board.symbols = (uint16_t)symbols;
+    now.literal = 1;
+    now.formula = implication;
+    now.bytes = sizeof implication;
+    state = 1;
+}
+
+/* Adds a row of so many literals from symbol `from` on: all but one negated, as an implication has them. */
+static void add_random_row(unsigned from, unsigned length) {
+    int16_t *row = now.table + WIDTH * now.board.rows++;
+    unsigned symbols = now.board.symbols - from + 1, head = draw(length), used = 0;
+    for (unsigned i = 0; i < symbols && used < length; i++) {
+        if (draw(symbols - i) >= length - used) continue;
+        row[used] = (int16_t)(used == head ? from + i : -(from + i));
+        used++;
+    }
+}
+
+/* Adds the row -i, i+1. */
+static void add_link(unsigned i) {
+    int16_t *row = now.table + WIDTH * now.board.rows++;
+    row[0] = (int16_t)-(int)i;
+    row[1] = (int16_t)(i + 1);
+}
+
+/* Aims ask and ground at the derived literal of the highest rank. */
+static void aim_high(void) {
+    uint8_t labels[TUP_MOST_SYMBOLS];
+    uint16_t ranks[TUP_PLACES], supports[TUP_PLACES];
+    unsigned best = 0;
+    plain_settle(now.board, now.table, NUMBERS, labels, TUP_MOST_SYMBOLS, ranks, TUP_PLACES, supports, TUP_PLACES);
+    for (unsigned p = 0; p < 2u * now.board.symbols; p++) {
+        if (ranks[p] == TUP_NONE || ranks[p] < best) continue;
+        best = ranks[p];
+        now.literal = (int16_t)(p % 2 == 0 ? (int)(p / 2) + 1 : -(int)(p / 2) - 1);
+    }
+}
+
+/* 200 symbols, 2,048 rows of 2 to 4 literals, 4 premises. For a rule one row is left free. */
+void full_board(bool for_rule) {
+    start(200);
+    for (unsigned r = 0; r < TUP_MOST_ROWS - (for_rule ? 1u : 0u); r++) add_random_row(1, 2 + draw(3));
+    for (unsigned s = 1; s <= 4; s++) now.board.held[2 * (40 * s - 1)] = 1;
+    aim_high();
+}
+
+/* A chain over so many symbols, its first held. */
+void chain(unsigned symbols) {
+    start(symbols);
+    for (unsigned i = 1; i < symbols; i++) add_link(i);
+    now.board.held[0] = 1;
+    aim_high();
+}
+
+/* 2,048 rows of 8 literals over 200 symbols, every other symbol held. For a rule one row is left free. */
+void long_rows(bool for_rule) {
+    start(200);
+    for (unsigned r = 0; r < TUP_MOST_ROWS - (for_rule ? 1u : 0u); r++) add_random_row(1, 8);
+    for (unsigned s = 0; s < 200; s += 2) now.board.held[2 * s] = 1;
+    aim_high();
+}
+
+/* So many rows at nine rounds: rows of three literals that never fire, and a chain of eight links after them. */
+void many_rows(unsigned rows) {
+    start(200);
+    while (now.board.rows + 8u < rows) add_random_row(20, 3);
+    for (unsigned i = 1; i <= 8; i++) add_link(i);
+    now.board.held[0] = 1;
+}
+
+/* 150 rows of 2 to 4 literals over 45 symbols, the first four held: a board of the usual size, on which rules fire. */
+void typical(void) {
+    start(45);
+    while (now.board.rows < 150) add_random_row(1, 2 + draw(3));
+    for (unsigned s = 1; s <= 4; s++) now.board.held[2 * (s - 1)] = 1;
+    aim_high();
+}
+
+/* An empty board of 200 symbols. */
+void empty_board(void) {
+    start(200);
+}
+
+/* An empty board and the parity of eight symbols. */
+void parity_rule(void) {
+    start(200);
+    now.formula = parity;
+    now.bytes = sizeof parity;
+}
+
+/* The rows of the board as text, and an empty board to read it onto. */
+void as_text(void) {
+    now.text_bytes = plain_write_dimacs(now.board, now.table, NUMBERS, now.text, sizeof now.text).bytes;
+    unsigned symbols = now.board.symbols;
+    memset(&now.board, 0, sizeof now.board);
+    now.board.symbols = (uint16_t)symbols;
+    memset(now.table, 0, sizeof now.table);
+}
+
+/* The text of so many rows of 2 to 4 literals. */
+void text_of(unsigned rows) {
+    start(200);
+    while (now.board.rows < rows) add_random_row(1, 2 + draw(3));
+    as_text();
+}

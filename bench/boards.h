@@ -1,0 +1,41 @@
+/* The boards of the measure: each puts into `now` what the calls are given. */
+#ifndef BOARDS_H
+#define BOARDS_H
+
+#include <stdbool.h>
+
+#include "tupahineka.h"
+
+#ifdef __cplusplus
+extern "C" {
+#endif
+
+enum { NUMBERS = TUP_MOST_ROWS * TUP_ROW_WIDTH };
+
+/* What a call is given: a board, its table, a literal, a formula, a text. */
+typedef struct setting {
+    tup_board board;
+    int16_t table[NUMBERS];
+    int16_t literal;
+    const uint8_t *formula;
+    size_t bytes;
+    uint8_t text[TUP_MOST_TEXT];
+    size_t text_bytes;
+} setting;
+
+extern setting now;
+
+void full_board(bool for_rule);
+void chain(unsigned symbols);
+void long_rows(bool for_rule);
+void typical(void);
+void many_rows(unsigned rows);
+void empty_board(void);
+void parity_rule(void);
+void as_text(void);
+void text_of(unsigned rows);
+
+#ifdef __cplusplus
+}
+#endif
+#endif

@@ -1,0 +1,181 @@
+/* Settle, ask and ground as a C programmer would write them with the rows found by literal: in the call, one list for each place of the cells of
+ * the table that have its literal, made from the last row on so that each list rises; a queue of the places that got a rank; and a count for each
+ * row of its literals that are not ruled out yet. A row is looked at when its count falls to 1 or 0. Each support is searched for, as its definition
+ * says, over the rows that have the literal. The same tests, the same outputs, no proof. */
+#include "indexed.h"
+
+#include <string.h>
+
+#include "plain.h"
+
+enum { WIDTH = TUP_ROW_WIDTH, NONE = TUP_NONE, CELLS = TUP_MOST_ROWS * WIDTH };
+
+/* The memory of a call. */
+typedef struct work {
+    unsigned count;              /* places in the queue */
+    uint16_t queue[TUP_PLACES];  /* places with a rank, the ranks rising */
+    uint16_t head[TUP_PLACES];   /* the first cell that has the literal of the place, or NONE */
+    uint8_t left[TUP_MOST_ROWS]; /* literals of the row that are not ruled out */
+    uint16_t next[CELLS];        /* the next cell that has the same literal, or NONE */
+    uint16_t sum[TUP_MOST_ROWS]; /* where the call sums: the places left of the row, joined by exclusive or; with one left it is that one */
+} work;
+
+/* Gives the literal rank k if it has none. */
+static inline void give(work *w, uint16_t *ranks, unsigned p, unsigned k) {
+    if (ranks[p] != NONE) return;
+    ranks[p] = (uint16_t)k;
+    w->queue[w->count++] = (uint16_t)p;
+}
+
+/* Gives rank 0 to the premises. */
+static void rank_premises(work *w, const tup_board *board, uint16_t *ranks) {
+    unsigned places = 2u * board->symbols;
+    w->count = 0;
+    memset(ranks, 0xFF, places * sizeof ranks[0]);
+    for (unsigned p = 0; p < places; p++)
+        if (board->held[p] != 0) give(w, ranks, p, 0);
+}
+
+/* Makes the lists and the counts; a row of one literal gives it rank 1. */
+static inline void index_rows(work *w, const tup_board *board, const int16_t *table, uint16_t *ranks, bool summing) {
+    memset(w->head, 0xFF, sizeof w->head);
+    for (size_t r = board->rows; r-- > 0;) {
+        const int16_t *row = table + WIDTH * r;
+        unsigned i = 0, sum = 0;
+        for (; i < WIDTH && row[i] != 0; i++) {
+            unsigned p = place(row[i]);
+            w->next[WIDTH * r + i] = w->head[p];
+            w->head[p] = (uint16_t)(WIDTH * r + i);
+            sum ^= p;
+        }
+        w->left[r] = (uint8_t)i;
+        if (summing) w->sum[r] = (uint16_t)sum;
+        if (i == 1) give(w, ranks, place(row[0]), 1);
+    }
+}
+
+/* Gives rank k to every literal of the row. */
+static inline void give_all(work *w, const int16_t *row, unsigned k, uint16_t *ranks) {
+    for (int i = 0; i < WIDTH && row[i] != 0; i++) give(w, ranks, place(row[i]), k);
+}
+
+/* A row with one literal left or none in round k: that one is given the rank, or all are. */
+static inline void look(work *w, const int16_t *row, unsigned k, uint16_t *ranks) {
+    int i = 0;
+    for (; i < WIDTH && row[i] != 0; i++) {
+        if (ranks[place(-row[i])] >= k) {
+            give(w, ranks, place(row[i]), k);
+            return;
+        }
+    }
+    while (i-- > 0) give(w, ranks, place(row[i]), k);
+}
+
+/* Round k for the literal of place p, which is ruled out: counts down the rows that have it. */
+static inline void rule_out(work *w, const int16_t *table, unsigned p, unsigned k, uint16_t *ranks) {
+    for (unsigned cell = w->head[p]; cell != NONE; cell = w->next[cell]) {
+        unsigned r = cell / WIDTH;
+        if (--w->left[r] <= 1) look(w, table + WIDTH * r, k, ranks);
+    }
+}
+
+/* The same with sums: the place of the only literal left is known. */
+static inline void rule_out_summing(work *w, const int16_t *table, unsigned p, unsigned k, uint16_t *ranks) {
+    for (unsigned cell = w->head[p]; cell != NONE; cell = w->next[cell]) {
+        unsigned r = cell / WIDTH, left = --w->left[r];
+        w->sum[r] ^= (uint16_t)p;
+        if (left == 1) give(w, ranks, w->sum[r], k);
+        else if (left == 0) give_all(w, table + WIDTH * r, k, ranks);
+    }
+}
+
+/* Ranks by rounds: round k takes the places of rank k - 1 from the queue, and gives rank k. */
+static void rank_all(work *w, const tup_board *board, const int16_t *table, uint16_t *ranks, bool summing) {
+    rank_premises(w, board, ranks);
+    unsigned at = 0, end = w->count;
+    index_rows(w, board, table, ranks, summing);
+    for (unsigned k = 1; at < w->count; k++, end = w->count)
+        for (; at < end; at++) {
+            if (summing) rule_out_summing(w, table, w->queue[at] ^ 1u, k, ranks);
+            else rule_out(w, table, w->queue[at] ^ 1u, k, ranks);
+        }
+}
+
+/* The lowest-numbered row that gave place p its rank. */
+static uint16_t support(const work *w, const int16_t *table, const uint16_t *ranks, unsigned p) {
+    uint16_t rank = ranks[p];
+    for (unsigned cell = w->head[p]; cell != NONE; cell = w->next[cell]) {
+        const int16_t *row = table + WIDTH * (cell / WIDTH);
+        int i = 0;
+        for (; i < WIDTH && row[i] != 0; i++)
+            if (place(row[i]) != p && ranks[place(-row[i])] >= rank) break;
+        if (i == WIDTH || row[i] == 0) return (uint16_t)(cell / WIDTH);
+    }
+    return NONE;
+}
+
+/* Settles a board that was tested. */
+static inline void settle(const tup_board *board, const int16_t *table, uint8_t *labels, uint16_t *ranks, uint16_t *supports, bool summing) {
+    work w;
+    rank_all(&w, board, table, ranks, summing);
+    plain_label_all(board, ranks, labels);
+    memset(supports, 0xFF, 2u * board->symbols * sizeof supports[0]);
+    for (unsigned i = 0; i < w.count; i++)
+        if (ranks[w.queue[i]] != 0) supports[w.queue[i]] = support(&w, table, ranks, w.queue[i]);
+}
+
+uint8_t indexed_settle(tup_board board, const int16_t *table, size_t numbers, uint8_t *labels, size_t label_count,
+                       uint16_t *ranks, size_t rank_count, uint16_t *supports, size_t support_count) {
+    uint8_t refusal = plain_settle_tests(&board, table, numbers, label_count, rank_count, support_count);
+    if (refusal == 0) settle(&board, table, labels, ranks, supports, false);
+    return refusal;
+}
+
+uint8_t indexed_settle_summing(tup_board board, const int16_t *table, size_t numbers, uint8_t *labels, size_t label_count,
+                               uint16_t *ranks, size_t rank_count, uint16_t *supports, size_t support_count) {
+    uint8_t refusal = plain_settle_tests(&board, table, numbers, label_count, rank_count, support_count);
+    if (refusal == 0) settle(&board, table, labels, ranks, supports, true);
+    return refusal;
+}
+
+tup_answer indexed_ask(tup_board board, const int16_t *table, size_t numbers, int16_t literal) {
+    work w;
+    uint16_t ranks[TUP_PLACES];
+    if (!plain_good(&board, table, numbers)) return (tup_answer){1, TUP_OPEN};
+    if (!plain_fits(literal, &board)) return (tup_answer){2, TUP_OPEN};
+    rank_all(&w, &board, table, ranks, false);
+    for (unsigned i = 0; i < w.count; i++)
+        if (ranks[w.queue[i] ^ 1u] != NONE) return (tup_answer){0, TUP_CONFLICT};
+    if (ranks[place(literal)] != NONE) return (tup_answer){0, TUP_STANDS};
+    if (ranks[place(opposite(literal))] != NONE) return (tup_answer){0, TUP_RULED_OUT};
+    return (tup_answer){0, TUP_OPEN};
+}
+
+uint8_t indexed_ground(tup_board board, const int16_t *table, size_t numbers, int16_t literal, uint8_t *marks, size_t mark_count) {
+    work w;
+    uint16_t ranks[TUP_PLACES], waiting[TUP_PLACES];
+    bool seen[TUP_PLACES] = {false};
+    unsigned count = 0;
+    if (!plain_good(&board, table, numbers)) return 1;
+    if (!plain_fits(literal, &board)) return 2;
+    if (mark_count < 2u * board.symbols) return 13;
+    rank_all(&w, &board, table, ranks, false);
+    if (ranks[place(literal)] == NONE) return 12;
+    memset(marks, 0, 2u * board.symbols);
+    seen[waiting[count++] = (uint16_t)place(literal)] = true;
+    while (count > 0) {
+        unsigned p = waiting[--count];
+        if (ranks[p] == 0) {
+            marks[p] = 1;
+            continue;
+        }
+        const int16_t *row = table + WIDTH * support(&w, table, ranks, p);
+        for (int i = 0; i < WIDTH && row[i] != 0; i++) {
+            unsigned q = place(-row[i]);
+            if (place(row[i]) == p || seen[q]) continue;
+            seen[q] = true;
+            waiting[count++] = (uint16_t)q;
+        }
+    }
+    return 0;
+}

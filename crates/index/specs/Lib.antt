@@ -1,0 +1,3 @@
+-- What the index says of a table.
+pub mod Index
+pub mod Listing
