@@ -91,6 +91,8 @@ static const event shift[] = {
     {AT(4, 10), HOLD, VALVE_CYCLING},
     {AT(4, 30), HOLD, PYROMETER_NORMAL},
     {AT(4, 55), HOLD, TC_9_LOW},
+    {AT(5, 0), HOLD, DAMPER_SHUT}, /* again, and by now with consequences: "add gas" and the readings behind it are in conflict too */
+    {AT(5, 6), WITHDRAW, DAMPER_SHUT},
     {AT(5, 10), WITHDRAW, TC_8_HIGH},
     {AT(5, 30), WITHDRAW, TC_4_HIGH},
     {AT(5, 45), WITHDRAW, TC_9_LOW},
@@ -116,10 +118,11 @@ typedef struct mark {
     words why;
 } mark;
 
-/* A stretch of minutes. */
-typedef struct stretch {
+/* A conflict of the board, from one minute to another, and the readings to blame. */
+typedef struct conflict {
     int from, to;
-} stretch;
+    words blame;
+} conflict;
 
 /* The board with the tables lent to it, the marks as they stand, and what the chart will show. */
 typedef struct screen {
@@ -129,10 +132,10 @@ typedef struct screen {
     uint16_t ranks[PLACES], supports[PLACES];
     mark marks[SYMBOLS + 1];
     mark bars[MOST_BARS];
-    stretch conflicts[EVENTS];
+    conflict conflicts[EVENTS];
     int bar_count, conflict_count;
     bool in_conflict;
-    int rules_refused, readings_refused, checks, checks_failed;
+    int rules_refused, readings_refused, checks, conflict_checks, checks_failed;
 } screen;
 
 /* ---- Words ---- */
@@ -443,22 +446,45 @@ static void update_marks(screen *s, int now) {
     }
 }
 
-/* Prints the start and the end of a conflict of the board, and whom to blame. */
+/* A copy of the board that holds the marked premises and no others. */
+static tup_board holding_only(const screen *s, const uint8_t marks[PLACES]) {
+    tup_board alone = s->board;
+    memcpy(alone.held, marks, PLACES);
+    return alone;
+}
+
+/* Asks which readings are to blame, and checks that they alone, under the same rules, are in conflict. */
+static words find_blame(screen *s) {
+    uint8_t marks[PLACES];
+    words blame = {0};
+    must_be_done("blame", tup_blame(s->board, s->table, NUMBERS, marks, PLACES));
+    say_premises(&blame, marks);
+    tup_answer answer = tup_ask(holding_only(s, marks), s->table, NUMBERS, 1);
+    must_be_done("ask", answer.refusal);
+    s->conflict_checks++;
+    if (answer.standing != TUP_CONFLICT) {
+        printf("no conflict by these alone: %s\n", blame.text);
+        s->checks_failed++;
+    }
+    return blame;
+}
+
+/* Prints the start and the end of a conflict of the board, and the readings to blame, again where they change. */
 static void update_conflict(screen *s, int now) {
-    bool conflict = memchr(s->labels, 3, SYMBOLS) != NULL;
-    if (conflict && !s->in_conflict) {
-        uint8_t marks[PLACES];
-        words line = {0};
-        must_be_done("blame", tup_blame(s->board, s->table, NUMBERS, marks, PLACES));
-        say_premises(&line, marks);
-        printf("%s   the board: in conflict, to blame: %s\n", clock_at(now).text, line.text);
-        s->conflicts[s->conflict_count] = (stretch){now, SHIFT_ENDS};
-    }
-    if (!conflict && s->in_conflict) {
+    bool in_conflict = memchr(s->labels, 3, SYMBOLS) != NULL;
+    conflict *last = &s->conflicts[s->conflict_count];
+    if (in_conflict) {
+        words blame = find_blame(s);
+        if (!s->in_conflict || strcmp(blame.text, last->blame.text) != 0) {
+            printf("%s   the board: %sin conflict, to blame: %s\n", clock_at(now).text, s->in_conflict ? "still " : "", blame.text);
+        }
+        *last = (conflict){s->in_conflict ? last->from : now, SHIFT_ENDS, blame};
+    } else if (s->in_conflict) {
         printf("%s   the board: conflict over\n", clock_at(now).text);
-        s->conflicts[s->conflict_count++].to = now;
+        last->to = now;
+        s->conflict_count++;
     }
-    s->in_conflict = conflict;
+    s->in_conflict = in_conflict;
 }
 
 /* Whether the ground of a literal carries it: a board that holds nothing else still derives it. An empty ground is
@@ -466,12 +492,7 @@ static void update_conflict(screen *s, int now) {
 static bool ground_carries(const screen *s, int literal) {
     uint8_t marks[PLACES];
     find_ground(s, literal, marks);
-    tup_board alone = s->board;
-    memset(alone.held, 0, sizeof alone.held);
-    for (int place = 0; place < PLACES; place++) {
-        alone.held[place] = marks[place] && s->board.held[place];
-    }
-    uint8_t refusal = tup_explain(alone, s->table, NUMBERS, (int16_t)literal).refusal;
+    uint8_t refusal = tup_explain(holding_only(s, marks), s->table, NUMBERS, (int16_t)literal).refusal;
     if (refusal != TUP_DONE) {
         words line = {0};
         say_literal(&line, literal);
@@ -565,14 +586,15 @@ static void print_summary(const screen *s) {
     }
     printf("marks up at end: %s\n", up.text);
     printf("refused: %d rules, %d readings\n", s->rules_refused, s->readings_refused);
-    printf("every mark had its ground: %s (%d checks)\n", s->checks_failed == 0 ? "yes" : "NO", s->checks);
+    printf("every mark had its ground, every conflict its readings to blame: %s (%d and %d checks)\n",
+           s->checks_failed == 0 ? "yes" : "NO", s->checks, s->conflict_checks);
 }
 
 /* ---- The chart ---- */
 
 enum {
     WIDTH = 1240, LEFT = 172, PER_MINUTE = 2, RIGHT = LEFT + PER_MINUTE * SHIFT_ENDS,
-    TOP = 104, LANE = 21, BAR = 13, GROUP_GAP = 26,
+    TOP = 118, LANE = 21, BAR = 13, GROUP_GAP = 26,
     BOTTOM = TOP + SYMBOLS * LANE + GROUP_GAP + 4,
     HEIGHT = BOTTOM + 72
 };
@@ -712,12 +734,15 @@ static void put_bar(FILE *out, const mark *bar) {
 /* Draws each conflict of the board as a band over all lanes. */
 static void put_conflicts(FILE *out, const screen *s) {
     for (int i = 0; i < s->conflict_count; i++) {
-        stretch c = s->conflicts[i];
-        words note = {0};
-        say(&note, "conflict %s to %s", clock_at(c.from).text, clock_at(c.to).text);
-        put_box(out, "band", x_at(c.from), TOP - 12, x_at(c.to) - x_at(c.from), BOTTOM - TOP + 12);
-        put_box(out, "conflict", x_at(c.from), TOP - 14, x_at(c.to) - x_at(c.from), 3);
-        put_text(out, "conflict-note", x_at((c.from + c.to) / 2), TOP - 20, note.text);
+        const conflict *c = &s->conflicts[i];
+        int left = x_at(c->from), width = x_at(c->to) - left;
+        words note = {0}, blame = {0};
+        say(&note, "conflict %s to %s", clock_at(c->from).text, clock_at(c->to).text);
+        say(&blame, "to blame: %s", c->blame.text);
+        put_box(out, "band", left, TOP - 12, width, BOTTOM - TOP + 12);
+        put_box(out, "conflict", left, TOP - 14, width, 3);
+        put_text(out, "conflict-note", left + width / 2, TOP - 34, note.text);
+        put_text(out, "conflict-note", left + width / 2, TOP - 20, blame.text);
     }
 }
 

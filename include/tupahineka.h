@@ -1,5 +1,5 @@
 /* Tupahineka: a proved truth-maintenance board behind a trend screen. The nine calls of document 01 for C and C++, with the places of
- * document 02's first ticket and the two calls for DIMACS text of its second.
+ * document 02's first ticket, the two calls for DIMACS text of its second, and blame as its fourth has it.
  *
  * Link with libpanel.a (`make lib`). Every call ends, takes any numbers, and tests its own input. A call that is refused
  * returns one of the numbers below, hands the board back as it was given (a refused tup_open: S = 0, no rows, no premises)
@@ -141,7 +141,10 @@ tup_reason tup_explain(tup_board board, const int16_t *table, size_t numbers, in
 /* Writes 2S bytes, 1 for each premise that the literal stands on, else 0. Refused: 1, 2, 13, 14, 12. */
 uint8_t tup_ground(tup_board board, const int16_t *table, size_t numbers, int16_t literal, uint8_t *marks, size_t mark_count);
 
-/* Writes 2S bytes, 1 for each premise reached by +s or -s for the lowest s with label 3, else 0. Refused: 1, 13, 14, 12. */
+/* Writes 2S bytes, 1 for each premise that a conflict stands on, else 0: those reached by +s or -s, where of all symbols with label 3 s is the one
+ * whose larger rank of its two literals is smallest, and of equals the lowest. The premises marked are in conflict by themselves: whatever else is
+ * held, withdrawn or added, the board stays in conflict until one of them is withdrawn or it is opened anew. Where nothing is marked, the rules
+ * alone are in conflict. Refused: 1, 13, 14, 12. */
 uint8_t tup_blame(tup_board board, const int16_t *table, size_t numbers, uint8_t *marks, size_t mark_count);
 
 #ifdef __cplusplus

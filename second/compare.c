@@ -1,4 +1,5 @@
-/* Every result, the whole board, and every place of every lent table with its guards: the library's against the model's. */
+/* Every result, the whole board, and every place of every lent table with its guards: the library's against the model's. Then what follows
+ * from the documents for a result besides: demand 3 for settle, Ticket 4 for blame. */
 #include <stdio.h>
 #include <string.h>
 
@@ -89,6 +90,37 @@ static bool same_tables(Play *play, const Step *step) {
 /* Compares everything after a call. */
 bool same_everywhere(Play *play, const Step *step, const Outcome *ours, const Outcome *theirs) {
     return same_outcome(play, ours, theirs) && same_board(play, step) && same_tables(play, step);
+}
+
+/* The round that completes the first conflict, by the library's settle: the smallest rank up to which some symbol has both its literals. */
+static unsigned first_round(const Play *play, const Step *step, tup_board board) {
+    uint8_t labels[MOST_SYMBOLS];
+    uint16_t ranks[PLACES], supports[PLACES];
+    unsigned first = NONE;
+    if (tup_settle(board, play->theirs.table + GUARD, step->numbers, labels, MOST_SYMBOLS, ranks, PLACES, supports, PLACES) != 0) return NONE;
+    for (unsigned s = 0; s < board.symbols; s++) {
+        unsigned both = ranks[2 * s] > ranks[2 * s + 1] ? ranks[2 * s] : ranks[2 * s + 1];
+        if (both < first) first = both;
+    }
+    return first;
+}
+
+/* What follows of Ticket 4 after a good blame: its marks are premises, and with only these held the same rows are in conflict, whatever literal is
+ * asked, and in the same round. */
+bool marks_are_enough(Play *play, const Step *step) {
+    const tup_board *board = &play->library_board;
+    const uint8_t *marks = play->theirs.marks + GUARD;
+    unsigned places = 2 * play->board.symbols, asked = (unsigned)(step->noise % places);
+    tup_board alone = {.symbols = board->symbols, .rows = board->rows};
+    for (unsigned p = 0; p < places; p++) {
+        if (marks[p] != 0 && board->held[p] == 0) return differs(play, "blame, a mark (model: a premise)", p, marks[p], 0);
+        alone.held[p] = marks[p];
+    }
+    tup_answer answer = tup_ask(alone, play->theirs.table + GUARD, step->numbers, (int16_t)literal_at(asked));
+    return same(play, "blame, refusal of ask with only the marks held", asked, answer.refusal, 0) &&
+           same(play, "blame, standing with only the marks held", asked, answer.standing, IN_CONFLICT) &&
+           same(play, "blame, round of the conflict (library: only the marks held, model: all premises)", NONE, first_round(play, step, alone),
+                first_round(play, step, *board));
 }
 
 /* Demand 3 after a good settle: both ways find a conflict or neither does, and without one every label is the same. */

@@ -227,7 +227,10 @@ static void cover_done(const Play *play, const Step *step) {
     if (step->kind == RULE) cover_rule(play, step);
     if (step->kind == ASK) cases[ASK_OPEN + play->last.standing]++;
     if (step->kind == EXPLAIN) cases[EXPLAIN_ONE_LITERAL] += play->last.literals == 1;
-    if (step->kind == BLAME) cases[BLAME_MORE] += marks > 1;
+    if (step->kind == BLAME) {
+        cases[BLAME_MORE] += marks > 1;
+        cover_blame(play, marks);
+    }
     if (step->kind != GROUND) return;
     cases[GROUND_HELD] += play->board.held[place_of(step->value)];
     cases[GROUND_NO_PREMISE] += marks == 0;
@@ -322,6 +325,7 @@ void cover_print(void) {
         printf("%-42s%9lu%s", case_words[c], cases[c], c % 2 == 0 ? "    " : "\n");
     printf("%s", CASES % 2 == 0 ? "" : "\n");
     cover_rows_print();
+    cover_blames_print();
     cover_texts_print();
     printf("labels 0, 1, 2, 3: %lu %lu %lu %lu\n", labels_seen[0], labels_seen[1], labels_seen[2], labels_seen[3]);
     printf("highest rank: %u; boards settled: %lu, of them in conflict: %lu\n", highest_rank, settled, cases[CONFLICT_SETTLED]);
@@ -351,6 +355,7 @@ static bool breaks_are_whole(void) {
 bool cover_is_whole(void) {
     bool whole = breaks_are_whole();
     whole &= cover_rows_are_whole();
+    whole &= cover_blames_are_whole();
     whole &= cover_texts_are_whole();
     for (unsigned k = 0; k < CALLS; k++) {
         whole &= came_up(refusals[k][0], "done", kind_word((Kind)k), 0);

@@ -15,6 +15,11 @@ void cover_rows(const Play *play);
 void cover_rows_print(void);
 bool cover_rows_are_whole(void);
 
+/* coverblame.c: the symbols that good blames took. */
+void cover_blame(const Play *play, unsigned marks);
+void cover_blames_print(void);
+bool cover_blames_are_whole(void);
+
 /* covertext.c: the texts read and written. */
 void cover_text(const Play *play, const Step *step);
 void cover_trip(void);

@@ -1,4 +1,5 @@
-/* The nine calls by document 01, a rule's places by document 02's Ticket 1: what each tests, in its order, what it returns and what it writes. */
+/* The nine calls by document 01, a rule's places and blame's symbol by document 02's Tickets 1 and 4: what each tests, in its order, what it returns
+ * and what it writes. */
 #include "model.h"
 
 #include <string.h>
@@ -166,16 +167,21 @@ Outcome model_ground(const Board *board, const int16_t *table, size_t numbers, i
     return outcome(0);
 }
 
-/* Marks the premises behind the conflict of the lowest symbol. */
+/* Writes the marks of a symbol in conflict: the premises reached by +s or -s. */
+void mark_both(const Board *board, const int16_t *table, const Findings *found, unsigned symbol, uint8_t *marks) {
+    bool seen[PLACES] = {false};
+    walk_back(board, table, found, place_of((int)symbol), seen);
+    walk_back(board, table, found, place_of(-(int)symbol), seen);
+    write_marks(board, seen, marks);
+}
+
+/* Marks the premises behind a conflict. */
 Outcome model_blame(const Board *board, const int16_t *table, size_t numbers, uint8_t *marks, size_t mark_count) {
     if (!board_is_good(board, table, numbers)) return outcome(1);
     if (mark_count < 2 * board->symbols) return outcome(13);
     Findings found = propagate(board, table);
-    unsigned symbol = first_conflict(board, &found);
-    bool seen[PLACES] = {false};
+    unsigned symbol = blamed_symbol(board, &found);
     if (symbol == 0) return outcome(12);
-    walk_back(board, table, &found, place_of((int)symbol), seen);
-    walk_back(board, table, &found, place_of(-(int)symbol), seen);
-    write_marks(board, seen, marks);
+    mark_both(board, table, &found, symbol, marks);
     return outcome(0);
 }

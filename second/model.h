@@ -1,4 +1,4 @@
-/* Document 01 with Tickets 1 and 2 of document 02 by brute force, for the independent second program.
+/* Document 01 with Tickets 1, 2 and 4 of document 02 by brute force, for the independent second program.
  *
  * Written from these documents and include/tupahineka.h alone. No other code of the project was read for it: what this
  * program and the library share is the documents and nothing else. Slow and by definition, wherever a definition is there. */
@@ -87,6 +87,8 @@ Findings propagate(const Board *board, const int16_t *table);
 bool derived(const Findings *found, unsigned place);
 unsigned label_of(const Findings *found, unsigned symbol);
 unsigned first_conflict(const Board *board, const Findings *found);
+unsigned larger_rank(const Findings *found, unsigned symbol);
+unsigned blamed_symbol(const Board *board, const Findings *found);
 void walk_back(const Board *board, const int16_t *table, const Findings *found, unsigned place, bool seen[PLACES]);
 
 /* model.c: the nine calls. */
@@ -101,6 +103,7 @@ Outcome model_settle(const Board *board, const int16_t *table, size_t numbers, u
 Outcome model_ask(const Board *board, const int16_t *table, size_t numbers, int literal);
 Outcome model_explain(const Board *board, const int16_t *table, size_t numbers, int literal);
 Outcome model_ground(const Board *board, const int16_t *table, size_t numbers, int literal, uint8_t *marks, size_t mark_count);
+void mark_both(const Board *board, const int16_t *table, const Findings *found, unsigned symbol, uint8_t *marks);
 Outcome model_blame(const Board *board, const int16_t *table, size_t numbers, uint8_t *marks, size_t mark_count);
 
 /* dimacs.c: text in and out, two calls more. */

@@ -1,4 +1,4 @@
-/* Propagation in document 01's rounds, supports by their definition, labels, and the walk back to the premises. */
+/* Propagation in document 01's rounds, supports by their definition, labels, the symbol to blame, and the walk back to the premises. */
 #include <string.h>
 
 #include "model.h"
@@ -83,6 +83,23 @@ unsigned first_conflict(const Board *board, const Findings *found) {
     for (unsigned s = 1; s <= board->symbols; s++)
         if (label_of(found, s) == 3) return s;
     return 0;
+}
+
+/* The larger rank of a symbol's two literals; NONE where one of them has no rank. */
+unsigned larger_rank(const Findings *found, unsigned symbol) {
+    unsigned plus = found->rank[place_of((int)symbol)], minus = found->rank[place_of(-(int)symbol)];
+    return plus > minus ? plus : minus;
+}
+
+/* The symbol that blame takes, or 0 if the board is not in conflict: "among symbols with label 3, the one whose larger rank of its two literals is
+ * smallest, and of equals the lowest symbol". */
+unsigned blamed_symbol(const Board *board, const Findings *found) {
+    unsigned taken = 0;
+    for (unsigned s = 1; s <= board->symbols; s++) {
+        if (label_of(found, s) != 3) continue;
+        if (taken == 0 || larger_rank(found, s) < larger_rank(found, taken)) taken = s;
+    }
+    return taken;
 }
 
 /* Marks every derived literal met on the way back from a place along the supports; a held one is an end. */

@@ -1,5 +1,6 @@
-/* Boards on which rows are easily found too late, too early, once too often or not at all. The ranks and supports of each were worked out by hand
- * from document 01; they are held against the model and the library alike. */
+/* Boards on which rows are easily found too late, too early, once too often or not at all, and boards on which blame easily takes another symbol. The
+ * ranks and supports of each, and the premises to blame, were worked out by hand from documents 01 and 02; they are held against the model and the
+ * library alike. */
 #include "rowtries.h"
 
 #include <stdio.h>
@@ -7,7 +8,7 @@
 
 #include "cover.h"
 
-enum { TRY_ROWS = 5, TRY_HELD = 7, TRY_FOUND = 8 };
+enum { TRY_ROWS = 6, TRY_HELD = 7, TRY_FOUND = 14 };
 
 /* A derived literal, its rank and its support. */
 typedef struct Found {
@@ -15,45 +16,77 @@ typedef struct Found {
     unsigned rank, support;
 } Found;
 
-/* A board: S, its rows, the first of them written so many times over, the premises, and all literals that are derived. */
+/* A board: S, its rows, the first of them written so many times over, the premises, all literals that are derived, and in conflict the premises that
+ * blame marks. */
 typedef struct Try {
     const char *words;
     unsigned symbols, times;
     int16_t row[TRY_ROWS][WIDTH];
     int held[TRY_HELD];
     Found found[TRY_FOUND];
+    int blamed[TRY_HELD];
 } Try;
 
 static const Try tries[] = {
-    {"one-literal rows of both signs, one of them twice", 3, 1, {{-2}, {2}, {2}, {-2, 3}}, {0}, {{-2, 1, 0}, {2, 1, 1}, {3, 2, 3}}},
-    {"a one-literal row that is held", 2, 1, {{1}, {-1, 2}}, {1}, {{1, 0, NONE}, {2, 1, 1}}},
-    {"a one-literal row against a premise", 2, 1, {{-1}, {1, 2}}, {1}, {{1, 0, NONE}, {-1, 1, 0}, {2, 2, 1}}},
-    {"rows in the order of the chain", 4, 1, {{1}, {-1, 2}, {-2, 3}, {-3, 4}}, {0}, {{1, 1, 0}, {2, 2, 1}, {3, 3, 2}, {4, 4, 3}}},
-    {"rows against the order of the chain", 4, 1, {{-3, 4}, {-2, 3}, {-1, 2}, {1}}, {0}, {{1, 1, 3}, {2, 2, 2}, {3, 3, 1}, {4, 4, 0}}},
+    {"one-literal rows of both signs, one of them twice", 3, 1, {{-2}, {2}, {2}, {-2, 3}}, {0}, {{-2, 1, 0}, {2, 1, 1}, {3, 2, 3}}, {0}},
+    {"a one-literal row that is held", 2, 1, {{1}, {-1, 2}}, {1}, {{1, 0, NONE}, {2, 1, 1}}, {0}},
+    {"a one-literal row against a premise", 2, 1, {{-1}, {1, 2}}, {1}, {{1, 0, NONE}, {-1, 1, 0}, {2, 2, 1}}, {1}},
+    {"rows in the order of the chain", 4, 1, {{1}, {-1, 2}, {-2, 3}, {-3, 4}}, {0}, {{1, 1, 0}, {2, 2, 1}, {3, 3, 2}, {4, 4, 3}}, {0}},
+    {"rows against the order of the chain", 4, 1, {{-3, 4}, {-2, 3}, {-1, 2}, {1}}, {0}, {{1, 1, 3}, {2, 2, 2}, {3, 3, 1}, {4, 4, 0}}, {0}},
     {"a row gives 2, and in a later round 1", 4, 1, {{1, 2}, {-1, -3}, {1, 4}, {-2, -4}}, {3},
-     {{3, 0, NONE}, {-1, 1, 1}, {2, 2, 0}, {4, 2, 2}, {-2, 3, 3}, {-4, 3, 3}, {1, 4, 0}, {-3, 5, 1}}},
+     {{3, 0, NONE}, {-1, 1, 1}, {2, 2, 0}, {4, 2, 2}, {-2, 3, 3}, {-4, 3, 3}, {1, 4, 0}, {-3, 5, 1}}, {3}},
     {"a row whose opposites are all held", 3, 1, {{-1, -2, 3}}, {1, 2, -3},
-     {{1, 0, NONE}, {2, 0, NONE}, {-3, 0, NONE}, {-1, 1, 0}, {-2, 1, 0}, {3, 1, 0}}},
-    {"the last two opposites in one round", 4, 1, {{2, 3, 4}, {-1, -2}, {-1, -3}}, {1}, {{1, 0, NONE}, {-2, 1, 1}, {-3, 1, 2}, {4, 2, 0}}},
-    {"a lower row in a later round", 4, 1, {{-3, 4}, {-1, 2}, {-2, 3}, {-1, 4}}, {1}, {{1, 0, NONE}, {2, 1, 1}, {3, 2, 2}, {4, 1, 3}}},
-    {"the lowest row of two, found last", 4, 1, {{-3, 4}, {-2, 4}, {-1, 2}, {-1, 3}}, {1}, {{1, 0, NONE}, {2, 1, 2}, {3, 1, 3}, {4, 2, 0}}},
-    {"a lower row of the same round", 3, 1, {{-2, 3}, {-1, 2}, {-1, 3}}, {1}, {{1, 0, NONE}, {2, 1, 1}, {3, 1, 2}}},
-    {"an opposite that comes in the same round", 2, 1, {{-1, -2}, {-1, 2}}, {1}, {{1, 0, NONE}, {-2, 1, 0}, {2, 1, 1}, {-1, 2, 0}}},
+     {{1, 0, NONE}, {2, 0, NONE}, {-3, 0, NONE}, {-1, 1, 0}, {-2, 1, 0}, {3, 1, 0}}, {1, 2, -3}},
+    {"the last two opposites in one round", 4, 1, {{2, 3, 4}, {-1, -2}, {-1, -3}}, {1},
+     {{1, 0, NONE}, {-2, 1, 1}, {-3, 1, 2}, {4, 2, 0}}, {0}},
+    {"a lower row in a later round", 4, 1, {{-3, 4}, {-1, 2}, {-2, 3}, {-1, 4}}, {1}, {{1, 0, NONE}, {2, 1, 1}, {3, 2, 2}, {4, 1, 3}}, {0}},
+    {"the lowest row of two, found last", 4, 1, {{-3, 4}, {-2, 4}, {-1, 2}, {-1, 3}}, {1},
+     {{1, 0, NONE}, {2, 1, 2}, {3, 1, 3}, {4, 2, 0}}, {0}},
+    {"a lower row of the same round", 3, 1, {{-2, 3}, {-1, 2}, {-1, 3}}, {1}, {{1, 0, NONE}, {2, 1, 1}, {3, 1, 2}}, {0}},
+    {"an opposite that comes in the same round", 2, 1, {{-1, -2}, {-1, 2}}, {1}, {{1, 0, NONE}, {-2, 1, 0}, {2, 1, 1}, {-1, 2, 0}}, {1}},
     {"a row of 8, two left", 8, 1, {{-1, -2, -3, -4, -5, -6, -7, 8}}, {1, 2, 3, 4, 5, 6},
-     {{1, 0, NONE}, {2, 0, NONE}, {3, 0, NONE}, {4, 0, NONE}, {5, 0, NONE}, {6, 0, NONE}}},
+     {{1, 0, NONE}, {2, 0, NONE}, {3, 0, NONE}, {4, 0, NONE}, {5, 0, NONE}, {6, 0, NONE}}, {0}},
     {"a row of 8, one left", 8, 1, {{-1, -2, -3, -4, -5, -6, -7, 8}}, {1, 2, 3, 4, 5, 6, 7},
-     {{1, 0, NONE}, {2, 0, NONE}, {3, 0, NONE}, {4, 0, NONE}, {5, 0, NONE}, {6, 0, NONE}, {7, 0, NONE}, {8, 1, 0}}},
-    {"one literal in every row of a full table", 200, 2047, {{-1, 2}, {-1, 3}}, {1}, {{1, 0, NONE}, {2, 1, 0}, {3, 1, 2047}}},
-    {"a full table, its last row to 200", 200, 2047, {{1}, {-1, 200}}, {0}, {{1, 1, 0}, {200, 2, 2047}}},
-    {"a full table, its last row to -200", 200, 2047, {{-199, 200}, {-200}}, {0}, {{-200, 1, 2047}, {-199, 2, 0}}},
-    {"a full table of one row", 200, 2048, {{-193, -194, -195, -196, -197, -198, -199, -200}}, {200}, {{200, 0, NONE}}},
+     {{1, 0, NONE}, {2, 0, NONE}, {3, 0, NONE}, {4, 0, NONE}, {5, 0, NONE}, {6, 0, NONE}, {7, 0, NONE}, {8, 1, 0}}, {0}},
+    {"one literal in every row of a full table", 200, 2047, {{-1, 2}, {-1, 3}}, {1}, {{1, 0, NONE}, {2, 1, 0}, {3, 1, 2047}}, {0}},
+    {"a full table, its last row to 200", 200, 2047, {{1}, {-1, 200}}, {0}, {{1, 1, 0}, {200, 2, 2047}}, {0}},
+    {"a full table, its last row to -200", 200, 2047, {{-199, 200}, {-200}}, {0}, {{-200, 1, 2047}, {-199, 2, 0}}, {0}},
+    {"a full table of one row", 200, 2048, {{-193, -194, -195, -196, -197, -198, -199, -200}}, {200}, {{200, 0, NONE}}, {0}},
+    {"a conflict of 6 that leads to one of 1", 6, 1, {{-3, 6}, {-4, -6}, {5, -6}, {1, -2, -5}, {-1, 6}}, {2, 3, 4},
+     {{2, 0, NONE}, {3, 0, NONE}, {4, 0, NONE}, {6, 1, 0}, {-6, 1, 1}, {-1, 2, 4}, {-3, 2, 0}, {-4, 2, 1}, {5, 2, 2}, {1, 3, 3}, {-2, 3, 3},
+      {-5, 3, 3}}, {3, 4}},
+    {"the same with every sign turned", 6, 1, {{3, -6}, {4, 6}, {-5, 6}, {-1, 2, 5}, {1, -6}}, {-2, -3, -4},
+     {{-2, 0, NONE}, {-3, 0, NONE}, {-4, 0, NONE}, {-6, 1, 0}, {6, 1, 1}, {1, 2, 4}, {3, 2, 0}, {4, 2, 1}, {-5, 2, 2}, {-1, 3, 3}, {2, 3, 3},
+      {5, 3, 3}}, {-3, -4}},
+    {"two symbols with both signs held", 3, 1, {{0}}, {2, -2, 3, -3}, {{2, 0, NONE}, {-2, 0, NONE}, {3, 0, NONE}, {-3, 0, NONE}}, {2, -2}},
+    {"conflicts of 2 and 3 in one round, of 1 in a later one", 7, 1, {{2, -4}, {-2, -5}, {3, -6}, {-3, -7}, {1, -3}, {-1, 2}}, {4, 5, 6, 7},
+     {{4, 0, NONE}, {5, 0, NONE}, {6, 0, NONE}, {7, 0, NONE}, {2, 1, 0}, {-2, 1, 1}, {3, 1, 2}, {-3, 1, 3}, {1, 2, 4}, {-1, 2, 5}, {-4, 2, 0},
+      {-5, 2, 1}, {-6, 2, 2}, {-7, 2, 3}}, {4, 5}},
+    {"conflicts of 2 and 3 in one round, 3 held", 6, 1, {{2, -4}, {-2, -5}, {-3, -6}}, {3, 4, 5, 6},
+     {{3, 0, NONE}, {4, 0, NONE}, {5, 0, NONE}, {6, 0, NONE}, {2, 1, 0}, {-2, 1, 1}, {-3, 1, 2}, {-6, 1, 2}, {-4, 2, 0}, {-5, 2, 1}}, {4, 5}},
+    {"conflicts of 2 and 3 in one round, -2 held", 6, 1, {{3, -4}, {-3, -5}, {2, -6}}, {-2, 4, 5, 6},
+     {{-2, 0, NONE}, {4, 0, NONE}, {5, 0, NONE}, {6, 0, NONE}, {3, 1, 0}, {-3, 1, 1}, {2, 1, 2}, {-6, 1, 2}, {-4, 2, 0}, {-5, 2, 1}}, {-2, 6}},
+    {"both signs of 2 held, 1 in conflict in the first round", 3, 1, {{1, -3}, {-1, -3}}, {2, -2, 3},
+     {{2, 0, NONE}, {-2, 0, NONE}, {3, 0, NONE}, {1, 1, 0}, {-1, 1, 1}, {-3, 2, 0}}, {2, -2}},
+    {"two rules against each other", 1, 1, {{1}, {-1}}, {0}, {{1, 1, 0}, {-1, 1, 1}}, {0}},
+    {"two rules against each other, and two premises in a round before", 2, 1, {{1}, {-1}}, {2, -2},
+     {{2, 0, NONE}, {-2, 0, NONE}, {1, 1, 0}, {-1, 1, 1}}, {2, -2}},
+    {"two rules against each other, and a premise in a later conflict", 3, 1, {{2}, {-2}, {1, -3}, {-1, 2}}, {3},
+     {{3, 0, NONE}, {2, 1, 0}, {-2, 1, 1}, {1, 1, 2}, {-1, 2, 3}, {-3, 3, 2}}, {0}},
 };
 
-/* Plays one step and counts it. */
-static bool make(Play *play, const Step *step) {
-    if (!play_step(play, step)) return false;
-    cover_step(play, step);
-    return play->last.refusal == 0;
+/* Makes a call with the whole table and ample tables to write, and counts it; false where the sides differ. */
+static bool call(Play *play, Kind kind, int value) {
+    size_t first = kind == SETTLE ? MOST_SYMBOLS : PLACES;
+    Step step = {.kind = kind, .value = value, .numbers = WIDTH * MOST_ROWS, .lent = {first, PLACES, PLACES}};
+    if (!play_step(play, &step)) return false;
+    cover_step(play, &step);
+    return true;
+}
+
+/* Makes a call that has to be done. */
+static bool make(Play *play, Kind kind, int value) {
+    return call(play, kind, value) && play->last.refusal == 0;
 }
 
 /* Adds a row of the caller's. */
@@ -64,24 +97,24 @@ static void append(Play *play, const int16_t *row) {
     cover_step(play, &step);
 }
 
+/* Adds a link of a chain: a symbol implies the next one. */
+static void append_link(Play *play, unsigned from) {
+    append(play, (int16_t[WIDTH]){(int16_t)-(int)from, (int16_t)(from + 1)});
+}
+
 /* Opens the board, with its rows and premises. */
 static bool set_up(Play *play, const Try *try) {
-    Step open = {.kind = OPEN, .value = (int)try->symbols};
-    bool good = make(play, &open);
+    bool good = make(play, OPEN, (int)try->symbols);
     for (unsigned n = 1; n < try->times; n++) append(play, try->row[0]);
     for (unsigned r = 0; r < TRY_ROWS && try->row[r][0] != 0; r++) append(play, try->row[r]);
-    for (unsigned i = 0; i < TRY_HELD && try->held[i] != 0; i++) {
-        Step hold = {.kind = HOLD, .value = try->held[i], .numbers = WIDTH * MOST_ROWS};
-        good = good && make(play, &hold);
-    }
+    for (unsigned i = 0; i < TRY_HELD && try->held[i] != 0; i++) good = good && make(play, HOLD, try->held[i]);
     return good;
 }
 
 /* True if settle gives the ranks and supports that were worked out, and no others. */
 static bool settles(Play *play, const Try *try) {
-    Step settle = {.kind = SETTLE, .numbers = WIDTH * MOST_ROWS, .lent = {MOST_SYMBOLS, PLACES, PLACES}};
     unsigned rank[PLACES], support[PLACES];
-    bool good = make(play, &settle);
+    bool good = make(play, SETTLE, 0);
     for (unsigned p = 0; p < PLACES; p++) rank[p] = support[p] = NONE;
     for (unsigned i = 0; i < TRY_FOUND && try->found[i].literal != 0; i++) {
         rank[place_of(try->found[i].literal)] = try->found[i].rank;
@@ -92,35 +125,47 @@ static bool settles(Play *play, const Try *try) {
     return good;
 }
 
-/* Asks, explains and grounds every literal of the board, and blames; the two sides have to agree. */
+/* Asks, explains and grounds every literal of the board; the two sides have to agree. */
 static bool follows(Play *play, const Try *try) {
     static const Kind kinds[] = {ASK, EXPLAIN, GROUND};
     bool good = true;
-    for (unsigned p = 0; p < 2 * try->symbols && good; p++) {
-        for (unsigned k = 0; k < 3 && good; k++) {
-            Step step = {.kind = kinds[k], .value = literal_at(p), .numbers = WIDTH * MOST_ROWS, .lent = {PLACES}};
-            good = play_step(play, &step);
-            if (good) cover_step(play, &step);
-        }
-    }
-    Step blame = {.kind = BLAME, .numbers = WIDTH * MOST_ROWS, .lent = {PLACES}};
-    good = good && play_step(play, &blame);
-    if (good) cover_step(play, &blame);
+    for (unsigned p = 0; p < 2 * try->symbols && good; p++)
+        for (unsigned k = 0; k < 3 && good; k++) good = call(play, kinds[k], literal_at(p));
     return good;
+}
+
+/* True if the last call was done and marked these premises, so many at most, and no others. */
+static bool marked(const Play *play, const int *premises, unsigned most) {
+    uint8_t marks[PLACES] = {0};
+    for (unsigned i = 0; i < most && premises[i] != 0; i++) marks[place_of(premises[i])] = 1;
+    return play->last.refusal == 0 && memcmp(play->ours.marks + GUARD, marks, 2 * play->board.symbols) == 0;
+}
+
+/* True if some literal and its opposite are among those worked out. */
+static bool in_conflict(const Try *try) {
+    bool found[PLACES] = {false}, both = false;
+    for (unsigned i = 0; i < TRY_FOUND && try->found[i].literal != 0; i++) {
+        found[place_of(try->found[i].literal)] = true;
+        both |= found[place_of(-try->found[i].literal)];
+    }
+    return both;
+}
+
+/* True if blame is refused where there is no conflict, and otherwise marks the premises that were worked out. */
+static bool blames(Play *play, const Try *try) {
+    return call(play, BLAME, 0) && (in_conflict(try) ? marked(play, try->blamed, TRY_HELD) : play->last.refusal == 12);
 }
 
 /* A chain over all symbols in a full table, each link many times over, and a last row that leads back along the opposites: s has rank s - 1 and -s
  * rank 399 - s, both by the first row of their link, but -200 by the last row. */
 static bool try_full_chain(Play *play) {
     const unsigned links = MOST_SYMBOLS - 1, turn = MOST_ROWS - 1;
-    Step open = {.kind = OPEN, .value = MOST_SYMBOLS}, hold = {.kind = HOLD, .value = 1, .numbers = WIDTH * MOST_ROWS};
-    Step settle = {.kind = SETTLE, .numbers = WIDTH * MOST_ROWS, .lent = {MOST_SYMBOLS, PLACES, PLACES}};
     const uint16_t *ranks = play->ours.ranks + GUARD, *supports = play->ours.supports + GUARD;
     play_start(play, 8, true);
-    bool good = make(play, &open);
-    for (unsigned r = 0; r < turn; r++) append(play, (int16_t[WIDTH]){(int16_t)-(int)(r % links + 1), (int16_t)(r % links + 2)});
+    bool good = make(play, OPEN, MOST_SYMBOLS);
+    for (unsigned r = 0; r < turn; r++) append_link(play, r % links + 1);
     append(play, (int16_t[WIDTH]){-199, -200});
-    good = good && make(play, &hold) && make(play, &settle);
+    good = good && make(play, HOLD, 1) && make(play, SETTLE, 0);
     for (unsigned s = 1; s <= MOST_SYMBOLS && good; s++) {
         unsigned plus = place_of((int)s), minus = place_of(-(int)s);
         good = ranks[plus] == s - 1 && supports[plus] == (s == 1 ? NONE : s - 2) && ranks[minus] == 399 - s &&
@@ -129,18 +174,37 @@ static bool try_full_chain(Play *play) {
     return good;
 }
 
+/* A chain from 2 on and back: s has rank s - 2 and -s rank 398 - s, so that 200 is in conflict first, in round 198. 1 is held, and -1 has rank 256 by
+ * -143 and -144: cut to a byte it would be the smallest of all. */
+static bool try_high_ranks(Play *play) {
+    const uint16_t *ranks = play->ours.ranks + GUARD;
+    play_start(play, 8, true);
+    bool good = make(play, OPEN, MOST_SYMBOLS);
+    for (unsigned s = 2; s < MOST_SYMBOLS; s++) append_link(play, s);
+    append(play, (int16_t[WIDTH]){-199, -200});
+    append(play, (int16_t[WIDTH]){-1, 143, 144});
+    good = good && make(play, HOLD, 1) && make(play, HOLD, 2) && make(play, SETTLE, 0) && ranks[place_of(1)] == 0 && ranks[place_of(-1)] == 256;
+    for (unsigned s = 2; s <= MOST_SYMBOLS && good; s++) good = ranks[place_of((int)s)] == s - 2 && ranks[place_of(-(int)s)] == 398 - s;
+    return good && call(play, BLAME, 0) && marked(play, (int[]){2}, 1);
+}
+
 /* Says which board went wrong, and how; false, so that the caller can return it. */
 static bool wrong(const Play *play, const char *words) {
     printf("second: not as worked out by hand: %s; %s\n", words, play->difference[0] != 0 ? play->difference : "by the model");
     return false;
 }
 
+/* True if a board comes out as it was worked out; literal by literal too, where that is not too long. */
+static bool board_agrees(Play *play, const Try *try) {
+    play_start(play, 8, true);
+    bool good = set_up(play, try) && settles(play, try) && (try->times > 1 || follows(play, try)) && blames(play, try);
+    return good || wrong(play, try->words);
+}
+
 /* True if all boards come out as they were worked out. */
 bool row_tries_agree(Play *play) {
-    for (size_t i = 0; i < sizeof tries / sizeof tries[0]; i++) {
-        play_start(play, 8, true);
-        if (!set_up(play, &tries[i]) || !settles(play, &tries[i])) return wrong(play, tries[i].words);
-        if (tries[i].times == 1 && !follows(play, &tries[i])) return wrong(play, tries[i].words);
-    }
-    return try_full_chain(play) || wrong(play, "a chain over all symbols and back in a full table");
+    for (size_t i = 0; i < sizeof tries / sizeof tries[0]; i++)
+        if (!board_agrees(play, &tries[i])) return false;
+    return (try_full_chain(play) || wrong(play, "a chain over all symbols and back in a full table")) &&
+           (try_high_ranks(play) || wrong(play, "a chain and back, ranks of more than a byte"));
 }

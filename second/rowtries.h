@@ -1,4 +1,4 @@
-/* Boards whose ranks and supports were worked out by hand from document 01, on both sides. */
+/* Boards whose ranks, supports and premises to blame were worked out by hand from documents 01 and 02, on both sides. */
 #ifndef ROWTRIES_H
 #define ROWTRIES_H
 

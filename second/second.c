@@ -1,6 +1,6 @@
 /* The independent second program of Tupahineka: random sequences of calls, the library against the documents by brute force.
  *
- * Written from document 01, Tickets 1 and 2 of document 02 and include/tupahineka.h alone; no other code of the project was read for it.
+ * Written from document 01, Tickets 1, 2 and 4 of document 02 and include/tupahineka.h alone; no other code of the project was read for it.
  *
  *   second SEED COUNT               plays COUNT sequences and compares everything after every call
  *   second show SEED NUMBER         prints sequence NUMBER in words, by the model alone

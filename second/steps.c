@@ -154,6 +154,7 @@ bool play_step(Play *play, const Step *step) {
     if (play->with_library) {
         play->library_last = library_call(step, &play->library_board, &play->theirs);
         if (!same_everywhere(play, step, &play->last, &play->library_last)) return false;
+        if (step->kind == BLAME && play->last.refusal == 0 && !marks_are_enough(play, step)) return false;
     }
     keep_book(play, step, &play->last);
     play->demand_3 = step->kind == SETTLE && play->last.refusal == 0 && book_covers(play);

@@ -87,6 +87,7 @@ Outcome library_call(const Step *step, tup_board *board, Tables *tables);
 /* compare.c */
 bool same_everywhere(Play *play, const Step *step, const Outcome *ours, const Outcome *theirs);
 bool same_by_rules(Play *play);
+bool marks_are_enough(Play *play, const Step *step);
 
 /* words.c */
 const char *kind_word(Kind kind);

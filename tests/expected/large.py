@@ -1,5 +1,5 @@
 #!/usr/bin/env python3
-"""The boards of crates/large, worked out from document 01 alone."""
+"""The boards of crates/large, worked out from documents 01 and 02 alone."""
 import sys
 
 def place(l):
@@ -46,6 +46,10 @@ def reached(l, rows, rank, support, held, memo):
 def conflict(S, rank):
     return [s for s in range(1, S + 1) if s in rank and -s in rank]
 
+def blamed(symbols, rank):
+    """Of the symbols in conflict the one whose larger rank of its two literals is smallest, of equals the lowest, straight from 02's Ticket 4."""
+    return min(symbols, key=lambda s: (max(rank[s], rank[-s]), s))
+
 def sound(S, row):
     return 1 <= len(row) <= 8 and all(1 <= abs(l) <= S for l in row) and all(abs(a) < abs(b) for a, b in zip(row, row[1:]))
 
@@ -80,7 +84,8 @@ def line(rows, held, ask):
     text = " ".join(str(w) for w in words)
     text += f"; why {ask} ok rank {rank[ask]} row {r} {numbers(rows[r])}; ground {ask} in 400 marked {len(ground)}"
     if c:
-        blame = reached(c[0], rows, rank, support, held, memo) | reached(-c[0], rows, rank, support, held, memo)
+        s = blamed(c, rank)
+        blame = reached(s, rows, rank, support, held, memo) | reached(-s, rows, rank, support, held, memo)
         text += f"; blame in 400 marked {len(blame)}"
     else:
         text += "; blame in 400 no 12, as given"

@@ -2,7 +2,7 @@
 use mathlib.Core.Path.{_≡_, refl, sym, _∙_}
 use mathlib.Core.Bool.{Bool, false, _||_, or-self}
 use mathlib.Core.List.{List, _++_, map}
-use Prim.Native.Nat.{ℕ, suc, _+_, _-_, _*_, _/_, _≤_, _<_}
+use Prim.Native.Nat.{ℕ, suc, _+_, _-_, _*_, _≤_, _<_}
 use native.Mathlib.Omega.{arith}
 use borrow.Author.Tests.{lt-ltb, le-ltb}
 use lib.IntN.{ℤ}
@@ -13,9 +13,9 @@ use Rattle.meaning.specs.Ground.{reaches, ground, blame}
 use Rattle.meaning.proofs.Tables.{tabulate-same}
 use Rattle.literals.specs.Literal.{placeOf}
 use Rattle.literals.specs.declared.refusal.Refusal.{Refusal}
-use Rattle.rounds.specs.Ranks.{clashIn}
-use Rattle.rounds.specs.Reach.{reachedFrom, reachedAsked}
-use Rattle.rounds.proofs.Clashes.{blamed-is, conflict-some}
+use Rattle.findings.specs.Ranks.{clashIn, earliestIn}
+use Rattle.findings.specs.Reach.{reachedFrom, reachedAsked}
+use Rattle.findings.proofs.Clashes.{earliest-is-blamed, earliest-some}
 use Rattle.board.specs.Ranking.{rowsOn}
 use Rattle.board.specs.Grounds.{byteOf, groundOutcome, groundMarks, blameOutcome, blameMarks}
 use Rattle.board.specs.declared.Board.{Board}
@@ -38,11 +38,10 @@ asked-blame : (symbols : ℕ) (rows : List (List ℕ)) (held : List Bool) (p : �
     → reachedAsked (2 * symbols) rows held p ≡ blame symbols rows held
 unfolding reachedAsked reachedFrom blame
 asked-blame symbols rows held p small high some =
-    let s = first (clashIn (ranksOf (2 * symbols) rows held)) symbols in
-    let low = conflict-some symbols rows held small some .0 in
-    let half : 2 * symbols / 2 ≡ symbols = omega arith in
+    let s = earliestIn (ranksOf (2 * symbols) rows held) in
+    let low = earliest-some symbols rows held small some in
     let pair : 2 * (suc s - 1) ≡ 2 * s = omega arith in
-    rw (le-ltb p (2 * symbols) high, half, lt-ltb s none (omega (arith, low)), sym (blamed-is symbols rows held small), pair)
+    rw (le-ltb p (2 * symbols) high, lt-ltb s none (omega arith), ← earliest-is-blamed symbols rows held small, pair)
 
 module _ (table : List ℤ) (b : Board) (marks : List ℕ) where
   abbrev rows : List (List ℕ)

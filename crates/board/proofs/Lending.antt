@@ -16,7 +16,7 @@ use Rattle.board.specs.Ranking.{rowsOn, tooHigh, ranked}
 use Rattle.board.specs.declared.Board.{Board}
 use Rattle.board.specs.declared.ranking.Ranks.{Ranks}
 use Rattle.board.proofs.Goodness.{Good}
-use Rattle.rounds.proofs.RankTables.{length-ranksOf, getD-ranksOf}
+use Rattle.findings.proofs.RankTables.{length-ranksOf, getD-ranksOf}
 
 -- ---- lent to be filled
 

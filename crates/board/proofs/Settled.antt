@@ -8,9 +8,9 @@ use Rattle.meaning.specs.Tests.{none}
 use Rattle.meaning.specs.Rounds.{ranksOf, supportsOf, labelsOf}
 use Rattle.meaning.proofs.Tables.{length-tabulate}
 use Rattle.literals.specs.declared.refusal.Refusal.{Refusal}
-use Rattle.rounds.specs.Ranks.{labelsFrom}
-use Rattle.rounds.proofs.RankTables.{length-ranksOf}
-use Rattle.rounds.proofs.Final.{labelsFrom-is}
+use Rattle.findings.specs.Ranks.{labelsFrom}
+use Rattle.findings.proofs.RankTables.{length-ranksOf}
+use Rattle.findings.proofs.Final.{labelsFrom-is}
 use Rattle.board.specs.Ranking.{rowsOn}
 use Rattle.board.specs.Settling.{settleOutcome, settledLabels, settledRanks, settledSupports}
 use Rattle.board.specs.declared.Board.{Board}

@@ -10,9 +10,9 @@ use lib.Seq.{length-take-le}
 use Rattle.meaning.specs.Tests.{none}
 use Rattle.meaning.specs.Rounds.{ranksOf, rankAbove}
 use Rattle.literals.specs.Row.{Fit}
-use Rattle.rounds.specs.Reach.{reachedAsked}
-use Rattle.rounds.proofs.Filling.{part-same}
-use Rattle.rounds.proofs.RankTables.{length-ranksOf}
+use Rattle.findings.specs.Reach.{reachedAsked}
+use Rattle.findings.proofs.Filling.{part-same}
+use Rattle.findings.proofs.RankTables.{length-ranksOf}
 use Rattle.board.specs.Ranking.{rowsOn, tooHigh}
 use Rattle.board.specs.declared.Board.{Board}
 use Rattle.board.proofs.Goodness.{Good}

@@ -1,13 +1,12 @@
 -- Ground and blame: they write "2S bytes in the places that ranks use, 1 for each premise reached .., else 0".
 use Prim.Native.Nat.{ℕ, _*_}
-use mathlib.Core.Bool.{Bool, cond, not, _||_}
+use mathlib.Core.Bool.{Bool, cond, not}
 use mathlib.Core.List.{List, [], _∷_, map}
 use lib.Dec.{leb}
 use lib.IntN.{ℤ}
 use lib.ListN.{length}
-use Rattle.meaning.specs.Tests.{tabulate}
 use Rattle.meaning.specs.Literals.{has, conflict}
-use Rattle.meaning.specs.Ground.{reaches, ground, blame}
+use Rattle.meaning.specs.Ground.{ground, blame}
 use Rattle.literals.specs.Literal.{inRange, placeOf}
 use Rattle.literals.specs.declared.refusal.Refusal.the-variants.{BadBoard, BadLiteral, TableTooShort, RankTooHigh, NothingToShow}
 use Rattle.board.specs.Faults.{goodBoard, Fault, firstFault}
@@ -20,12 +19,6 @@ use Rattle.board.specs.declared.Outcome.{Outcome}
 -- a premise that is reached as a byte
 abbrev pub byteOf : Bool → ℕ
 byteOf reached = cond reached 1 0
-
--- the premises that one of two literals reaches
-unfoldable pub reachedOn : List ℤ → Board → (p q : ℕ) → List Bool
-reachedOn table b p q =
-    tabulate (2 * b .symbols)
-    (λ h. reaches (2 * b .symbols) (rowsOn table b) (b .held) p h || reaches (2 * b .symbols) (rowsOn table b) (b .held) q h)
 
 -- 12: "ground: not derived"; `lent` is how many places are lent
 unfoldable pub groundFaults : List ℤ → Board → ℤ → (lent : ℕ) → List Fault

@@ -6,16 +6,16 @@ ghost use lib.IntN.{natAbs};
 ghost use lib.ListN.{length};
 ghost use Rattle.meaning.specs.Tests.{none};
 ghost use Rattle.literals.specs.Literal.{placeOf};
-ghost use Rattle.rounds.specs.Ranks.{below};
+ghost use Rattle.findings.specs.Ranks.{below};
 ghost use Rattle.board.specs.Asking.{standing, asked, reasoned, explained, IsPart};
 use crate::Board;
 use crate::Outcome;
 use crate::ranking::ranks_on;
 use crate::testing::Placed;
 use crate::testing::place_on;
+use findings::NONE;
 use literals::WIDTH;
 use literals::refusal::Refusal;
-use rounds::NONE;
 
 // How a literal stands.
 pub enum Standing {
@@ -38,7 +38,7 @@ fn standing_by(ranks: &[u16], l: i16) -> Standing
     requires { ⌜ (1 ≤ natAbs l) × (2 * natAbs l ≤ length (now ranks)) × (length (now ranks) ≤ 400) ⌝ }
     ensures { λ r. ⌜ r ≡ standing (below none (now (ranks .entry))) (placeOf l) ⌝ }
 {
-    if rounds::labels::first_clash(ranks) != NONE as usize {
+    if findings::labels::first_clash(ranks) != NONE as usize {
         return Standing::Conflict;
     }
     if ranks[literals::place(l)] < NONE {

@@ -10,8 +10,8 @@ use crate::Outcome;
 use crate::testing::Placed;
 use crate::testing::good;
 use crate::testing::place_on;
+use findings::NONE;
 use literals::refusal::Refusal;
-use rounds::NONE;
 
 // Writes 1 for each premise reached and 0 for every other place over the front of `marks`.
 fn write_marks(reached: &[bool], marks: &mut [u8])
@@ -61,7 +61,7 @@ pub fn ground(board: Board, table: &[i16], l: i16, marks: &mut [u8]) -> Outcome
     }
 }
 
-// Marks the premises that the lowest symbol with label 3 stands on, by either of its literals: `trace` is given no place.
+// Marks the premises that the symbol that blame takes stands on, by either of its literals: `trace`, given no place, finds it.
 pub fn blame(board: Board, table: &[i16], marks: &mut [u8]) -> Outcome
     ensures { λ r. ⌜ r ≡ blameOutcome (now (table .entry)) board (now (marks .entry)) ⌝ }
     ensures { λ _. ⌜ now (marks .exit) ≡ blameMarks (now (table .entry)) board (now (marks .entry)) ⌝ }
@@ -87,7 +87,7 @@ pub fn blame(board: Board, table: &[i16], marks: &mut [u8]) -> Outcome
     if high {
         return Outcome::Refused(Refusal::RankTooHigh);
     }
-    if rounds::labels::first_clash(&ranks[..places]) == NONE as usize {
+    if findings::labels::first_clash(&ranks[..places]) == NONE as usize {
         return Outcome::Refused(Refusal::NothingToShow);
     }
     write_marks(&reached[..places], marks);

@@ -9,7 +9,7 @@ ghost use Rattle.meaning.specs.Rounds.{supportOf};
 ghost use Rattle.board.specs.Faults.{goodBoard};
 ghost use Rattle.board.specs.Ranking.{rowsOn, ranked};
 use crate::Board;
-use rounds::NONE;
+use findings::NONE;
 
 // Whether a rank would be too high, and a rank for each of the board's places, with 65535 after them.
 pub struct Ranks {

@@ -41,6 +41,6 @@ pub fn settle(
     if high {
         return Outcome::Refused(Refusal::RankTooHigh);
     }
-    rounds::labels::write_labels(&ranks[..places], &mut labels[..symbols]);
+    findings::labels::write_labels(&ranks[..places], &mut labels[..symbols]);
     Outcome::Done
 }

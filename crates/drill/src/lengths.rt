@@ -39,7 +39,8 @@ fn settles() {
     settle(with(boards::clash(), 0), 4, 8, 8);
 }
 
-// A literal that stands, one that does not, and 0; then conflicts of 3 with -3 and of 1 with -2.
+// A literal that stands, one that does not, and 0; then conflicts of 3 with -3 and of 1 with -2. Of both, that of 3 is blamed, which is not the
+// lowest symbol but the first in conflict; of 3 and 4, each held both ways, the lower one.
 fn marks() {
     let b = boards::both();
     mark(b, 4, 7);
@@ -50,6 +51,8 @@ fn marks() {
     mark(boards::clash(), -3, 7);
     mark(boards::clash(), -3, 8);
     mark(with(with(boards::none(), 0), 3), -1, 410);
+    mark(with(with(boards::clash(), 0), 3), -1, 8);
+    mark(with(with(boards::clash(), 6), 7), -4, 8);
 }
 
 // Rows 2 to 3, 1 to 3, 1 to 2. Support is the lowest row that gives the rank, not the lowest that ever fires.

@@ -46,8 +46,8 @@ pub fn opposite(l: i16) -> i16
 }
 
 // The place of a literal that was tested: +s stands at 2(s - 1), -s right after it. Every literal of every round passes here, so it
-// is worked out in 64 bits, where the sign costs no branch. `rounds` and `board` test the literal itself or the row that it
-// stands in.
+// is worked out in 64 bits, where the sign costs no branch. `board` tests the literal itself; `index`, `findings` and `rounds` are
+// lent rows that it tested.
 pub fn place(l: i16) -> usize
     requires { ⌜ (1 ≤ natAbs l) × (natAbs l ≤ 200) ⌝ }
     ensures { λ r. ⌜ r ≡ placeOf l ⌝ }

@@ -1,15 +1,17 @@
--- 01's boards: what 01 says of each board "Marked P: to be proved" and of the journal's, and that the definitions say the same.
+-- 01's boards: what 01 says of each board "Marked P: to be proved" and of the journal's, and that the definitions say the same; and two of 02's
+-- Ticket 4.
 use mathlib.Core.Path.{_≡_, refl}
 use mathlib.Core.Bool.{Bool, true, false, cond}
 use mathlib.Core.List.{List, [], _∷_, map}
 use Prim.Native.Nat.{ℕ, suc, _*_}
+use lib.Dec.{eqb}
 use lib.ListN.{getD, set}
-use Rattle.meaning.specs.Tests.{tabulate, keep, from}
+use Rattle.meaning.specs.Tests.{tabulate, keep, from, first}
 use Rattle.meaning.specs.Literals.{place, opp, has, conflict}
 use Rattle.meaning.specs.Formulae.{Formula, symbol, neg, and, or, imp, same, value, occurs, symbolsOf, ruleOf}
 use Rattle.meaning.specs.Clauses.{hit, implicate, prime, ofSize, rowsOf, allRows, satisfiable}
-use Rattle.meaning.specs.Rounds.{gives, next, reached, rankBy, firstGiver, supportAt, label, rankOf, supportOf}
-use Rattle.meaning.specs.Ground.{reachesIn, reaches, ground, blamed, blame}
+use Rattle.meaning.specs.Rounds.{gives, next, reached, derived, rankBy, firstGiver, supportAt, label, rankOf, supportOf}
+use Rattle.meaning.specs.Ground.{reachesIn, reaches, ground, largerRank, blamed, blame}
 use Rattle.meaning.specs.SecondWay.{rulesOf, forces, firstWay, secondWay}
 
 -- ---- what is asked of a board, and what the answers are
@@ -39,8 +41,10 @@ data Question : Type 0 where
   -- why does a derived literal that is not held stand, and which premises does it stand on?
   explained : Board → ℕ → Question
   grounded : Board → ℕ → Question
-  -- which premises does the conflict stand on?
+  -- which premises does the conflict stand on? Which symbol does blame take, and which would it take by 01?
   blamed-on : Board → Question
+  takes : Board → Question
+  took : Board → Question
 
 data Answer : Type 0 where
   -- the rows, or the number of the refusal
@@ -53,6 +57,8 @@ data Answer : Type 0 where
   rank-row : ℕ → ℕ → List ℕ → Answer
   -- the literals marked
   marks : List ℕ → Answer
+  -- the symbol, and the ranks of its two literals
+  taken : ℕ → ℕ → ℕ → Answer
 
 -- ---- the answers by the definitions
 
@@ -74,6 +80,12 @@ found S known =
 marked : ℕ → List Bool → Answer
 marked S set = marks (keep (has set) (from 0 (2 * S)))
 
+-- the symbol s is taken
+ranked : Board → ℕ → Answer
+ranked (board S fs calls) s =
+    let b = board S fs calls in
+    taken s (rankOf (2 * S) (rows b) (held b) (plus s)) (rankOf (2 * S) (rows b) (held b) (minus s))
+
 tell : Question → Answer
 tell (rule S f) = cond (satisfiable (ruleOf S f)) (appends (rowsOf (ruleOf S f))) (refused 8)
 tell (settled (board S fs calls)) = found S (firstWay S fs (held (board S fs calls)))
@@ -83,6 +95,11 @@ tell (explained (board S fs calls) p) =
     let r = supportOf (2 * S) (rows b) (held b) p in rank-row (rankOf (2 * S) (rows b) (held b) p) r (getD (rows b) r [])
 tell (grounded (board S fs calls) p) = let b = board S fs calls in marked S (ground (2 * S) (rows b) (held b) p)
 tell (blamed-on (board S fs calls)) = let b = board S fs calls in marked S (blame S (rows b) (held b))
+tell (takes (board S fs calls)) = let b = board S fs calls in ranked b (blamed S (rows b) (held b))
+-- 01's sentence, which Ticket 4 replaced: "the lowest s with label 3"
+tell (took (board S fs calls)) =
+    let b = board S fs calls in
+    ranked b (suc (first (λ i. eqb (label (derived (2 * S) (rows b) (held b)) (suc i)) 3) S))
 
 -- ---- the boards
 
@@ -98,6 +115,12 @@ three = symbol 3
 abbrev four : Formula
 four = symbol 4
 
+abbrev five : Formula
+five = symbol 5
+
+abbrev six : Formula
+six = symbol 6
+
 -- the boards that more than one question is asked of
 abbrev apart : Board
 apart = board 2 (imp one two ∷ imp (neg one) two ∷ []) []
@@ -110,6 +133,15 @@ circle calls = board 2 (imp one two ∷ imp two one ∷ []) calls
 
 abbrev both : Board
 both = board 3 [] (hold (plus 3) ∷ hold (minus 3) ∷ [])
+
+-- 3 and 4 are held and say opposite things of 6; what follows from them, with 2 held, says opposite things of 1
+abbrev consequence : Board
+consequence =
+    board 6 (imp three six ∷ imp four (neg six) ∷ imp six five ∷ imp (and five two) one ∷ imp (neg six) (neg one) ∷ [])
+    (hold (plus 2) ∷ hold (plus 3) ∷ hold (plus 4) ∷ [])
+
+abbrev equals : Board
+equals = board 4 (imp four one ∷ imp four (neg one) ∷ []) (hold (plus 3) ∷ hold (minus 3) ∷ hold (plus 2) ∷ hold (minus 2) ∷ hold (plus 4) ∷ [])
 
 abbrev journal : List Call → Board
 journal calls = board 4 (imp one two ∷ imp (and two three) four ∷ []) calls
@@ -141,6 +173,19 @@ boards =
     -- "hold 3 and −3: label 3, conflict, blame marks both."
     ∷ (settled both, conflict-with-labels (0 ∷ 0 ∷ 3 ∷ []))
     ∷ (blamed-on both, marks (plus 3 ∷ minus 3 ∷ []))
+    -- 02, Ticket 4: "blame points at consequences of a conflict. Blame shall take, among symbols with label 3, the one whose larger rank of its
+    -- two literals is smallest": 6 and not 1, so that 2 is not blamed
+    ∷ (settled consequence, conflict-with-labels (3 ∷ 3 ∷ 3 ∷ 3 ∷ 3 ∷ 3 ∷ []))
+    ∷ (took consequence, taken 1 3 2)
+    ∷ (takes consequence, taken 6 1 1)
+    ∷ (grounded consequence (plus 1), marks (plus 2 ∷ plus 3 ∷ []))
+    ∷ (grounded consequence (minus 1), marks (plus 4 ∷ []))
+    ∷ (blamed-on consequence, marks (plus 3 ∷ plus 4 ∷ []))
+    -- "and of equals the lowest symbol": 2 and 3 are in conflict at rank 0, 1 at rank 1
+    ∷ (settled equals, conflict-with-labels (3 ∷ 3 ∷ 3 ∷ 3 ∷ []))
+    ∷ (took equals, taken 1 1 1)
+    ∷ (takes equals, taken 2 0 0)
+    ∷ (blamed-on equals, marks (plus 2 ∷ minus 2 ∷ []))
     -- the journal: "2 rule rows 0 1", "3 rule rows 1 1", "6 ask stands", "7 why rank 2 row 1: -2 -3 4", of the literal 4
     ∷ (rule 4 (imp one two), appends ((minus 1 ∷ plus 2 ∷ []) ∷ []))
     ∷ (rule 4 (imp (and two three) four), appends ((minus 2 ∷ minus 3 ∷ plus 4 ∷ []) ∷ []))
@@ -155,7 +200,7 @@ boards =
     ∷ (second-way (journal (hold (plus 1) ∷ hold (plus 3) ∷ withdraw (plus 1) ∷ hold (minus 3) ∷ [])), conflict-with-labels (3 ∷ 3 ∷ 3 ∷ 3 ∷ []))
     ∷ []
 
--- the definitions answer each question as 01 does
+-- the definitions answer each question as 01 does, and as 02 does for blame; what blame took before is answered by 01's sentence
 boards-hold : map (λ b. tell (b .0)) boards ≡ map (λ b. b .1) boards
-unfolding tell called held rows found marked opp value occurs symbolsOf hit implicate prime ofSize gives next reached rankBy firstGiver supportAt supportOf reachesIn reaches ground blamed blame forces
+unfolding tell called held rows found marked ranked opp value occurs symbolsOf hit implicate prime ofSize gives next reached rankBy firstGiver supportAt supportOf reachesIn reaches ground largerRank blamed blame forces
 boards-hold = refl

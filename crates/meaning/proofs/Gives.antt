@@ -7,10 +7,9 @@ use Prim.Native.Nat.{ℕ}
 use lib.Dec.{eqb}
 use borrow.Author.Tests.{eqb-true, eq-eqb}
 use Rattle.meaning.specs.Tests.{all, member}
-use Rattle.meaning.specs.Literals.{opp, has}
+use Rattle.meaning.specs.Literals.{opp, has, Within}
 use Rattle.meaning.specs.Rounds.{gives}
 use Rattle.meaning.proofs.Tests.{both-true, and-intro, one-true, or-left, or-right, all-at, all-of, member-in, in-member}
-use Rattle.meaning.proofs.Literals.{Within}
 
 pub gives-words : (known : List Bool) (row : List ℕ) (p : ℕ) → gives known row p ≡ true
     → In p row × ((q : ℕ) → In q row → (q ≡ p) ⊎ (has known (opp q) ≡ true))

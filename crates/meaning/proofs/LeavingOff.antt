@@ -12,13 +12,13 @@ use lib.ListN.{length, set, length-set}
 use lib.Seq.{getD-set-same, getD-set-other}
 use borrow.Author.Tests.{eqb-true, eqb-false, not-true}
 use Rattle.meaning.specs.Tests.{any, keep, from}
-use Rattle.meaning.specs.Literals.{opp, has, conflict}
+use Rattle.meaning.specs.Literals.{opp, has, Within, conflict}
 use Rattle.meaning.specs.Rounds.{gives, byRows, reached, derived}
 use Rattle.meaning.specs.LeavingOff.{constraints, violated, violation, WorksTo, start, work, LeavesOff}
 use Rattle.meaning.specs.Promises.{BothFind, WorkEnds}
 use Rattle.meaning.proofs.Tests.{true-or-false, both-true, and-intro, not-intro, clash, any-found, any-at, all-at, all-of, in-keep, keep-in, from-in, in-from}
 use Rattle.meaning.proofs.Tables.{length-tabulate, getD-tabulate}
-use Rattle.meaning.proofs.Literals.{Within, has-below, opp-even, opp-odd, even-or-odd, conflict-at, conflict-found}
+use Rattle.meaning.proofs.Literals.{has-below, opp-even, opp-odd, even-or-odd, conflict-at, conflict-found}
 use Rattle.meaning.proofs.Rounds.{count, count-le, fewer, reached-length, closed, premises-in, start-cases, closure-least}
 use Rattle.meaning.proofs.Gives.{gives-words, gives-of, gives-grow}
 use Rattle.meaning.proofs.Ways.{rows-grow}

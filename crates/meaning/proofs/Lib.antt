@@ -17,6 +17,8 @@ pub mod Ranks
 pub mod Supports
 pub mod Reach
 pub mod Derived
+mod Standing
+pub mod Blame
 mod Ways
 mod Reason
 mod LeavingOff

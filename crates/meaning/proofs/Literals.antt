@@ -3,13 +3,13 @@ use mathlib.Core.Path.{_≡_, refl}
 use mathlib.Core.Logic.{_⊎_, inl, inr, ⊎-elim}
 use mathlib.Core.Bool.{Bool, true, false, not, _&&_, false≢true}
 use mathlib.Core.List.{List, [], _∷_}
-use Prim.Native.Nat.{ℕ, zero, suc, _+_, _-_, _*_, _%_, _≤_, _<_, zero-le, suc-le-suc}
+use Prim.Native.Nat.{ℕ, zero, suc, _+_, _-_, _*_, _/_, _%_, _≤_, _<_, zero-le, suc-le-suc}
 use native.Mathlib.Omega.{arith}
 use lib.Dec.{eqb}
 use lib.ListN.{length}
 use lib.Seq.{ext-getD}
 use borrow.Author.Tests.{eq-eqb, ne-eqb, eqb-true, eqb-false}
-use Rattle.meaning.specs.Literals.{place, opp, has, conflict}
+use Rattle.meaning.specs.Literals.{place, opp, has, Within, conflict}
 use Rattle.meaning.proofs.Tests.{true-or-false, both-true, and-intro, one-true, or-left, or-right, clash, same-test}
 
 -- ---- the opposite place
@@ -59,10 +59,6 @@ place-same s t false false h g e = (omega arith, refl)
 
 -- ---- sets of literals
 
--- every literal of the first set is in the second
-abbrev pub Within : List Bool → List Bool → Type 0
-Within a b = (p : ℕ) → has a p ≡ true → has b p ≡ true
-
 pub has-below : (known : List Bool) (p : ℕ) → has known p ≡ true → p < length known
 has-below [] p e = absurd (false≢true e)
 has-below (x ∷ known) zero e = suc-le-suc zero-le
@@ -91,6 +87,18 @@ conflict-found (a ∷ b ∷ known) e = go (one-true (a && b) (conflict known) e)
         → (p : ℕ) × (has (a ∷ b ∷ known) p ≡ true) × (has (a ∷ b ∷ known) (opp p) ≡ true)
     go (inl h) ih = let r = both-true a b h in (zero, r .0, rw (opp-even 0 refl) (r .1))
     go (inr h) ih = let r = ih h in (suc (suc (r .0)), r .1, rw (opp-on (r .0)) (r .2))
+
+-- both literals of some symbol, counted from 0
+pub conflict-pair : (known : List Bool) → conflict known ≡ true → (s : ℕ) × (has known (2 * s) ≡ true) × (has known (2 * s + 1) ≡ true)
+conflict-pair known c = let r = conflict-found known c in let both = pair (r .0) (r .1) (r .2) in (r .0 / 2, both .0, both .1)
+  where
+    pair : (p : ℕ) → has known p ≡ true → has known (opp p) ≡ true → (has known (2 * (p / 2)) ≡ true) × (has known (2 * (p / 2) + 1) ≡ true)
+    pair p a b =
+        ⊎-elim
+        (λ e. (let here : 2 * (p / 2) ≡ p = omega arith in rw here (a, rw (opp-even p e) at b)))
+        (λ e. (let here : 2 * (p / 2) ≡ p - 1 = omega arith in
+        let next : p - 1 + 1 ≡ p = omega arith in rw here (rw (opp-odd p e) at b, rw next a)))
+        (even-or-odd p)
 
 -- where there is no conflict, a literal of the set keeps its opposite out
 pub opposite-out : (known : List Bool) (p : ℕ) → conflict known ≡ false → has known p ≡ true → has known (opp p) ≡ false

@@ -9,12 +9,12 @@ use lib.Dec.{ltb, eqb}
 use lib.ListN.{length}
 use borrow.Author.Tests.{lt-ltb, le-ltb, ltb-true, ne-eqb, eqb-true, eqb-false, not-true}
 use Rattle.meaning.specs.Tests.{any, from, none, first}
-use Rattle.meaning.specs.Literals.{opp, has}
+use Rattle.meaning.specs.Literals.{opp, has, Within}
 use Rattle.meaning.specs.Rounds.{gives, byRows, reached, after, derived, rankBy, rankOf, rankAbove}
 use Rattle.meaning.specs.Promises.{GivenIn, RankGiven, RankZero, RankRule, RoundsEnd, DerivedRanked, RankBound, RankAboveNever}
 use Rattle.meaning.proofs.Tests.{true-or-false, both-true, and-intro, not-intro, false-of, clash, or-right, any-found, any-at, from-in, in-from}
 use Rattle.meaning.proofs.Tables.{le-or-lt, FirstIs, first-is, first-only, getD-tabulate}
-use Rattle.meaning.proofs.Literals.{Within, has-below, same-set}
+use Rattle.meaning.proofs.Literals.{has-below, same-set}
 use Rattle.meaning.proofs.Rounds.{reached-length, next-at, next-keeps, closed, settled, earlier, stays}
 use Rattle.meaning.proofs.Gives.{gives-words, gives-of}
 

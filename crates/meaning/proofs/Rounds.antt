@@ -9,11 +9,11 @@ use native.Mathlib.Nat.{zero-add, add-zero, add-suc}
 use native.Mathlib.Omega.{arith}
 use lib.ListN.{length}
 use Rattle.meaning.specs.Tests.{tabulate}
-use Rattle.meaning.specs.Literals.{has}
+use Rattle.meaning.specs.Literals.{has, Within}
 use Rattle.meaning.specs.Rounds.{next, reached, closure}
 use Rattle.meaning.proofs.Tests.{one-true, or-left, or-right}
 use Rattle.meaning.proofs.Tables.{length-tabulate, getD-tabulate}
-use Rattle.meaning.proofs.Literals.{Within, has-below}
+use Rattle.meaning.proofs.Literals.{has-below}
 
 -- ---- a set inside another of the same length is the other, or has fewer members
 
@@ -98,11 +98,6 @@ module _ (places : ℕ) (step : List Bool → ℕ → Bool) where
   -- after so many rounds, one more adds nothing,
   pub settled : (held : List Bool) → next places step (closure places step held) ≡ closure places step held
   settled held = ⊎-elim (λ e. e) (λ h. absurd (omega arith)) (still-or-early held places)
-
-  -- and one that adds something is among the first
-  pub adds-early : (held : List Bool) (k : ℕ) → (reached places step held (suc k) ≡ reached places step held k → ⊥) → suc k ≤ places
-  unfolding reached
-  adds-early held k adds = ⊎-elim (λ e. absurd (adds e)) (λ h. h) (still-or-early held k)
 
   -- once a round adds nothing, no later one does
   pub stays : (held : List Bool) (k d : ℕ) → reached places step held (suc k) ≡ reached places step held k → reached places step held (k + d) ≡ reached places step held k

@@ -1,17 +1,17 @@
--- Laws of `tabulate`, the table of a function, and of `first`, the least number that passes a test.
+-- Laws of `tabulate`, the table of a function, of `first`, the least number that passes a test, and of `firstSmallest`, the one of smallest value.
 use Prim.Native.Nat.{ℕ, zero, suc, _+_, _≤_, _<_}
 use mathlib.Core.Path.{_≡_, refl, sym, ap, _∙_, subst}
 use mathlib.Core.Logic.{_⊎_, inl, inr, ⊎-elim}
-use mathlib.Core.Bool.{Bool, true, false, cond, true≢false}
+use mathlib.Core.Bool.{Bool, true, false, cond, _&&_, _||_, true≢false}
 use mathlib.Core.List.{List, [], _∷_, _++_, map}
 use native.Mathlib.Nat.{le-of-suc-le-suc, not-suc-le-zero, eq-or-lt-of-le}
 use native.Mathlib.Omega.{arith}
 use lib.ListN.{length, getD, set}
 use lib.Seq.{ext-getD, getD-set-same, getD-set-other}
-use lib.Dec.{ltb, leb}
+use lib.Dec.{eqb, ltb, leb}
 use borrow.Author.Count.{below-more}
-use borrow.Author.Tests.{lt-ltb, le-ltb, leb-true, leb-false}
-use Rattle.meaning.specs.Tests.{tabulate, none, first}
+use borrow.Author.Tests.{eq-eqb, ne-eqb, lt-ltb, le-ltb, ltb-true, ltb-false, leb-true, leb-false}
+use Rattle.meaning.specs.Tests.{tabulate, none, first, firstSmallest}
 
 -- ---- the table of a function
 
@@ -88,3 +88,60 @@ module _ (test : ℕ → Bool) where
   first-only n r s (inl f) (inr g) = absurd (true≢false (sym (f .1) ∙ g .1 r (f .0)))
   first-only n r s (inr f) (inl g) = absurd (true≢false (sym (g .1) ∙ f .1 s (g .0)))
   first-only n r s (inr f) (inr g) = f .0 ∙ sym (g .0)
+
+-- ---- the one of smallest value
+
+-- r goes before i: its value is no larger, and where they are equal it is no higher
+abbrev pub Ahead : (ℕ → ℕ) → ℕ → ℕ → Type 0
+Ahead value r i = (value r ≤ value i) × (value i ≡ value r → r ≤ i)
+
+-- r is the number below n that passes the test and goes before each other that does, or none where no number passes
+abbrev pub SmallestIs : (ℕ → Bool) → (ℕ → ℕ) → ℕ → ℕ → Type 0
+SmallestIs test value n r =
+    ((r < n) × (test r ≡ true) × ((i : ℕ) → i < n → test i ≡ true → Ahead value r i)) ⊎ ((r ≡ none) × ((i : ℕ) → i < n → test i ≡ false))
+
+module _ (test : ℕ → Bool) (value : ℕ → ℕ) where
+  smallest-more : (n r : ℕ) → suc n ≤ none → SmallestIs test value n r → (t : Bool) → test n ≡ t → (l : Bool) → ltb (value n) (value r) ≡ l
+      → SmallestIs test value (suc n) (cond (t && (eqb r none || l)) n r)
+  smallest-more n r small (inl f) true q true e =
+      let below = f .0 in
+      let less = ltb-true (value n) (value r) e in
+      let ahead : (i : ℕ) → i < n → test i ≡ true → Ahead value n i =
+      λ i h p. (let a = f .2 i h p .0 in (omega arith, λ s. absurd (omega arith))) in
+      rw (ne-eqb r none (λ z. omega arith))
+      (inl (omega arith, q, below-suc (λ i. test i ≡ true → Ahead value n i) n ahead (λ p. (omega arith, λ s. omega arith))))
+  smallest-more n r small (inl f) true q false e =
+      let below = f .0 in
+      let more = ltb-false (value n) (value r) e in
+      rw (ne-eqb r none (λ z. omega arith))
+      (inl (omega arith, f .1, below-suc (λ i. test i ≡ true → Ahead value r i) n (f .2) (λ p. (omega arith, λ s. omega arith))))
+  smallest-more n r small (inl f) false q l e =
+      let below = f .0 in
+      inl (omega arith, f .1, below-suc (λ i. test i ≡ true → Ahead value r i) n (f .2) (λ p. absurd (true≢false (sym p ∙ q))))
+  smallest-more n r small (inr f) true q l e =
+      let ahead : (i : ℕ) → i < n → test i ≡ true → Ahead value n i = λ i h p. absurd (true≢false (sym p ∙ f .1 i h)) in
+      rw (eq-eqb r none (f .0))
+      (inl (omega arith, q, below-suc (λ i. test i ≡ true → Ahead value n i) n ahead (λ p. (omega arith, λ s. omega arith))))
+  smallest-more n r small (inr f) false q l e = inr (f .0, below-suc (λ i. test i ≡ false) n (f .1) q)
+
+  -- `firstSmallest` is that number
+  pub first-smallest-is : (n : ℕ) → n ≤ none → SmallestIs test value n (firstSmallest test value n)
+  first-smallest-is zero small = inr (refl, λ i h. absurd (not-suc-le-zero h))
+  first-smallest-is (suc n) small =
+      let before = firstSmallest test value n in
+      smallest-more n before small (first-smallest-is n (omega arith)) (test n) refl (ltb (value n) (value before)) refl
+
+-- tests and values that agree have the same one
+pub first-smallest-same : (n : ℕ) (f g : ℕ → Bool) (v w : ℕ → ℕ) → n ≤ none → ((i : ℕ) → i < n → f i ≡ g i) → ((i : ℕ) → i < n → v i ≡ w i)
+    → firstSmallest f v n ≡ firstSmallest g w n
+first-smallest-same zero f g v w small h k = refl
+first-smallest-same (suc n) f g v w small h k =
+    let same = first-smallest-same n f g v w (omega arith) (λ i l. h i (omega arith)) (λ i l. k i (omega arith)) in
+    rw (same, h n (omega arith), k n (omega arith))
+    (⊎-elim
+    (λ s. rw (k r (omega (arith, s .0))))
+    (λ s. rw (eq-eqb r none (s .0)))
+    (first-smallest-is g w n (omega arith)))
+  where
+    r : ℕ
+    r = firstSmallest g w n

@@ -7,6 +7,7 @@ use mathlib.Core.List.{List·Memᴰ·cases-cons as in-cons, List·Memᴰ·not-ni
 use Prim.Native.Nat.{ℕ, zero, suc, _+_, _≤_, _<_}
 use native.Mathlib.Omega.{arith}
 use lib.Dec.{eqb}
+use lib.ListN.{length, getD}
 use borrow.Author.Tests.{eqb-true, eqb-false, eq-eqb}
 use Rattle.meaning.specs.Tests.{any, all, keep, member, from}
 
@@ -62,6 +63,12 @@ same-test false false f g = refl
 -- ---- some and every element
 
 module _ {A : Type 0} where
+  -- what stands at a place is in the list
+  pub in-at : (xs : List A) (i : ℕ) (d : A) → i < length xs → In (getD xs i d) xs
+  in-at [] i d h = absurd (omega arith)
+  in-at (x ∷ xs) zero d h = here refl
+  in-at (x ∷ xs) (suc i) d h = there (in-at xs i d (omega arith))
+
   pub any-found : (f : A → Bool) (xs : List A) → any f xs ≡ true → (x : A) × In x xs × (f x ≡ true)
   any-found f [] e = absurd (false≢true e)
   any-found f (x ∷ xs) e = go (one-true (f x) (any f xs) e) (λ h. any-found f xs h)

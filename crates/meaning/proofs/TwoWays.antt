@@ -9,13 +9,13 @@ use Prim.Native.Nat.{ℕ, _<_}
 use lib.ListN.{length, length-map}
 use borrow.Author.Tests.{not-true}
 use Rattle.meaning.specs.Tests.{member}
-use Rattle.meaning.specs.Literals.{place, opp, has, conflict}
+use Rattle.meaning.specs.Literals.{place, opp, has, Within, conflict}
 use Rattle.meaning.specs.Formulae.{Rule}
 use Rattle.meaning.specs.Clauses.{Digit, assignments, prime, rowOf, rowsOf, allRows, satisfiable}
 use Rattle.meaning.specs.Rounds.{gives, byRows, closure}
 use Rattle.meaning.specs.SecondWay.{says, agrees, forces, byRules}
 use Rattle.meaning.proofs.Tests.{true-or-false, clash, same-test, any-found, any-at, all-at, member-in, in-member}
-use Rattle.meaning.proofs.Literals.{Within, conflict-at, conflict-within, same-set}
+use Rattle.meaning.proofs.Literals.{conflict-at, conflict-within, same-set}
 use Rattle.meaning.proofs.Rounds.{reached-length, Closed, closure-closed, closure-least}
 use Rattle.meaning.proofs.Clauses.{Leaves, leaves-length}
 use Rattle.meaning.proofs.Primes.{contains-prime}

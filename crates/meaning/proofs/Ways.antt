@@ -9,14 +9,13 @@ use lib.Dec.{eqb}
 use lib.ListN.{length}
 use borrow.Author.Tests.{eqb-true, eq-eqb, not-true}
 use Rattle.meaning.specs.Tests.{all, member}
-use Rattle.meaning.specs.Literals.{place, opp, has}
+use Rattle.meaning.specs.Literals.{place, opp, has, Within}
 use Rattle.meaning.specs.Formulae.{Rule}
 use Rattle.meaning.specs.Clauses.{assignments}
 use Rattle.meaning.specs.Rounds.{gives, byRows}
 use Rattle.meaning.specs.SecondWay.{says, agrees, literalOf, forces, byRules}
 use Rattle.meaning.proofs.Tests.{true-or-false, both-true, and-intro, one-true, or-left, or-right, not-intro, false-of, clash}
 use Rattle.meaning.proofs.Tests.{any-found, any-at, all-at, all-of, any-imp, all-imp, member-in, in-member}
-use Rattle.meaning.proofs.Literals.{Within}
 use Rattle.meaning.proofs.Rounds.{Monotone}
 use Rattle.meaning.proofs.Gives.{gives-grow}
 use Rattle.meaning.proofs.Implicates.{assignment-listed, assignment-length}

@@ -1,12 +1,12 @@
--- 01, "Ground" and "Blame": the premises that a literal stands on.
+-- 01, "Ground" and "Blame", with 02, Ticket 4: the premises that a literal, or a conflict, stands on.
 use mathlib.Core.Bool.{Bool, true, false, cond, not, _&&_, _||_}
 use mathlib.Core.List.{List, []}
-use Prim.Native.Nat.{ℕ, zero, suc, _*_}
+use Prim.Native.Nat.{ℕ, zero, suc, _*_, max}
 use lib.Dec.{eqb}
 use lib.ListN.{getD}
-use Rattle.meaning.specs.Tests.{any, tabulate, first}
+use Rattle.meaning.specs.Tests.{any, tabulate, firstSmallest}
 use Rattle.meaning.specs.Literals.{place, opp, has}
-use Rattle.meaning.specs.Rounds.{derived, supportOf, label}
+use Rattle.meaning.specs.Rounds.{derived, rankOf, supportOf, label}
 
 -- the literal p reaches the premise h: "a held premise reaches itself; another derived literal reaches what the opposites of its
 -- support's other literals reach." Ranks fall on the way, so that 2S + 1 steps are enough.
@@ -23,11 +23,17 @@ reaches places rows held p h = reachesIn (suc places) (supportOf places rows hel
 unfoldable pub ground : ℕ → List (List ℕ) → List Bool → ℕ → List Bool
 ground places rows held p = tabulate places (reaches places rows held p)
 
--- "the lowest s with label 3"
-unfoldable pub blamed : ℕ → List (List ℕ) → List Bool → ℕ
-blamed symbols rows held = suc (first (λ i. eqb (label (derived (2 * symbols) rows held) (suc i)) 3) symbols)
+-- the "larger rank of its two literals": none, if one of them has no rank
+unfoldable pub largerRank : ℕ → List (List ℕ) → List Bool → ℕ → ℕ
+largerRank places rows held s = max (rankOf places rows held (place s true)) (rankOf places rows held (place s false))
 
--- "the premises reached by +s or −s" for that s
+-- 02, Ticket 4: "among symbols with label 3, the one whose larger rank of its two literals is smallest, and of equals the lowest symbol"
+unfoldable pub blamed : ℕ → List (List ℕ) → List Bool → ℕ
+blamed symbols rows held =
+    let has3 : ℕ → Bool = λ i. eqb (label (derived (2 * symbols) rows held) (suc i)) 3 in
+    let larger : ℕ → ℕ = λ i. largerRank (2 * symbols) rows held (suc i) in suc (firstSmallest has3 larger symbols)
+
+-- 01: "the premises reached by +s or −s" for that s
 unfoldable pub blame : ℕ → List (List ℕ) → List Bool → List Bool
 blame symbols rows held =
     let s = blamed symbols rows held in

@@ -8,11 +8,11 @@ use Prim.Native.Nat.{ℕ, suc, _*_, _≤_, _<_}
 use lib.Dec.{eqb}
 use lib.ListN.{length, getD}
 use Rattle.meaning.specs.Tests.{any, all, none}
-use Rattle.meaning.specs.Literals.{place, opp, has, conflict}
+use Rattle.meaning.specs.Literals.{place, opp, has, Within, conflict}
 use Rattle.meaning.specs.Formulae.{Formula, ruleOf}
 use Rattle.meaning.specs.Clauses.{Digit, prime, primesInOrder, rowsOf, allRows, InOrder}
 use Rattle.meaning.specs.Rounds.{after, derived, rankOf, supportOf, label, rankAbove}
-use Rattle.meaning.specs.Ground.{reaches}
+use Rattle.meaning.specs.Ground.{reaches, largerRank, blamed, blame}
 use Rattle.meaning.specs.LeavingOff.{violation, WorksTo, LeavesOff}
 use Rattle.meaning.specs.SecondWay.{Forces, accepted, rulesOf, firstWay, secondWay}
 
@@ -101,6 +101,38 @@ OthersReach =
     (places : ℕ) (rows : List (List ℕ)) (held : List Bool) (p h : ℕ) → places < none → length rows ≤ none → p < places → has held p ≡ false
     → reaches places rows held p h
     ≡ any (λ q. not (eqb q p) && reaches places rows held (opp q) h) (getD rows (supportOf places rows held p) [])
+
+-- ---- blame, in 02's words
+
+-- "symbols with label 3"
+abbrev pub HasLabel3 : ℕ → List (List ℕ) → List Bool → ℕ → Type 0
+HasLabel3 symbols rows held s = (1 ≤ s) × (s ≤ symbols) × (label (derived (2 * symbols) rows held) s ≡ 3)
+
+-- "the one whose larger rank of its two literals is smallest, and of equals the lowest symbol": no symbol with label 3 has a smaller larger
+-- rank, and no lower one an equal one
+pub record Earliest (symbols : ℕ) (rows : List (List ℕ)) (held : List Bool) (s : ℕ) : Type 0 where
+  pub label-3 : HasLabel3 symbols rows held s
+  pub smallest : (t : ℕ) → HasLabel3 symbols rows held t → largerRank (2 * symbols) rows held s ≤ largerRank (2 * symbols) rows held t
+  pub lowest : (t : ℕ) → HasLabel3 symbols rows held t → largerRank (2 * symbols) rows held t ≡ largerRank (2 * symbols) rows held s → s ≤ t
+
+-- where there is a conflict blame takes that symbol, and there is no other such
+abbrev pub BlamedIs : Type 0
+BlamedIs =
+    (symbols : ℕ) (rows : List (List ℕ)) (held : List Bool) (s : ℕ) → 2 * symbols < none → conflict (derived (2 * symbols) rows held) ≡ true
+    → (blamed symbols rows held ≡ s) ↔ Earliest symbols rows held s
+
+-- the premises that blame marks are held,
+abbrev pub BlameHeld : Type 0
+BlameHeld =
+    (symbols : ℕ) (rows : List (List ℕ)) (held : List Bool) → 2 * symbols < none → length rows ≤ none
+    → conflict (derived (2 * symbols) rows held) ≡ true → Within (blame symbols rows held) held
+
+-- and a board that holds them is in conflict, with the same rows or more, with no other premises or some
+abbrev pub BlameEnough : Type 0
+BlameEnough =
+    (symbols : ℕ) (rows more : List (List ℕ)) (held now : List Bool) → 2 * symbols < none → length rows ≤ none
+    → conflict (derived (2 * symbols) rows held) ≡ true → ((row : List ℕ) → In row rows → In row more) → Within (blame symbols rows held) now
+    → conflict (derived (2 * symbols) more now) ≡ true
 
 -- ---- the same with no rounds, for any order of work
 

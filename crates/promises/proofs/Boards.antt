@@ -1,5 +1,5 @@
--- 01's boards "Marked P: to be proved", together: what 01 says of each, and that the calls come to the same; and one of a text, by 02's
--- Ticket 2. Rules are given as 01's bytes, and each board is opened over a table of 8 rows of zeros.
+-- 01's boards "Marked P: to be proved", together: what 01 says of each, and that the calls come to the same; and those of 02's Tickets 1, 2 and
+-- 4. Rules are given as 01's bytes, and each board is opened over a table of 8 rows of zeros.
 use mathlib.Core.Path.{_≡_, refl}
 use mathlib.Core.Bool.{true, false}
 use mathlib.Core.List.{List, [], _∷_, map}
@@ -9,8 +9,8 @@ use lib.ListN.{replicate, take}
 use Rattle.meaning.specs.Literals.{place, opp}
 use Rattle.meaning.specs.Formulae.{value, occurs, symbolsOf}
 use Rattle.meaning.specs.Clauses.{hit, implicate, prime, ofSize}
-use Rattle.meaning.specs.Rounds.{gives, next, reached, rankBy, labelsOf, rankAbove}
-use Rattle.meaning.specs.Ground.{reachesIn, reaches, blamed, blame}
+use Rattle.meaning.specs.Rounds.{gives, next, reached, rankBy, firstGiver, supportAt, supportOf, labelsOf, rankAbove}
+use Rattle.meaning.specs.Ground.{reachesIn, reaches, largerRank, blamed, blame}
 use Rattle.literals.specs.Literal.{placeOf, literalAt}
 use Rattle.literals.specs.Row.{numbersAt, zeros, rising, rowSound, rowsSound, decode, rowsIn, encode}
 use Rattle.formula.specs.Parse.{symbolAt, secondOf, bodyOf, parse, wholeOf}
@@ -22,7 +22,7 @@ use Rattle.board.specs.Settling.{settleFaults, settleOutcome, settledLabels}
 use Rattle.board.specs.Asking.{askFaults, asked, explainFaults, reasoned}
 use Rattle.board.specs.Grounds.{blameFaults, blameOutcome, blameMarks}
 use Rattle.board.specs.declared.asking.Standing.{Standing}
-use Rattle.board.specs.declared.asking.Standing.the-variants.{Conflict, Stands, Open}
+use Rattle.board.specs.declared.asking.Standing.the-variants.{Conflict, Stands, RuledOut, Open}
 use Rattle.spelling.specs.Text.{digitsOf}
 use Rattle.spelling.proofs.Ascii.{ascii}
 use Rattle.dimacs.specs.Words.{upTo, since, wordsIn, decimal, numberOf, literalOf}
@@ -126,7 +126,12 @@ chain = reads lent (ascii "c a chain\np cnf 3 2\n-1 2 0 -2\n 03 0\n")
 abbrev short : Call
 short = reads lent (ascii "p cnf 3 2\n-3 0\n")
 
--- Quoted from 01; the sentence on places from 02, Ticket 1, those on texts from Ticket 2.
+-- 3 implies 6, 4 implies not 6, 6 implies 5, 5 and 2 imply 1, not 6 implies not 1; and 2, 3 and 4 held
+abbrev consequence : List Call
+consequence =
+    opens 6 ∷ reads lent (ascii "p cnf 6 5\n-3 6 0\n-4 -6 0\n-6 5 0\n-5 -2 1 0\n6 -1 0\n") ∷ hold (pos 2) ∷ hold (pos 3) ∷ hold (pos 4) ∷ []
+
+-- Quoted from 01; the sentence on places from 02, Ticket 1, those on texts from Ticket 2, those on blame from Ticket 4.
 abbrev boards : List (List Call × List (Question × Answer))
 boards =
     -- "1 and not 1: refusal 8. 1 or not 1: no row."
@@ -160,6 +165,28 @@ boards =
     ∷ (
       opens 3 ∷ hold (pos 3) ∷ hold (negsuc 2) ∷ [],
       (labels, bytes (0 ∷ 0 ∷ 3 ∷ [])) ∷ (ask (pos 1), standing Conflict) ∷ (marks, bytes (0 ∷ 0 ∷ 0 ∷ 0 ∷ 1 ∷ 1 ∷ [])) ∷ [],
+    )
+    -- "Blame shall take, among symbols with label 3, the one whose larger rank of its two literals is smallest": 6, with rank 1 twice, and not the
+    -- lowest, 1, with rank 3 and 2. So 3 and 4 are marked, and 2 is not. Held alone they are in conflict; without 3 there is none.
+    ∷ (
+      consequence,
+      (labels, bytes (3 ∷ 3 ∷ 3 ∷ 3 ∷ 3 ∷ 3 ∷ []))
+          ∷ (rank (pos 6), number 1)
+          ∷ (rank (negsuc 5), number 1)
+          ∷ (rank (pos 1), number 3)
+          ∷ (rank (negsuc 0), number 2)
+          ∷ (marks, bytes (0 ∷ 0 ∷ 0 ∷ 0 ∷ 1 ∷ 0 ∷ 1 ∷ 0 ∷ 0 ∷ 0 ∷ 0 ∷ 0 ∷ []))
+          ∷ (past (withdraw (pos 2)) (ask (pos 6)), standing Conflict)
+          ∷ (past (withdraw (pos 3)) (ask (pos 6)), standing RuledOut)
+          ∷ [],
+    )
+    -- "and of equals the lowest symbol": 2, and once that conflict is ended, 3
+    ∷ (
+      opens 3 ∷ hold (pos 3) ∷ hold (negsuc 2) ∷ hold (pos 2) ∷ hold (negsuc 1) ∷ [],
+      (labels, bytes (0 ∷ 3 ∷ 3 ∷ []))
+          ∷ (marks, bytes (0 ∷ 0 ∷ 1 ∷ 1 ∷ 0 ∷ 0 ∷ []))
+          ∷ (past (withdraw (negsuc 1)) marks, bytes (0 ∷ 0 ∷ 0 ∷ 0 ∷ 1 ∷ 1 ∷ []))
+          ∷ [],
     )
     -- "where the operand was due for 4 and 5, of the symbol's number for 2, of the missing byte for 3, of the first byte too many for 6";
     -- none for 8, and for 1 on a board that is not opened
@@ -212,5 +239,5 @@ abbrev due : List Call × List (Question × Answer) → List ℕ × List Answer
 due b = (map (λ c. 0) (b .0), map (λ q. q .1) (b .1))
 
 boards-hold : map found boards ≡ map due boards
-unfolding tell outcome after opp value occurs symbolsOf hit implicate prime ofSize gives next reached rankBy labelsOf rankAbove reachesIn reaches blamed blame placeOf literalAt numbersAt zeros rising rowSound rowsSound decode rowsIn encode symbolAt secondOf bodyOf parse wholeOf appended goodBoard openFaults opened flagFaults flagChanged ruleFaults ruled ruledTable settleFaults settleOutcome settledLabels askFaults asked explainFaults reasoned blameFaults blameOutcome blameMarks digitsOf upTo since wordsIn decimal numberOf literalOf pastComments startsWith countsIn headerIn clausesIn parseText oneOf clauseFaults clausesFaults passed textFaults readFaults readAnswer readTable spaced clauseLines textOf literalsOf clausesAt textOn writeFaults writeOutcome writeAnswer writeBytes
+unfolding tell outcome after opp value occurs symbolsOf hit implicate prime ofSize gives next reached rankBy firstGiver supportAt supportOf labelsOf rankAbove reachesIn reaches largerRank blamed blame placeOf literalAt numbersAt zeros rising rowSound rowsSound decode rowsIn encode symbolAt secondOf bodyOf parse wholeOf appended goodBoard openFaults opened flagFaults flagChanged ruleFaults ruled ruledTable settleFaults settleOutcome settledLabels askFaults asked explainFaults reasoned blameFaults blameOutcome blameMarks digitsOf upTo since wordsIn decimal numberOf literalOf pastComments startsWith countsIn headerIn clausesIn parseText oneOf clauseFaults clausesFaults passed textFaults readFaults readAnswer readTable spaced clauseLines textOf literalsOf clausesAt textOn writeFaults writeOutcome writeAnswer writeBytes
 boards-hold = refl

@@ -8,6 +8,7 @@ pub mod Stored
 pub mod Places
 pub mod Stops
 pub mod Told
+pub mod Blamed
 pub mod Texts
 pub mod Explained
 mod History

@@ -1,20 +1,20 @@
 -- The three demands, and what document 02 adds to them, each as a type. `proofs/` has a proof of each, under the same name in small letters.
 use mathlib.Core.Path.{_≡_}
 use mathlib.Core.Logic.{_↔_, _≢_, _⊎_}
-use mathlib.Core.Bool.{Bool, true, false, cond, _&&_}
+use mathlib.Core.Bool.{Bool, true, false, cond, _&&_, _||_}
 use mathlib.Core.List.{List, [], _∷_, _++_, map, List·Memᴰ as In}
 use Prim.Native.Nat.{ℕ, _+_, _-_, _*_, _≤_, _<_}
 use lib.Dec.{leb}
 use lib.IntN.{ℤ}
 use lib.ListN.{length, take, drop, getD}
 use Rattle.meaning.specs.Tests.{all}
-use Rattle.meaning.specs.Literals.{has, conflict}
+use Rattle.meaning.specs.Literals.{place, has, conflict}
 use Rattle.meaning.specs.Formulae.{Formula, ruleOf}
 use Rattle.meaning.specs.Clauses.{rowsOf, allRows}
 use Rattle.meaning.specs.Rounds.{label}
-use Rattle.meaning.specs.Ground.{ground, blame}
+use Rattle.meaning.specs.Ground.{reaches, ground, blame}
 use Rattle.meaning.specs.SecondWay.{secondWay, rulesOf}
-use Rattle.meaning.specs.Promises.{Derived, Forced, TwoWays}
+use Rattle.meaning.specs.Promises.{Earliest, Derived, Forced, TwoWays}
 use Rattle.literals.specs.Literal.{placeOf}
 use Rattle.literals.specs.Row.{width, rowsLent, decode}
 use Rattle.literals.specs.Refusals.{numberOf}
@@ -241,6 +241,45 @@ BlameTells =
     (w : World) (lent : ℕ) (marks : List ℕ) → outcome w (blames lent marks) ≡ Done
     → blameMarks (front w lent) (w .board) marks
     ≡ map byteOf (blame (w .board .symbols) (rowsOfWorld w) (w .board .held)) ++ drop (2 * w .board .symbols) marks
+
+-- 02, Ticket 4: "Blame shall take, among symbols with label 3, the one whose larger rank of its two literals is smallest, and of equals the lowest
+-- symbol." Of that symbol it writes "the premises reached by +s or −s", by 01.
+abbrev pub BlameTakes : Type 0
+BlameTakes =
+    (w : World) (lent : ℕ) (marks : List ℕ) → outcome w (blames lent marks) ≡ Done
+    → let S = w .board .symbols in
+    let reach : ℕ → ℕ → Bool = reaches (2 * S) (rowsOfWorld w) (w .board .held) in
+    (s : ℕ) × Earliest S (rowsOfWorld w) (w .board .held) s
+    × ((p : ℕ) → p < 2 * S → getD (blameMarks (front w lent) (w .board) marks) p 0 ≡ byteOf (reach (place s true) p || reach (place s false) p))
+
+-- blame writes 1 at the place p
+abbrev pub Marked : World → (lent : ℕ) → (marks : List ℕ) → ℕ → Type 0
+Marked w lent marks p = (p < 2 * w .board .symbols) × (getD (blameMarks (front w lent) (w .board) marks) p 0 ≡ 1)
+
+-- what it marks are held premises,
+abbrev pub BlameMarksHeld : Type 0
+BlameMarksHeld =
+    (w : World) (lent : ℕ) (marks : List ℕ) (p : ℕ) → outcome w (blames lent marks) ≡ Done → Marked w lent marks p → has (w .board .held) p ≡ true
+
+-- which held alone, with the same rows, are in conflict:
+abbrev pub BlameAlone : Type 0
+BlameAlone =
+    (w v : World) (lent : ℕ) (marks : List ℕ) → outcome w (blames lent marks) ≡ Done
+    → v .board .symbols ≡ w .board .symbols → rowsOfWorld v ≡ rowsOfWorld w → ((p : ℕ) → (has (v .board .held) p ≡ true) ↔ Marked w lent marks p)
+    → conflict (derivedSet v) ≡ true
+
+-- of these calls, one after the other from w on, none is an open, and none that is done withdraws one of the premises
+pub data Spares (premises : ℕ → Type 0) : World → List Call → Type 0 where
+  all-made : {w : World} → Spares premises w []
+  then : {w : World} {c : Call} {calls : List Call} → notOpen c ≡ true
+      → ((lent : ℕ) (l : ℤ) → c ≡ withdraws lent l → outcome w c ≡ Done → premises (placeOf l) → ⊥)
+      → Spares premises (after w c) calls → Spares premises w (c ∷ calls)
+
+-- so the board stays in conflict, whatever rules are added and premises held or withdrawn, until one of those is withdrawn or it is opened anew
+abbrev pub ConflictStays : Type 0
+ConflictStays =
+    (w : World) (lent : ℕ) (marks : List ℕ) (calls : List Call) → outcome w (blames lent marks) ≡ Done → Spares (Marked w lent marks) w calls
+    → conflict (derivedSet (run w calls)) ≡ true
 
 -- 02, Ticket 2: "Write the rows in use too": the bytes told are the text's, and the bytes beyond it stay
 abbrev pub WriteTells : Type 0

@@ -2,7 +2,7 @@
 
 ghost use Prim.Native.Nat.{_≤_};
 ghost use lib.ListN.{length};
-use rounds::NONE;
+use findings::NONE;
 
 // How many of the bytes are this one.
 pub fn bytes(list: &[u8], byte: u8) -> usize

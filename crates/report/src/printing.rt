@@ -4,9 +4,9 @@ ghost use Prim.Native.Nat.{_<_};
 use board::Board;
 use board::Outcome;
 use board::rules::NO_PLACE;
+use findings::NONE;
 use libc::STDOUT_FILENO;
 use literals::refusal::Refusal;
-use rounds::NONE;
 
 pub fn text(t: &[u8]) {
     io::write_all(STDOUT_FILENO, t);

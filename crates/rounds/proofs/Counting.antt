@@ -21,8 +21,8 @@ use Rattle.meaning.proofs.Gives.{gives-words}
 use Rattle.literals.specs.Row.{numbersAt, decode, rowsIn, Fit}
 use Rattle.literals.proofs.Decoding.{length-rows}
 use Rattle.literals.proofs.Differing.{Differ, row-differs}
+use Rattle.findings.proofs.Queueing.{same-or-not}
 use Rattle.rounds.specs.Visits.{openCount, Touched, Counts, Struck}
-use Rattle.rounds.proofs.Marking.{same-or-not}
 
 -- ---- the open literals of one row, where f says what is known
 

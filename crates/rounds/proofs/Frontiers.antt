@@ -14,10 +14,10 @@ use Rattle.meaning.specs.Tests.{tabulate, none}
 use Rattle.meaning.specs.Literals.{has}
 use Rattle.meaning.proofs.Tests.{clash}
 use Rattle.meaning.proofs.Tables.{length-tabulate, getD-tabulate, tabulate-snoc, le-or-lt}
+use Rattle.findings.specs.Queue.{counted, Queued, AllQueued}
+use Rattle.findings.proofs.Queueing.{same-or-not, counted-le}
 use Rattle.rounds.specs.Ranks.{startRanks}
-use Rattle.rounds.specs.Queue.{counted, ranked, Queued, Premises, Frontier, AllQueued}
-use Rattle.rounds.proofs.Marking.{same-or-not}
-use Rattle.rounds.proofs.Queueing.{counted-le}
+use Rattle.rounds.specs.Queue.{ranked, Premises, Frontier}
 
 -- ---- round by round
 

@@ -15,7 +15,8 @@ use Rattle.meaning.specs.Literals.{opp, has}
 use Rattle.meaning.specs.Rounds.{gives, byRows}
 use Rattle.meaning.proofs.Tests.{same-test, any-found, any-at, any-append}
 use Rattle.literals.specs.Row.{numbersAt, decode, rowsIn}
-use Rattle.rounds.specs.Ranks.{below, mark, ranksAfter}
+use Rattle.findings.specs.Ranks.{below}
+use Rattle.rounds.specs.Ranks.{mark, ranksAfter}
 use Rattle.rounds.specs.Visits.{Looked}
 use Rattle.rounds.proofs.Marking.{mark-as, mark-mark, mark-open, mark-same, mark-never, below-mark}
 

@@ -1,49 +1,18 @@
--- Laws of writing ranks: `mark` and `below`.
-use Prim.Native.Nat.{ℕ, zero, suc, _<_}
+-- Laws of writing ranks: `mark`.
+use Prim.Native.Nat.{ℕ, _<_}
 use mathlib.Core.Path.{_≡_, refl, sym, ap, _∙_}
 use mathlib.Core.Bool.{Bool, true, false, cond, _&&_, _||_, and-false, or-false, or-assoc}
 use mathlib.Core.List.{List, [], _∷_}
-use native.Mathlib.Nat.{le-of-suc-le-suc, not-suc-le-zero}
 use native.Mathlib.Omega.{arith}
-use lib.ListN.{length, getD, set, length-set, length-map}
+use lib.ListN.{length, getD, set, length-set}
 use lib.Seq.{ext-getD, getD-set-same, getD-set-other}
 use lib.Dec.{ltb, eqb}
 use borrow.Author.Tests.{le-ltb, eq-eqb, ne-eqb, eqb-true, eqb-false}
-use mathlib.Core.Logic.{_⊎_, inl, inr, ⊎-elim}
-use Rattle.meaning.specs.Tests.{member, none, tabulate}
-use Rattle.meaning.proofs.Tests.{true-or-false}
-use Rattle.meaning.specs.Literals.{has}
-use Rattle.meaning.proofs.Tables.{length-tabulate, getD-tabulate, tabulate-ext, map-tabulate}
-use Rattle.rounds.specs.Ranks.{below, mark}
-
--- two numbers are the same, or they differ
-pub same-or-not : (a b : ℕ) → (a ≡ b) ⊎ (a ≡ b → ⊥)
-same-or-not a b = ⊎-elim (λ e. inl (eqb-true a b e)) (λ e. inr (eqb-false a b e)) (true-or-false (eqb a b))
-
--- ---- the places whose rank is below k
-
--- a place is among them exactly if its rank is below k
-pub below-rank : (k : ℕ) (ranks : List ℕ) (p : ℕ) → p < length ranks → has (below k ranks) p ≡ ltb (getD ranks p 0) k
-unfolding below
-below-rank k [] p h = absurd (not-suc-le-zero h)
-below-rank k (r ∷ ranks) zero h = refl
-below-rank k (r ∷ ranks) (suc p) h = below-rank k ranks p (le-of-suc-le-suc h)
-
-pub length-below : (k : ℕ) (ranks : List ℕ) → length (below k ranks) ≡ length ranks
-unfolding below
-length-below k ranks = length-map ranks (λ r. ltb r k)
-
--- the places whose number passes are known from their numbers
-pub below-tabulate : (k places : ℕ) (f : ℕ → ℕ) (known : List Bool) → length known ≡ places → ((p : ℕ) → p < places → ltb (f p) k ≡ has known p)
-    → below k (tabulate places f) ≡ known
-unfolding below
-below-tabulate k places f known long h = map-tabulate (λ r. ltb r k) places f ∙ sym (tabulate-ext false places _ known long (λ p b. sym (h p b)))
-
--- a place of a list is the same whatever stands past its end
-pub any-default : (l : List ℕ) (p d e : ℕ) → p < length l → getD l p d ≡ getD l p e
-any-default [] p d e h = absurd (not-suc-le-zero h)
-any-default (r ∷ l) zero d e h = refl
-any-default (r ∷ l) (suc p) d e h = any-default l p d e (le-of-suc-le-suc h)
+use Rattle.meaning.specs.Tests.{member, none}
+use Rattle.meaning.proofs.Tables.{length-tabulate, getD-tabulate, tabulate-ext}
+use Rattle.findings.specs.Ranks.{below}
+use Rattle.findings.proofs.RankTables.{below-rank, length-below}
+use Rattle.rounds.specs.Ranks.{mark}
 
 -- ---- writing a rank
 

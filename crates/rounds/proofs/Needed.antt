@@ -13,17 +13,19 @@ use borrow.Author.Tests.{eq-eqb, eqb-true, ltb-true, ltb-false}
 use Rattle.meaning.specs.Tests.{member, none}
 use Rattle.meaning.specs.Literals.{opp, has}
 use Rattle.meaning.specs.Rounds.{gives}
-use Rattle.meaning.proofs.Tests.{true-or-false, one-true, or-left, or-right, clash, any-at, all-at, all-or-not, in-member}
+use Rattle.meaning.proofs.Tests.{true-or-false, one-true, or-left, or-right, clash, any-at, all-at, all-or-not, in-member, in-at}
 use Rattle.meaning.proofs.Literals.{opp-opp, has-below}
 use Rattle.meaning.proofs.Gives.{gives-words, gives-of}
 use Rattle.literals.specs.Row.{numbersAt, decode, rowsIn, Fit}
 use Rattle.literals.proofs.Differing.{row-differs}
-use Rattle.rounds.specs.Ranks.{below, ranksAfter}
-use Rattle.rounds.specs.Queue.{counted, ranked, Queued, Frontier}
+use Rattle.findings.specs.Ranks.{below}
+use Rattle.findings.specs.Queue.{counted, Queued}
+use Rattle.findings.proofs.RankTables.{below-rank, length-below}
+use Rattle.findings.proofs.Queueing.{same-or-not, queued-none}
+use Rattle.rounds.specs.Ranks.{ranksAfter}
+use Rattle.rounds.specs.Queue.{ranked, Frontier}
 use Rattle.rounds.specs.Visits.{Touched, Settled, Looked, Counts}
-use Rattle.rounds.proofs.Marking.{below-rank, length-below, same-or-not}
 use Rattle.rounds.proofs.Looking.{row-of, looked-none, looked-less, looked-more, looked-all}
-use Rattle.rounds.proofs.Queueing.{in-at, queued-none}
 use Rattle.rounds.proofs.Frontiers.{frontier-kept}
 use Rattle.rounds.proofs.Counting.{open-fewer, gives-open}
 
@@ -84,7 +86,7 @@ module _ {k from to : ℕ} {l queue : List ℕ} (front : Frontier l queue k from
       at : (i : ℕ) → i < to → getD queue i 0 ≡ x → member x (take to queue) ≡ true
       at i h is =
           subst (λ y. member y (take to queue) ≡ true) (getD-take to queue i 0 h ∙ is)
-          (in-member (in-at (take to queue) i (omega (arith, h, length-take-le to queue room))))
+          (in-member (in-at (take to queue) i 0 (omega (arith, h, length-take-le to queue room))))
 
   -- so a row that gives something counts one open literal or none
   pub new-few : {places used : ℕ} {table : List ℤ} {counts : List ℕ} → Fit places used table → from ≤ to → to ≤ length queue

@@ -11,16 +11,17 @@ use lib.ListN.{length, getD}
 use lib.Seq.{ext-getD}
 use borrow.Author.Tests.{lt-ltb, le-ltb}
 use Rattle.meaning.specs.Tests.{tabulate, none}
-use Rattle.meaning.specs.Rounds.{byRows, after, rankBy, rankOf, ranksOf}
+use Rattle.meaning.specs.Rounds.{byRows, after, rankBy, ranksOf}
 use Rattle.meaning.proofs.Tests.{clash, or-right}
 use Rattle.meaning.specs.Literals.{has}
 use Rattle.meaning.proofs.Tables.{length-tabulate, getD-tabulate, tabulate-same, le-or-lt}
 use Rattle.meaning.proofs.Rounds.{reached-length, earlier}
-use Rattle.meaning.proofs.Ranks.{after-start, after-more, rankBy-is, rankBy-below, rankBy-next, rankBy-final, rank-below}
-use Rattle.rounds.specs.Ranks.{below, mark, ranksAfter, startRanks, ranksBy}
+use Rattle.meaning.proofs.Ranks.{after-start, after-more, rankBy-is, rankBy-below, rankBy-next, rankBy-final}
+use Rattle.findings.specs.Ranks.{below}
+use Rattle.findings.proofs.RankTables.{below-tabulate}
+use Rattle.rounds.specs.Ranks.{mark, ranksAfter, startRanks, ranksBy}
 use Rattle.rounds.specs.Visits.{Settled}
-pub use Rattle.rounds.proofs.Marking.{below-rank}
-use Rattle.rounds.proofs.Marking.{below-tabulate, getD-mark, mark-never}
+use Rattle.rounds.proofs.Marking.{getD-mark, mark-never}
 
 -- ---- round by round
 
@@ -156,21 +157,6 @@ module _ (places : ℕ) (rows : List (List ℕ)) (held : List Bool) where
         go : (j : ℕ) → suc (suc j) ≤ none → l ≡ ranksBy places rows held j → (j ≡ 0) ⊎ Settled j rows l
         go zero s e = inl refl
         go (suc j) s e = inr (rw e (settled-by j (omega arith)))
-
-  -- ---- the ranks themselves
-
-  pub length-ranksOf : length (ranksOf places rows held) ≡ places
-  unfolding ranksOf
-  length-ranksOf = length-tabulate places _
-
-  pub getD-ranksOf : (p : ℕ) → p < places → getD (ranksOf places rows held) p 0 ≡ rankOf places rows held p
-  unfolding ranksOf
-  getD-ranksOf p h = getD-tabulate places _ p 0 h
-
-  pub below-ranksOf : places < none → (k : ℕ) → k ≤ places → below (suc k) (ranksOf places rows held) ≡ after places rows held k
-  unfolding ranksOf
-  below-ranksOf small k l =
-      below-tabulate (suc k) places _ _ (reached-length places (byRows rows) held k) (λ p h. rank-below places rows held small k p l)
 
 -- without rows the ranks before the first round are the last ones
 pub no-rows : (places : ℕ) (held : List Bool) → places < none → startRanks places held ≡ ranksOf places [] held

@@ -15,11 +15,12 @@ use Rattle.meaning.specs.Rounds.{gives}
 use Rattle.meaning.proofs.Tables.{le-or-lt}
 use Rattle.literals.specs.Row.{width, numbersAt, decode, Fit}
 use Rattle.index.specs.Index.{Contains, Index}
-use Rattle.rounds.specs.Ranks.{below, mark}
+use Rattle.findings.specs.Ranks.{below}
+use Rattle.findings.proofs.Queueing.{same-or-not}
+use Rattle.rounds.specs.Ranks.{mark}
 use Rattle.rounds.specs.Visits.{Looked, struck, Struck}
 use Rattle.index.proofs.Following.{Along, along-head, along-end, along-row, along-contains, along-rises, along-linked, along-link}
 use Rattle.rounds.proofs.Looking.{looked-none, looked-one, looked-more, looked-less}
-use Rattle.rounds.proofs.Marking.{same-or-not}
 
 -- ---- one count
 

@@ -1,5 +1,4 @@
--- What the functions say of tables of ranks, of the queue, of the rows that are looked at, and of what literals reach.
+-- What the functions say of the ranks round by round, of the queue, and of the rows that are looked at.
 pub mod Ranks
 pub mod Queue
 pub mod Visits
-pub mod Reach

@@ -12,7 +12,8 @@ use Rattle.meaning.specs.Literals.{opp}
 use Rattle.meaning.specs.Rounds.{byRows}
 use Rattle.literals.specs.Row.{numbersAt, decode, rowsIn}
 use Rattle.index.specs.Index.{Contains}
-use Rattle.rounds.specs.Ranks.{below, mark}
+use Rattle.findings.specs.Ranks.{below}
+use Rattle.rounds.specs.Ranks.{mark}
 
 -- row r contains the opposite of a place that stands in the queue from `from` to `to`
 abbrev pub Touched : List ℤ → List ℕ → (from to : ℕ) → ℕ → Type 0

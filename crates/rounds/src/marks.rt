@@ -7,9 +7,11 @@ ghost use lib.ListN.{length};
 ghost use Rattle.meaning.specs.Tests.{member, none};
 ghost use Rattle.meaning.specs.Rounds.{gives};
 ghost use Rattle.literals.specs.Row.{numbersAt, decode, Fit};
-ghost use Rattle.rounds.specs.Ranks.{below, openIn, mark};
-ghost use Rattle.rounds.specs.Queue.{ranked, Room, Queued};
-use crate::NONE;
+ghost use Rattle.findings.specs.Ranks.{below};
+ghost use Rattle.findings.specs.Queue.{Room, Queued};
+ghost use Rattle.rounds.specs.Queue.{ranked};
+ghost use Rattle.rounds.specs.Ranks.{openIn, mark};
+use findings::NONE;
 use literals::WIDTH;
 
 // Which literals of a row have an opposite without a rank below some k.

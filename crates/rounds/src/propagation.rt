@@ -7,14 +7,14 @@ ghost use lib.ListN.{length, replicate};
 ghost use Rattle.meaning.specs.Tests.{none, tabulate};
 ghost use Rattle.meaning.specs.Rounds.{ranksOf, rankAbove, supportOf};
 ghost use Rattle.literals.specs.Row.{width, rowsIn, Fit};
-ghost use Rattle.rounds.specs.Reach.{reachedAsked};
-use crate::NONE;
-use crate::PLACES;
+ghost use Rattle.findings.specs.Reach.{reachedAsked};
 use crate::ranks::rank_all;
 use crate::ranks::start_ranks;
-use crate::reach::reach_asked;
-use crate::supports::clear;
-use crate::supports::write_supports;
+use findings::NONE;
+use findings::PLACES;
+use findings::reach::reach_asked;
+use findings::supports::clear;
+use findings::supports::write_supports;
 use literals::WIDTH;
 
 // Room for the rows of any table and their cells, and for those of one with few rows: room is cleared when it is made, which is most of what a
@@ -147,9 +147,9 @@ pub fn propagate(
     propagate_all(table, rows, held, ranks, from, supports, 0, &mut none[..0])
 }
 
-// The ranks of the literals, and the premises that the literal at p reaches; where p is no place, those that the lowest symbol with both
-// literals derived reaches, or none where there is no such symbol. Says whether a rank would be too high, as `propagate` does. `board` has tested
-// the rows, and lends a mark for each place, none of them set.
+// The ranks of the literals, and the premises that the literal at p reaches; where p is no place, those that either literal of the
+// symbol that blame takes reaches, or none where there is no such symbol. Says whether a rank would be too high, as `propagate` does. `board` has
+// tested the rows, and lends a mark for each place, none of them set.
 pub fn trace(
     table: &[i16],
     rows: usize,

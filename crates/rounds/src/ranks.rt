@@ -11,12 +11,13 @@ ghost use Rattle.meaning.specs.Literals.{has};
 ghost use Rattle.meaning.specs.Rounds.{ranksOf};
 ghost use Rattle.literals.specs.Row.{rowsIn, Fit};
 ghost use Rattle.index.specs.Index.{Index};
+ghost use Rattle.findings.specs.Queue.{Room, Queued, AllQueued};
 ghost use Rattle.rounds.specs.Ranks.{ranksAfter, startRanks};
-ghost use Rattle.rounds.specs.Queue.{ranked, Room, Queued, Premises, Frontier, AllQueued};
+ghost use Rattle.rounds.specs.Queue.{ranked, Premises, Frontier};
 ghost use Rattle.rounds.specs.Visits.{Settled, Counts};
-use crate::NONE;
 use crate::visits::visit_rows;
 use crate::visits::visit_units;
+use findings::NONE;
 
 // One round: rank k + 1 for each place that has no rank and that some row gives from the ranks up to k. The places of rank k stand in
 // the queue from `from` to `to`, its end: only a row that contains the opposite of one of them can give something new, and in round 1 a row of

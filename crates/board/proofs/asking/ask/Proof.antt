@@ -8,8 +8,8 @@ use mir.Facts.{toZ-ofZ}
 use Rattle.meaning.specs.Tests.{none}
 use Rattle.literals.specs.Literal.{placeOf}
 use Rattle.literals.proofs.Signed.{back-abs}
-use Rattle.rounds.specs.Ranks.{below}
-use Rattle.rounds.proofs.Final.{below-derived}
+use Rattle.findings.specs.Ranks.{below}
+use Rattle.findings.proofs.Final.{below-derived}
 use Rattle.board.specs.Ranking.{rowsOn, tooHigh}
 use Rattle.board.specs.Asking.{askFaults, asked, standing}
 use Rattle.board.proofs.Arguments.{range-facts}

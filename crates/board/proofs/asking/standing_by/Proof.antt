@@ -15,9 +15,9 @@ use Rattle.literals.specs.Literal.{placeOf}
 use Rattle.literals.proofs.Signed.{back-abs}
 use Rattle.literals.proofs.Places.{place-bound}
 use Rattle.literals.proofs.Opposites.{opposite-abs, opposite-at}
-use Rattle.rounds.specs.Ranks.{below}
-use Rattle.rounds.proofs.RankTables.{below-rank}
-use Rattle.rounds.proofs.Clashes.{clash-none, clash-some}
+use Rattle.findings.specs.Ranks.{below}
+use Rattle.findings.proofs.RankTables.{below-rank}
+use Rattle.findings.proofs.Clashes.{clash-none, clash-some}
 use Rattle.board.proofs.Arguments.{place-is}
 use Rattle.board.proofs.asking.standing_by.Statement.{statement}
 use Rattle.board.proofs.asking.standing_by.Tie as tie
@@ -67,7 +67,7 @@ first-clash-requires c κs = omega arith
 returns : tie.Need-returns
 returns c =
     let s = c .before .before .before in
-    rw (clash-some (s .args .ranks .now) (omega arith) (λ e. c .if1 .taken (c .before .first-clash .ensures ∙ e)) .1)
+    rw (clash-some (s .args .ranks .now) (omega arith) (λ e. c .if1 .taken (c .before .first-clash .ensures ∙ e)))
 
 place-requires : tie.Need-place-requires
 place-requires c κs = omega (arith, back-abs (start c .fits .l))

@@ -11,8 +11,8 @@ use lib.ListN.{length, drop, replicate}
 use Rattle.meaning.specs.Tests.{none, first}
 use Rattle.meaning.specs.Rounds.{ranksOf}
 use Rattle.literals.specs.declared.refusal.Refusal.the-variants.{BadBoard, TableTooShort, RankTooHigh, NothingToShow}
-use Rattle.rounds.specs.Ranks.{clashIn}
-use Rattle.rounds.proofs.Clashes.{clash-final, conflict-none, conflict-some}
+use Rattle.findings.specs.Ranks.{clashIn}
+use Rattle.findings.proofs.Clashes.{clash-final, conflict-none, conflict-some}
 use Rattle.board.specs.Faults.{goodBoard}
 use Rattle.board.specs.Ranking.{rowsOn}
 use Rattle.board.specs.Grounds.{blameFaults, blameOutcome}
@@ -54,7 +54,7 @@ back c =
     come-back (s .args .table .now) (s .args .board) (good (tested c)) none (told .0) (told .1 .0) (told .1 .1)
     (c .trace .kept .1 .1 .1 .1 .1 .0)
 
--- the symbol that clashes
+-- a symbol that clashes
 abbrev tracing : tie.After-first-clash → tie.After-trace
 tracing c = c .before .before .before .before .before
 
@@ -146,7 +146,7 @@ returns-5 c =
     let b = s .args .board in
     let rows = rowsOn (s .args .table .now) b in
     let some : first (clashIn (ranksOf (2 * b .symbols) rows (b .held))) (b .symbols) ≡ none → ⊥ = λ e. z .if4 .left (clash f ∙ e) in
-    let shows = conflict-some (b .symbols) rows (b .held) (small g) some .1 in
+    let shows = conflict-some (b .symbols) rows (b .held) (small g) some in
     blame-done (s .args .table .now) b (s .args .marks .now) none (small g) (omega (arith, small g)) some
     (rw (is-good g, le-leb _ _ (enough r), back r .is-high ∙ e .if3 .left, shows))
     (back r .marks .is)

@@ -12,7 +12,7 @@ use lib.Seq.{length-take-le}
 use Rattle.meaning.specs.Rounds.{ranksOf}
 use Rattle.meaning.proofs.Ranks.{rank-above-never}
 use Rattle.literals.specs.declared.refusal.Refusal.the-variants.{BadBoard, TableTooShort}
-use Rattle.rounds.specs.Ranks.{labelsFrom}
+use Rattle.findings.specs.Ranks.{labelsFrom}
 use Rattle.board.specs.Faults.{goodBoard}
 use Rattle.board.specs.Ranking.{rowsOn}
 use Rattle.board.specs.Settling.{settleFaults, settleOutcome}

@@ -6,10 +6,11 @@ use native.Mathlib.Omega.{arith}
 use borrow.Author.Needs.{needs}
 use lib.ListN.{length}
 use Rattle.literals.specs.Row.{width, numbersAt, decode}
-use Rattle.rounds.specs.Queue.{ranked, Room, Queued}
+use Rattle.findings.specs.Queue.{Room, Queued}
+use Rattle.findings.proofs.Queueing.{queued-none, queued-more, room-after}
 use Rattle.literals.proofs.Scanning.{left, left-all, left-last, left-end, Here, Literal, literal, place-allowed}
+use Rattle.rounds.specs.Queue.{ranked}
 use Rattle.rounds.proofs.Marking.{Passed, passed-none, passed-more, passed-all}
-use Rattle.rounds.proofs.Queueing.{queued-none, queued-more, room-after}
 use Rattle.rounds.proofs.marks.mark_all.Statement.{statement}
 use Rattle.rounds.proofs.marks.mark_all.Tie as tie
 

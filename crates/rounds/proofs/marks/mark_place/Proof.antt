@@ -7,9 +7,9 @@ use borrow.Author.Needs.{needs}
 use borrow.Author.Tests.{eq-eqb, ne-eqb}
 use lib.ListN.{length, getD}
 use Rattle.meaning.specs.Tests.{none}
+use Rattle.findings.proofs.Queueing.{queued-none, queued-one, queued-free}
 use Rattle.rounds.specs.Queue.{ranked}
 use Rattle.rounds.proofs.Marking.{mark-one, mark-ranked}
-use Rattle.rounds.proofs.Queueing.{queued-none, queued-one, queued-free}
 use Rattle.rounds.proofs.marks.mark_place.Statement.{statement}
 use Rattle.rounds.proofs.marks.mark_place.Tie as tie
 

@@ -2,9 +2,9 @@
 use mathlib.Core.Path.{sym, _∙_}
 use borrow.Author.Needs.{needs}
 use Rattle.literals.proofs.Scanning.{row-in}
+use Rattle.findings.proofs.Queueing.{queued-none}
 use Rattle.rounds.proofs.OpenLiterals.{gives-all, gives-one, gives-nothing, one-in}
 use Rattle.rounds.proofs.Marking.{mark-as, mark-never}
-use Rattle.rounds.proofs.Queueing.{queued-none}
 use Rattle.rounds.proofs.marks.mark_row.Statement.{statement}
 use Rattle.rounds.proofs.marks.mark_row.Tie as tie
 

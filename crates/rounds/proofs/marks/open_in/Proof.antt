@@ -12,9 +12,9 @@ use Rattle.meaning.specs.Literals.{opp}
 use Rattle.literals.specs.Literal.{placeOf}
 use Rattle.literals.specs.Row.{width, numbersAt, decode}
 use Rattle.literals.proofs.Signed.{back}
-use Rattle.rounds.specs.Ranks.{below}
+use Rattle.findings.specs.Ranks.{below}
+use Rattle.findings.proofs.Knowing.{known-yes, known-no}
 use Rattle.literals.proofs.Scanning.{left, left-all, left-last, left-end, numberAt, Here, Literal, literal, opposite-allowed, opposite-place-allowed, opposite-is}
-use Rattle.rounds.proofs.Knowing.{known-yes, known-no}
 use Rattle.rounds.proofs.OpenLiterals.{Found, found-none, found-known, found-one, found-two, one-allowed, found-some, found-nothing}
 use Rattle.rounds.proofs.marks.open_in.Statement.{statement}
 use Rattle.rounds.proofs.marks.open_in.Tie as tie

@@ -6,8 +6,8 @@ use lib.ListN.{length}
 use Rattle.meaning.proofs.Ranks.{rank-above-never}
 use Rattle.literals.specs.Row.{rowsIn}
 use Rattle.literals.proofs.Scanning.{few-places}
+use Rattle.findings.proofs.Final.{no-supports}
 use Rattle.rounds.proofs.RankTables.{no-rows}
-use Rattle.rounds.proofs.Final.{no-supports}
 use Rattle.rounds.proofs.propagation.propagate.Statement.{statement}
 use Rattle.rounds.proofs.propagation.propagate.Tie as tie
 

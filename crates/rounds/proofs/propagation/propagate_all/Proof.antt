@@ -7,7 +7,7 @@ use lib.ListN.{length, take, replicate}
 use Rattle.meaning.specs.Tests.{none}
 use Rattle.literals.specs.Row.{width}
 use Rattle.literals.proofs.Scanning.{few-places}
-use Rattle.rounds.proofs.Filling.{part-long, part-same}
+use Rattle.findings.proofs.Filling.{part-long, part-same}
 use Rattle.rounds.proofs.propagation.propagate_all.Statement.{statement}
 use Rattle.rounds.proofs.propagation.propagate_all.Tie as tie
 

@@ -10,8 +10,8 @@ use Rattle.literals.specs.Row.{rowsIn, Fit}
 use Rattle.literals.proofs.Scanning.{few-places}
 use Rattle.index.specs.Index.{headsOf, Index}
 use Rattle.index.proofs.Following.{filled}
-use Rattle.rounds.specs.Reach.{reachedAsked}
-use Rattle.rounds.proofs.Final.{supports-are}
+use Rattle.findings.specs.Reach.{reachedAsked}
+use Rattle.findings.proofs.Final.{supports-are}
 use Rattle.rounds.proofs.propagation.propagate_in.Statement.{statement}
 use Rattle.rounds.proofs.propagation.propagate_in.Tie as tie
 

@@ -12,11 +12,12 @@ use Rattle.meaning.specs.Tests.{none}
 use Rattle.literals.specs.Row.{rowsIn, Fit}
 use Rattle.literals.proofs.Scanning.{few-places}
 use Rattle.index.specs.Index.{Index}
+use Rattle.findings.specs.Queue.{Room, AllQueued}
+use Rattle.findings.proofs.Queueing.{counted-le, room-after, queued-same}
 use Rattle.rounds.specs.Ranks.{startRanks, ranksBy, ranksAfter}
-use Rattle.rounds.specs.Queue.{ranked, Room, Frontier, AllQueued}
+use Rattle.rounds.specs.Queue.{ranked, Frontier}
 use Rattle.rounds.specs.Visits.{Counts}
 use Rattle.rounds.proofs.RankTables.{startRanks-is, Turn, round-ranks, round-last, round-low, round-new, round-old, round-settled}
-use Rattle.rounds.proofs.Queueing.{counted-le, room-after, queued-same}
 use Rattle.rounds.proofs.Counting.{counts-start, counts-long}
 use Rattle.rounds.proofs.Frontiers.{frontier-kept, frontier-next, frontier-all, premises-all}
 use Rattle.rounds.proofs.ranks.rank_all.Statement.{statement}

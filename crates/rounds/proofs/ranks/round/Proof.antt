@@ -8,8 +8,8 @@ use native.Mathlib.Omega.{arith}
 use lib.ListN.{length}
 use Rattle.literals.specs.Row.{Fit}
 use Rattle.index.specs.Index.{Index}
+use Rattle.findings.proofs.Queueing.{queued-more, room-after, counted-le}
 use Rattle.rounds.specs.Queue.{ranked}
-use Rattle.rounds.proofs.Queueing.{queued-more, room-after, counted-le}
 use Rattle.rounds.proofs.Counting.{counts-kept}
 use Rattle.rounds.proofs.Needed.{Begun, begun-first, begun-later, begun-front, begun-whole}
 use Rattle.rounds.proofs.ranks.round.Statement.{statement}

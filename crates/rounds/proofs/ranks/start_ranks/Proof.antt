@@ -8,8 +8,8 @@ use mathlib.Core.Logic.{⊎-elim}
 use lib.ListN.{length}
 use Rattle.meaning.specs.Tests.{none}
 use Rattle.meaning.specs.Literals.{has}
+use Rattle.findings.proofs.Filling.{Filled, filled-none, filled-put, filled-all}
 use Rattle.rounds.specs.Ranks.{startRanks}
-use Rattle.rounds.proofs.Filling.{Filled, filled-none, filled-put, filled-all}
 use Rattle.rounds.proofs.ranks.start_ranks.Statement.{statement}
 use Rattle.rounds.proofs.ranks.start_ranks.Tie as tie
 

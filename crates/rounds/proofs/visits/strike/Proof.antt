@@ -2,7 +2,7 @@
 use borrow.Author.Needs.{needs}
 use borrow.Author.Tests.{lt-ltb, le-ltb}
 use lib.ListN.{getD}
-use Rattle.rounds.proofs.Queueing.{queued-none}
+use Rattle.findings.proofs.Queueing.{queued-none}
 use Rattle.rounds.proofs.Striking.{struck-more, struck-few}
 use Rattle.rounds.proofs.visits.strike.Statement.{statement}
 use Rattle.rounds.proofs.visits.strike.Tie as tie

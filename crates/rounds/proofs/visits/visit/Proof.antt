@@ -7,8 +7,9 @@ use lib.ListN.{length}
 use Rattle.literals.specs.Row.{width, Fit}
 use Rattle.literals.proofs.Scanning.{fit-row, few-places}
 use Rattle.index.proofs.Following.{heads-long}
-use Rattle.rounds.specs.Queue.{ranked, Queued}
-use Rattle.rounds.proofs.Queueing.{queued-none, queued-more, room-after}
+use Rattle.findings.specs.Queue.{Queued}
+use Rattle.findings.proofs.Queueing.{queued-none, queued-more, room-after}
+use Rattle.rounds.specs.Queue.{ranked}
 use Rattle.rounds.proofs.Striking.{Visited, visited-linked, visited-none, visited-rises, visited-more, visited-looked, visited-struck}
 use Rattle.rounds.proofs.visits.visit.Statement.{statement}
 use Rattle.rounds.proofs.visits.visit.Tie as tie

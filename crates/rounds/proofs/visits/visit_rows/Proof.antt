@@ -10,10 +10,11 @@ use Rattle.meaning.proofs.Literals.{opp-in}
 use Rattle.literals.specs.Row.{Fit}
 use Rattle.literals.proofs.Scanning.{few-places}
 use Rattle.index.specs.Index.{Index}
-use Rattle.rounds.specs.Queue.{ranked, Queued}
+use Rattle.findings.specs.Queue.{Queued}
+use Rattle.findings.proofs.Queueing.{queued-none, queued-more, room-after, counted-le}
+use Rattle.rounds.specs.Queue.{ranked}
 use Rattle.rounds.specs.Visits.{Looked, Touched, Counts}
 use Rattle.rounds.proofs.Looking.{looked-none, looked-more}
-use Rattle.rounds.proofs.Queueing.{queued-none, queued-more, room-after, counted-le}
 use Rattle.rounds.proofs.Counting.{counts-next, touched-split, touched-next}
 use Rattle.rounds.proofs.visits.visit_rows.Statement.{statement}
 use Rattle.rounds.proofs.visits.visit_rows.Tie as tie

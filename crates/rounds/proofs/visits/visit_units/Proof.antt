@@ -7,12 +7,12 @@ use native.Mathlib.Omega.{arith}
 use lib.ListN.{length, getD}
 use Rattle.literals.specs.Row.{Fit}
 use Rattle.literals.proofs.Scanning.{fit-row}
-use Rattle.rounds.specs.Queue.{ranked, Queued}
+use Rattle.findings.specs.Queue.{Queued}
+use Rattle.findings.proofs.Queueing.{same-or-not, queued-none, queued-more, room-after}
+use Rattle.rounds.specs.Queue.{ranked}
 use Rattle.rounds.specs.Visits.{Looked}
-use Rattle.rounds.proofs.Marking.{same-or-not}
 use Rattle.rounds.proofs.Looking.{looked-none, looked-lone, looked-more, looked-less}
 use Rattle.rounds.proofs.Counting.{counts-long, counts-at}
-use Rattle.rounds.proofs.Queueing.{queued-none, queued-more, room-after}
 use Rattle.rounds.proofs.visits.visit_units.Statement.{statement}
 use Rattle.rounds.proofs.visits.visit_units.Tie as tie
 
