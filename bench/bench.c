@@ -1,23 +1,23 @@
 /* The measure: settle, ask, rule, ground, and DIMACS text in and out through the library, against the same by hand in plain C (bench/plain.c and
- * bench/dimacs.c), and settle, ask and ground against plain C with an index of the rows by literal (bench/indexed.c).
+ * bench/dimacs.c), and settle, ask and ground against plain C with an index of the rows by literal (bench/indexed.c). Then rules from formula text
+ * against the same rules from their bytes (bench/spelt.c).
  *
  * All sides in one program, one process, same inputs, same outputs (compared first), calls by the same kind of pointer.
  * A figure is the best of several runs, the sides taking turns within each run; times are the processor's, not the wall's.
  * "other" is another way in plain C: settle by the index with the exclusive or of the places left of each row, where "indexed" looks at the row; reading in
  * one pass with the rows kept aside, where "plain" tests the text in a pass of its own. */
-#define _POSIX_C_SOURCE 200809L
 #include <math.h>
 #include <stdbool.h>
 #include <stdio.h>
 #include <stdlib.h>
 #include <string.h>
-#include <time.h>
 
 #include "boards.h"
 #include "indexed.h"
 #include "plain.h"
+#include "spelt.h"
+#include "timing.h"
 
-enum { RUNS = 15, BATCH_NS = 4000000 };
 enum { SETTLE, ASK, RULE, GROUND, READ, WRITE, CALLS };
 enum { LIBRARY, PLAIN, INDEXED, OTHER, SIDES };
 
@@ -58,13 +58,6 @@ static double worst_ratio, chain_growth;
 static const char *worst_board, *worst_call;
 
 /* ---- Measuring ---- */
-
-/* The processor's time so far. */
-static double clock_ns(void) {
-    struct timespec time;
-    clock_gettime(CLOCK_PROCESS_CPUTIME_ID, &time);
-    return 1e9 * (double)time.tv_sec + (double)time.tv_nsec;
-}
 
 /* Notes a rule's place; the rows that it added. */
 static unsigned made_rule(tup_addition addition, outputs *out) {
@@ -251,8 +244,9 @@ static void print_growths(void) {
 static void print_goals(void) {
     printf("\ngoals: settle, ask and ground at most %.1f times indexed on every board: %s (at most %.2f, %s on %s);\n", ratio_goal,
            worst_ratio <= ratio_goal ? "met" : "not met", worst_ratio, worst_call, worst_board);
-    printf("the chain's exponent at most %.1f over the last doubling: %s (%.2f)\n", growth_goal, chain_growth <= growth_goal ? "met" : "not met",
+    printf("the chain's exponent at most %.1f over the last doubling: %s (%.2f);\n", growth_goal, chain_growth <= growth_goal ? "met" : "not met",
            chain_growth);
+    print_spelt_goal();
 }
 
 /* Prints everything. */
@@ -260,6 +254,7 @@ int main(void) {
     print_calls();
     print_growths();
     print_bytes();
+    print_spelt();
     print_goals();
     return 0;
 }

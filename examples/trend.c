@@ -184,6 +184,7 @@ static const char *refusal_word(uint8_t refusal) {
         [TUP_NOTHING_TO_SHOW] = "nothing to show",
         [TUP_TABLE_TOO_SHORT] = "table too short",
         [TUP_RANK_TOO_HIGH] = "rank too high",
+        [TUP_BAD_TEXT] = "no formula text",
     };
     return refusal < sizeof known / sizeof known[0] ? known[refusal] : "unknown refusal";
 }
@@ -234,77 +235,37 @@ static void say_premises(words *line, const uint8_t marks[PLACES]) {
     say(line, "%s", between[0] == '\0' ? "the rules alone" : "");
 }
 
-/* ---- Rules, in the formula bytes of document 01 ---- */
+/* ---- Rules, in plain text ---- */
 
-enum { FORMULA_ROOM = 64 };
-
-/* A formula's bytes in prefix order. Bytes without room are left out at the end, and the board refuses the rule as cut
- * short: no part of a formula from its front is a formula. */
-typedef struct formula {
-    size_t length;
-    uint8_t bytes[FORMULA_ROOM];
-} formula;
-
-/* Puts an operand's bytes after what is there. */
-static void append(formula *whole, const formula *operand) {
-    size_t room = FORMULA_ROOM - whole->length;
-    size_t taken = operand->length < room ? operand->length : room;
-    memcpy(whole->bytes + whole->length, operand->bytes, taken);
-    whole->length += taken;
+/* Prints why a rule was refused, and where: under its text for a text that breaks the form, by the formula's byte else. */
+static void say_refusal(const char *text, tup_addition addition) {
+    printf(": refused %d, %s", addition.refusal, refusal_word(addition.refusal));
+    if (addition.refusal == TUP_BAD_TEXT) {
+        printf("\n  %s\n  %*s\n", text, (int)addition.place + 1, "^");
+        return;
+    }
+    if (addition.place != TUP_NO_PLACE) {
+        printf(", at byte %zu of its formula", addition.place);
+    }
+    printf("\n");
 }
 
-/* A kind that takes two operands. */
-static formula pair(uint8_t kind, formula first, formula second) {
-    formula whole = {.length = 1, .bytes = {kind}};
-    append(&whole, &first);
-    append(&whole, &second);
-    return whole;
-}
-
-/* A symbol. */
-static formula sym(uint8_t symbol) {
-    return (formula){.length = 2, .bytes = {0x10, symbol}};
-}
-
-/* It is not so. */
-static formula not_(formula operand) {
-    formula whole = {.length = 1, .bytes = {0x11}};
-    append(&whole, &operand);
-    return whole;
-}
-
-/* Both. */
-static formula and_(formula first, formula second) {
-    return pair(0x12, first, second);
-}
-
-/* At least one. */
-static formula or_(formula first, formula second) {
-    return pair(0x13, first, second);
-}
-
-/* The second, wherever the first. */
-static formula implies(formula first, formula second) {
-    return pair(0x14, first, second);
-}
-
-/* Both or neither. */
-static formula same(formula first, formula second) {
-    return pair(0x15, first, second);
-}
-
-/* Adds a rule and prints the rows that it wrote, or why it was refused and where its formula breaks. */
-static void rule(screen *s, const char *meaning, formula whole) {
-    tup_addition addition = tup_rule(s->board, s->table, NUMBERS, whole.bytes, whole.length);
+/* Adds a rule, its text written with symbols for each %d, and prints the rows that it wrote, or why it was refused. */
+static void rule(screen *s, const char *meaning, const char *text, ...) {
+    char whole[ROOM];
+    va_list symbols;
+    va_start(symbols, text);
+    int length = vsnprintf(whole, sizeof whole, text, symbols);
+    va_end(symbols);
+    if (length < 0 || (size_t)length >= sizeof whole) {
+        stop("a rule's text is too long");
+    }
+    tup_addition addition = tup_rule_text(s->board, s->table, NUMBERS, (const uint8_t *)whole, (size_t)length);
     int before = s->board.rows;
     s->board = addition.board; /* a refused rule hands the board back as it was */
     printf("rule: %s", meaning);
     if (addition.refusal != TUP_DONE) {
-        printf(": refused %d, %s", addition.refusal, refusal_word(addition.refusal));
-        if (addition.place != TUP_NO_PLACE) {
-            printf(", at byte %zu", addition.place);
-        }
-        printf("\n");
+        say_refusal(whole, addition);
         s->rules_refused++;
         return;
     }
@@ -318,53 +279,47 @@ static void rule(screen *s, const char *meaning, formula whole) {
 
 /* The crown. The second and third rule are the two conclusions that lean on each other. */
 static void add_crown_rules(screen *s) {
-    rule(s, "TC-3 high means a hot crown", implies(sym(TC_3_HIGH), sym(CROWN_HOT)));
-    rule(s, "under a hot crown the melter is overfired", implies(sym(CROWN_HOT), sym(OVERFIRED)));
-    rule(s, "over an overfired melter the crown is hot", implies(sym(OVERFIRED), sym(CROWN_HOT)));
-    rule(s, "a normal pyrometer reading rules out a hot crown", implies(sym(PYROMETER_NORMAL), not_(sym(CROWN_HOT))));
-    rule(s, "TC-4 high at high gas flow means a hot zone 3",
-         implies(and_(sym(TC_4_HIGH), sym(GAS_FLOW_HIGH)), sym(ZONE_3_HOT)));
-    rule(s, "a hot zone 3 without a hot crown means a shifted hot spot",
-         implies(and_(sym(ZONE_3_HOT), not_(sym(CROWN_HOT))), sym(HOT_SPOT_SHIFTED)));
+    rule(s, "TC-3 high means a hot crown", "%d > %d", TC_3_HIGH, CROWN_HOT);
+    rule(s, "under a hot crown the melter is overfired", "%d > %d", CROWN_HOT, OVERFIRED);
+    rule(s, "over an overfired melter the crown is hot", "%d > %d", OVERFIRED, CROWN_HOT);
+    rule(s, "a normal pyrometer reading rules out a hot crown", "%d > -%d", PYROMETER_NORMAL, CROWN_HOT);
+    rule(s, "TC-4 high at high gas flow means a hot zone 3", "(%d & %d) > %d", TC_4_HIGH, GAS_FLOW_HIGH, ZONE_3_HOT);
+    rule(s, "a hot zone 3 without a hot crown means a shifted hot spot", "(%d & -%d) > %d",
+         ZONE_3_HOT, CROWN_HOT, HOT_SPOT_SHIFTED);
 }
 
 /* What the crew is told to do with the gas. */
 static void add_gas_rules(screen *s) {
-    rule(s, "overfired at good draught: trim gas", implies(and_(sym(OVERFIRED), sym(DRAUGHT_GOOD)), sym(TRIM_GAS)));
-    rule(s, "gas is never trimmed and added at once", not_(and_(sym(TRIM_GAS), sym(ADD_GAS))));
-    rule(s, "no electric boost on this furnace", not_(sym(BOOST_ON)));
-    rule(s, "throat cold, neither overfired nor boosted: add gas",
-         implies(and_(sym(TC_9_LOW), not_(or_(sym(OVERFIRED), sym(BOOST_ON)))), sym(ADD_GAS)));
+    rule(s, "overfired at good draught: trim gas", "(%d & %d) > %d", OVERFIRED, DRAUGHT_GOOD, TRIM_GAS);
+    rule(s, "gas is never trimmed and added at once", "-(%d & %d)", TRIM_GAS, ADD_GAS);
+    rule(s, "no electric boost on this furnace", "-%d", BOOST_ON);
+    rule(s, "throat cold, neither overfired nor boosted: add gas", "(%d & -(%d | %d)) > %d",
+         TC_9_LOW, OVERFIRED, BOOST_ON, ADD_GAS);
 }
 
 /* Damper, draught and flame. */
 static void add_draught_rules(screen *s) {
-    rule(s, "the damper is open or shut, and not both", same(sym(DAMPER_OPEN), not_(sym(DAMPER_SHUT))));
-    rule(s, "the draught is good just when the damper is open", same(sym(DRAUGHT_GOOD), sym(DAMPER_OPEN)));
-    rule(s, "low oxygen, or high gas flow without draught, means a reducing flame",
-         implies(or_(sym(OXYGEN_LOW), and_(sym(GAS_FLOW_HIGH), not_(sym(DRAUGHT_GOOD)))), sym(FLAME_REDUCING)));
-    rule(s, "no gas is added to a reducing flame", implies(sym(FLAME_REDUCING), not_(sym(ADD_GAS))));
+    rule(s, "the damper is open or shut, and not both", "%d = -%d", DAMPER_OPEN, DAMPER_SHUT);
+    rule(s, "the draught is good just when the damper is open", "%d = %d", DRAUGHT_GOOD, DAMPER_OPEN);
+    rule(s, "low oxygen, or high gas flow without draught, means a reducing flame", "(%d | (%d & -%d)) > %d",
+         OXYGEN_LOW, GAS_FLOW_HIGH, DRAUGHT_GOOD, FLAME_REDUCING);
+    rule(s, "no gas is added to a reducing flame", "%d > -%d", FLAME_REDUCING, ADD_GAS);
 }
 
 /* Regenerators and reversal valve. */
 static void add_regenerator_rules(screen *s) {
-    rule(s, "TC-7 high while the valve cycles: left checkers choked",
-         implies(and_(sym(TC_7_HIGH), sym(VALVE_CYCLING)), sym(LEFT_CHOKED)));
-    rule(s, "TC-8 high while the valve cycles: right checkers choked",
-         implies(and_(sym(TC_8_HIGH), sym(VALVE_CYCLING)), sym(RIGHT_CHOKED)));
-    rule(s, "checkers choked on either side: burn-off due",
-         implies(or_(sym(LEFT_CHOKED), sym(RIGHT_CHOKED)), sym(BURN_OFF_DUE)));
-    rule(s, "both sides high while the valve does not cycle: valve stuck",
-         implies(and_(and_(sym(TC_7_HIGH), sym(TC_8_HIGH)), not_(sym(VALVE_CYCLING))), sym(VALVE_STUCK)));
+    rule(s, "TC-7 high while the valve cycles: left checkers choked", "(%d & %d) > %d", TC_7_HIGH, VALVE_CYCLING, LEFT_CHOKED);
+    rule(s, "TC-8 high while the valve cycles: right checkers choked", "(%d & %d) > %d", TC_8_HIGH, VALVE_CYCLING, RIGHT_CHOKED);
+    rule(s, "checkers choked on either side: burn-off due", "(%d | %d) > %d", LEFT_CHOKED, RIGHT_CHOKED, BURN_OFF_DUE);
+    rule(s, "both sides high while the valve does not cycle: valve stuck", "(%d & %d & -%d) > %d",
+         TC_7_HIGH, TC_8_HIGH, VALVE_CYCLING, VALVE_STUCK);
 }
 
-/* Three slips of the pen, to show that the board refuses them, says where a formula breaks, and stays as it was. */
+/* Three slips of the pen, to show that the board refuses them, says where a rule breaks, and stays as it was. */
 static void add_slips(screen *s) {
-    rule(s, "(a slip) the damper is open and is not", and_(sym(DAMPER_OPEN), not_(sym(DAMPER_OPEN))));
-    rule(s, "(a slip) a symbol that this board does not have", implies(sym(SYMBOLS + 1), sym(TRIM_GAS)));
-    formula pasted = implies(and_(sym(TC_7_HIGH), sym(TC_8_HIGH)), sym(BURN_OFF_DUE));
-    pasted.length--;
-    rule(s, "(a slip) both sides high: burn-off due, pasted without its last byte", pasted);
+    rule(s, "(a slip) the damper is open and is not", "%d & -%d", DAMPER_OPEN, DAMPER_OPEN);
+    rule(s, "(a slip) a symbol that this board does not have", "%d > %d", SYMBOLS + 1, TRIM_GAS);
+    rule(s, "(a slip) both sides high: burn-off due, with no brackets", "%d & %d > %d", TC_7_HIGH, TC_8_HIGH, BURN_OFF_DUE);
 }
 
 /* ---- Marks and their grounds ---- */

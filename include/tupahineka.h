@@ -1,5 +1,6 @@
 /* Tupahineka: a proved truth-maintenance board behind a trend screen. The nine calls of document 01 for C and C++, with the places of
- * document 02's first ticket, the two calls for DIMACS text of its second, and blame as its fourth has it.
+ * document 02's first ticket, the two calls for DIMACS text of its second, blame as its fourth has it, and the three calls for formulae in plain
+ * text of its fifth.
  *
  * Link with libpanel.a (`make lib`). Every call ends, takes any numbers, and tests its own input. A call that is refused
  * returns one of the numbers below, hands the board back as it was given (a refused tup_open: S = 0, no rows, no premises)
@@ -9,7 +10,7 @@
  * - a pointer is valid for as many elements as the count after it says (with a count of 0 it may be null);
  * - a table that a call writes does not overlap another one lent to the same call.
  *
- * Places of literals: +s has place 2(s-1), and -s the next one. Places of bytes: see tup_addition. */
+ * Places of literals: +s has place 2(s-1), and -s the next one. Places of bytes: see tup_addition and tup_spelling. */
 #ifndef TUPAHINEKA_H
 #define TUPAHINEKA_H
 
@@ -21,15 +22,17 @@ extern "C" {
 #endif
 
 enum {
-    TUP_MOST_SYMBOLS = 200, /* S is from 1 to this */
-    TUP_PLACES = 400,       /* two for each symbol */
-    TUP_ROW_WIDTH = 8,      /* numbers in a row of the clause table */
-    TUP_MOST_ROWS = 2048,   /* rows used of a longer table */
-    TUP_NONE = 65535,       /* no rank, no support, no row */
-    TUP_MOST_TEXT = 86031   /* no text that tup_write_dimacs writes has more bytes */
+    TUP_MOST_SYMBOLS = 200,    /* S is from 1 to this */
+    TUP_PLACES = 400,          /* two for each symbol */
+    TUP_ROW_WIDTH = 8,         /* numbers in a row of the clause table */
+    TUP_MOST_ROWS = 2048,      /* rows used of a longer table */
+    TUP_NONE = 65535,          /* no rank, no support, no row */
+    TUP_MOST_TEXT = 86031,     /* no text that tup_write_dimacs writes has more bytes */
+    TUP_MOST_FORMULA = 98303,  /* no formula has more bytes */
+    TUP_MOST_SPELLING = 196603 /* no text that tup_write_text writes has more bytes */
 };
 
-/* No place in a formula: the largest size_t, which the place of a byte never is. */
+/* No place in a formula or a text: the largest size_t, which the place of a byte never is. */
 #define TUP_NO_PLACE ((size_t)-1)
 
 /* Numbers of the refusals; 0 is a call that is done. */
@@ -49,7 +52,8 @@ enum {
     TUP_NOTHING_TO_SHOW = 12, /* explain: not derived, or held; ground: not derived; blame: no conflict */
     TUP_TABLE_TOO_SHORT = 13, /* a table to be written is shorter than stated */
     TUP_RANK_TOO_HIGH = 14,   /* never given: proved */
-    TUP_BAD_TEXT = 15         /* DIMACS text that breaks the form, has not the header's number of clauses, or a literal beyond its variables */
+    TUP_BAD_TEXT = 15         /* DIMACS text that breaks the form, has not the header's number of clauses, or a literal beyond its variables;
+                               * formula text that breaks its form, or opens a seventeenth bracket */
 };
 
 /* How a literal stands. */
@@ -71,7 +75,8 @@ typedef struct tup_change {
 
 /* Where a formula breaks, for refusals 2 to 6 of tup_rule; the formula's first byte has place 0. For 2: the symbol's number. For 3: the missing
  * byte, so the count of bytes. For 4 and 5: where the operand was due. For 6: the first byte too many. For 3, and for 5 where no byte is left,
- * formula[place] is one past the end: do not read it. */
+ * formula[place] is one past the end: do not read it. tup_rule_text tells the same of the bytes that its text spells, and for 15 a place in the text:
+ * see tup_spelling. */
 typedef struct tup_addition {
     uint8_t refusal;
     size_t place;   /* TUP_NO_PLACE where done, and for refusals 1, 7, 8 and 9 */
@@ -91,6 +96,15 @@ typedef struct tup_writing {
     uint8_t refusal;
     size_t bytes; /* bytes written, from the front on; 0 where refused */
 } tup_writing;
+
+/* What the calls for formula text tell. The place of 15 is in the text: the first byte that no text of the form can have there, or the count of
+ * bytes where the text is cut short, when text[place] is one past the end: do not read it. The places of 2 to 6 are in the formula's bytes, as in
+ * tup_addition, also where the text is what was given. */
+typedef struct tup_spelling {
+    uint8_t refusal;
+    size_t place; /* TUP_NO_PLACE where done, and for refusals 1 and 13 */
+    size_t bytes; /* bytes written, from the front on; 0 where refused */
+} tup_spelling;
 
 typedef struct tup_answer {
     uint8_t refusal;
@@ -121,6 +135,25 @@ tup_reading tup_read_dimacs(tup_board board, int16_t *table, size_t numbers, con
 /* Writes the rows in use as DIMACS CNF text: `p cnf`, S and the count of rows; then a line for each row in row order, single blanks, 0 last. Every
  * line ends with a line feed, and there is no byte 0 at the end. Refused: 1, 13 (the text is longer than `bytes`). */
 tup_writing tup_write_dimacs(tup_board board, const int16_t *table, size_t numbers, uint8_t *text, size_t bytes);
+
+/* Formulae in plain text. A unit is a symbol's number, `-` and a unit, or a chain in round brackets. A chain is a unit alone; units joined by `&`
+ * only or by `|` only, grouped from the left; or two units joined by `>` (implies) or `=` (same). The whole text is a chain. Spaces may stand
+ * anywhere but inside a number; leading zeros are taken; at most 16 brackets may be open at once. Depth is that of the formula's bytes: brackets
+ * add none. Of a text longer than 128 bytes the first two calls take some 100 KB of stack, and of no text more. */
+
+/* Writes the bytes of the formula that a text spells. Refused: 1; 15 for anything in the whole text; then 2 (a number that is no symbol) or 5,
+ * whichever the bytes meet first; 13 (they are more than `room`). */
+tup_spelling tup_read_text(tup_board board, const int16_t *table, size_t numbers, const uint8_t *text, size_t length,
+                           uint8_t *formula, size_t room);
+
+/* Adds the rule that a text spells, exactly as tup_rule adds its bytes. Refused: 1; 15, with its place in the text; then 2 or 5, with its place in
+ * the formula's bytes; 7, 8, 9. */
+tup_addition tup_rule_text(tup_board board, int16_t *table, size_t numbers, const uint8_t *text, size_t length);
+
+/* Writes a formula as text: brackets round each form of two operands but the whole, no blanks, no leading zeros, no byte 0 at the end. Read by
+ * tup_read_text it gives the same bytes. Refused: 1, 2 to 6 (each with its place, as tup_rule gives them), 13 (the text is longer than `room`). */
+tup_spelling tup_write_text(tup_board board, const int16_t *table, size_t numbers, const uint8_t *formula, size_t bytes,
+                            uint8_t *text, size_t room);
 
 /* Puts a literal into the premises. Refused: 1, 2, 10. */
 tup_change tup_hold(tup_board board, const int16_t *table, size_t numbers, int16_t literal);

@@ -19,7 +19,7 @@ static bool same(Play *play, const char *what, long place, unsigned theirs, unsi
     return theirs == ours || differs(play, what, place, theirs, ours);
 }
 
-/* Compares the byte places of a rule or the bytes of a text, all their bits; they do not fit the numbers above. */
+/* Compares the places of a rule or a text, or the bytes written, all their bits; they do not fit the numbers above. */
 static bool same_place(Play *play, const char *what, size_t theirs, size_t ours) {
     char their_word[PLACE_WORD], our_word[PLACE_WORD];
     if (theirs == ours) return true;
@@ -31,7 +31,7 @@ static bool same_place(Play *play, const char *what, size_t theirs, size_t ours)
 
 /* Compares what the two calls returned. */
 static bool same_outcome(Play *play, const Outcome *ours, const Outcome *theirs) {
-    return same(play, "refusal", NONE, theirs->refusal, ours->refusal) && same_place(play, "place in the formula", theirs->place, ours->place) &&
+    return same(play, "refusal", NONE, theirs->refusal, ours->refusal) && same_place(play, "place told", theirs->place, ours->place) &&
            same(play, "clauses before the fault", NONE, theirs->clauses, ours->clauses) &&
            same_place(play, "bytes written", theirs->written, ours->written) &&
            same(play, "rows added", NONE, theirs->added, ours->added) &&
@@ -68,23 +68,23 @@ static bool same_numbers(Play *play, const char *what, const uint16_t *theirs, c
 }
 
 /* Compares two tables of bytes, guards included. */
-static bool same_bytes(Play *play, const char *what, const uint8_t *theirs, const uint8_t *ours, size_t bytes, long guard) {
+static bool same_bytes(Play *play, const char *what, const uint8_t *theirs, const uint8_t *ours, size_t bytes) {
     if (memcmp(theirs, ours, bytes) == 0) return true;
     size_t i = 0;
     while (theirs[i] == ours[i]) i++;
-    return differs(play, what, (long)i - guard, theirs[i], ours[i]);
+    return differs(play, what, (long)i - GUARD, theirs[i], ours[i]);
 }
 
 /* Compares every table, those that the call was not lent included. */
 static bool same_tables(Play *play, const Step *step) {
     const Tables *theirs = &play->theirs, *ours = &play->ours;
     return same_table(play, theirs->table, ours->table, sizeof ours->table) &&
-           same_bytes(play, "labels", theirs->labels, ours->labels, sizeof ours->labels, GUARD) &&
+           same_bytes(play, "labels", theirs->labels, ours->labels, sizeof ours->labels) &&
            same_numbers(play, "ranks", theirs->ranks, ours->ranks, sizeof ours->ranks) &&
            same_numbers(play, "supports", theirs->supports, ours->supports, sizeof ours->supports) &&
-           same_bytes(play, "marks", theirs->marks, ours->marks, sizeof ours->marks, GUARD) &&
-           same_bytes(play, "formula", theirs->formula, ours->formula, step->kind == RULE ? step->standing : 0, 0) &&
-           same_bytes(play, "text", theirs->text, ours->text, text_window(step), GUARD);
+           same_bytes(play, "marks", theirs->marks, ours->marks, sizeof ours->marks) &&
+           same_bytes(play, "formula", theirs->formula, ours->formula, formula_window(step)) &&
+           same_bytes(play, "text", theirs->text, ours->text, text_window(step));
 }
 
 /* Compares everything after a call. */

@@ -51,9 +51,10 @@ typedef struct Spot {
 
 /* The refusals that can come up, by call. */
 static const unsigned possible[CALLS][NUMBERS] = {
-    [OPEN] = {2},         [RULE] = {1, 2, 3, 4, 5, 6, 7, 8, 9}, [READ] = {1, 2, 7, 8, 9, 15}, [HOLD] = {1, 2, 10},
-    [SETTLE] = {1, 13},   [WITHDRAW] = {1, 2, 11},              [GROUND] = {1, 2, 12, 13},    [ASK] = {1, 2},
-    [BLAME] = {1, 12, 13}, [EXPLAIN] = {1, 2, 12},              [WRITE] = {1, 13}};
+    [OPEN] = {2},          [RULE] = {1, 2, 3, 4, 5, 6, 7, 8, 9}, [READ] = {1, 2, 7, 8, 9, 15}, [HOLD] = {1, 2, 10},
+    [SETTLE] = {1, 13},    [WITHDRAW] = {1, 2, 11},              [GROUND] = {1, 2, 12, 13},    [ASK] = {1, 2},
+    [BLAME] = {1, 12, 13}, [EXPLAIN] = {1, 2, 12},               [WRITE] = {1, 13},            [TEXT_RULE] = {1, 2, 5, 7, 8, 9, 15},
+    [TO_BYTES] = {1, 2, 5, 13, 15}, [TO_TEXT] = {1, 2, 3, 4, 5, 6, 13}};
 
 static unsigned long calls[CALLS], refusals[CALLS][NUMBERS + 1], damaged[BAD_BOARDS][CALLS], cases[CASES];
 static unsigned long broken[BREAKS][SPOTS];
@@ -127,7 +128,7 @@ static void cover_rule(const Play *play, const Step *step) {
 /* Counts a refusal 13 by the table that was short. */
 static void cover_short(const Play *play, const Step *step) {
     size_t symbols = play->board.symbols;
-    if (step->kind == WRITE) return;
+    if (step->kind == WRITE || step->kind == TO_BYTES || step->kind == TO_TEXT) return;
     if (step->kind != SETTLE) {
         cases[SHORT_BY_ONE] += step->lent[0] == 2 * symbols - 1;
         return;
@@ -196,7 +197,7 @@ static void cover_refused(const Play *play, const Step *step) {
     if (refusal == 13) cover_short(play, step);
     if (step->kind == RULE) cover_refused_rule(play, step);
     cases[PAST_2048_LENT] += refusal == 1 && play->board.rows > MOST_ROWS && play->board.rows <= step->numbers / WIDTH;
-    if (refusal == 2 && step->kind != RULE && step->kind != READ && step->value == -32768) cases[LOWEST_ASKED]++;
+    if (refusal == 2 && step->value == -32768) cases[LOWEST_ASKED]++;
     if (refusal != 12 || step->kind != EXPLAIN) return;
     cases[play->board.held[place_of(step->value)] ? EXPLAIN_HELD : EXPLAIN_NOT_DERIVED]++;
 }
@@ -246,6 +247,7 @@ void cover_step(const Play *play, const Step *step) {
     calls[step->kind]++;
     refusals[step->kind][play->last.refusal]++;
     if (step->kind == READ || step->kind == WRITE) cover_text(play, step);
+    if (step->kind == TO_TEXT || spells(step->kind)) cover_spelt(play, step);
     cases[TWO_FAULTS] += step->faults > 1;
     if (play->last.refusal == 0) cover_done(play, step);
     else cover_refused(play, step);
@@ -327,11 +329,13 @@ void cover_print(void) {
     cover_rows_print();
     cover_blames_print();
     cover_texts_print();
+    cover_spelt_print();
     printf("labels 0, 1, 2, 3: %lu %lu %lu %lu\n", labels_seen[0], labels_seen[1], labels_seen[2], labels_seen[3]);
     printf("highest rank: %u; boards settled: %lu, of them in conflict: %lu\n", highest_rank, settled, cases[CONFLICT_SETTLED]);
     printf("rules accepted: %lu, rows they added: %lu, most of one rule: %u; the caller's own acts: %lu\n", rules_done, rows_added, most_rows, acts);
     printf("demand 3 compared: %lu boards, of them in conflict: %lu\n", demand_3, cases[DEMAND_3_CONFLICT]);
     cover_texts_close();
+    cover_spelt_close();
 }
 
 /* Says what is missing of one thing that has to come up. */
@@ -357,6 +361,7 @@ bool cover_is_whole(void) {
     whole &= cover_rows_are_whole();
     whole &= cover_blames_are_whole();
     whole &= cover_texts_are_whole();
+    whole &= cover_spelt_is_whole();
     for (unsigned k = 0; k < CALLS; k++) {
         whole &= came_up(refusals[k][0], "done", kind_word((Kind)k), 0);
         for (unsigned n = 1; n < NUMBERS; n++)

@@ -28,4 +28,18 @@ void cover_texts_print(void);
 void cover_texts_close(void);
 bool cover_texts_are_whole(void);
 
+/* coverspelt.c: the formula texts read and written. */
+void cover_spelt(const Play *play, const Step *step);
+void cover_spelt_trip(void);
+void cover_both_ways(void);
+void cover_definition(void);
+void cover_spelt_print(void);
+void cover_spelt_close(void);
+bool cover_spelt_is_whole(void);
+
+/* coverfaults.c: how formula texts left the form. */
+void cover_fault_at(const uint8_t *text, size_t bytes, size_t place);
+void cover_faults_print(void);
+bool cover_faults_are_whole(void);
+
 #endif

@@ -19,5 +19,6 @@ typedef struct Draft {
 } Draft;
 
 Step *add_step(Draft *draft, Kind kind);
+const uint8_t *keep_bytes(Draft *draft, Step *step, const uint8_t *bytes, size_t length, size_t given);
 
 #endif

@@ -1,10 +1,9 @@
 /* Random sequences: a style for each, its opening and setting up, then calls of all kinds, damaged now and then. */
 #include "draw.h"
 
-#include <string.h>
-
 #include "damage.h"
 #include "drawrows.h"
+#include "drawspelt.h"
 #include "drawtext.h"
 #include "formulae.h"
 
@@ -32,10 +31,10 @@ static const unsigned sort_weights[STYLES][SORTS] = {
 
 /* How often each call comes: at first, and later on. */
 static const unsigned call_weights[2][CALLS] = {
-    {[OPEN] = 3, [RULE] = 90, [READ] = 30, [HOLD] = 60, [WITHDRAW] = 10, [SETTLE] = 20, [ASK] = 10, [EXPLAIN] = 10, [GROUND] = 10, [BLAME] = 5,
-     [WRITE] = 10},
-    {[OPEN] = 5, [RULE] = 20, [READ] = 20, [HOLD] = 34, [WITHDRAW] = 20, [SETTLE] = 40, [ASK] = 28, [EXPLAIN] = 26, [GROUND] = 26, [BLAME] = 16,
-     [WRITE] = 16}};
+    {[OPEN] = 3, [RULE] = 90, [TEXT_RULE] = 40, [READ] = 30, [HOLD] = 60, [WITHDRAW] = 10, [SETTLE] = 20, [ASK] = 10, [EXPLAIN] = 10, [GROUND] = 10,
+     [BLAME] = 5, [WRITE] = 10, [TO_BYTES] = 16, [TO_TEXT] = 14},
+    {[OPEN] = 5, [RULE] = 20, [TEXT_RULE] = 14, [READ] = 20, [HOLD] = 34, [WITHDRAW] = 20, [SETTLE] = 40, [ASK] = 28, [EXPLAIN] = 26, [GROUND] = 26,
+     [BLAME] = 16, [WRITE] = 16, [TO_BYTES] = 16, [TO_TEXT] = 14}};
 
 /* A count of symbols that suits the style. */
 static unsigned draw_symbols(Random *random, unsigned style) {
@@ -87,7 +86,7 @@ void draft_start(Draft *draft, uint64_t seed, uint64_t number) {
     draft->usual = draw_usual(random, draft->style);
     draft->lean = random_chance(random, 30) ? 100 : random_between(random, 50, 99);
     draft->setup = draw_setup(random, draft->style, draft->symbols);
-    draft->calls = random_between(random, 8, 15) + (draft->setup == 0 ? random_between(random, 2, 8) : 0);
+    draft->calls = random_between(random, 9, 17) + (draft->setup == 0 ? random_between(random, 2, 8) : 0);
     bool chain = draft->style == CHAIN && random_chance(random, 80), all = chain || random_chance(random, 50);
     if (chain) draft->lean = 100;
     for (unsigned s = 0; s <= MOST_SYMBOLS; s++) draft->leaning[s] = all || random_chance(random, 50);
@@ -193,6 +192,7 @@ static void draw_lengths(Draft *draft, const Play *play, Step *step) {
         size_t needed = text_needed(play);
         step->lent[0] = draw_length(draft, step, needed, needed + 40);
     }
+    if (step->kind == TO_BYTES || step->kind == TO_TEXT) draw_room(draft, play, step);
     if (step->kind == SETTLE) {
         step->lent[0] = draw_length(draft, step, symbols, LABELS_LENDABLE);
         step->lent[1] = draw_length(draft, step, 2 * symbols, PLACES_LENDABLE);
@@ -203,26 +203,17 @@ static void draw_lengths(Draft *draft, const Play *play, Step *step) {
 
 /* Puts a formula that was written into the step; its bytes stay in the pool. */
 static void keep_formula(Draft *draft, Step *step, const Ink *ink) {
-    if (draft->pooled + ink->length > POOL) {
-        step->kind = ASK;
-        step->value = 1;
-        return;
-    }
-    memcpy(draft->pool + draft->pooled, ink->bytes, ink->length);
-    step->formula = draft->pool + draft->pooled;
-    step->bytes = ink->given;
-    step->standing = ink->length;
-    draft->pooled += ink->length;
+    step->formula = keep_bytes(draft, step, ink->bytes, ink->length, ink->given);
 }
 
 /* Rows that the step's rule would add, or 0. */
 static size_t rows_needed(const Step *step, unsigned symbols) {
     static int16_t rows[MOST_CLAUSES][WIDTH];
     uint8_t different[MOST_SYMBOLS];
-    Reading reading = read_formula(step->formula, step->bytes, symbols);
-    if (reading.refusal != 0 || reading.used < step->bytes) return 0;
-    if (different_symbols(step->formula, step->bytes, different) > RULE_SYMBOLS) return 0;
-    Rule rule = rule_of(step->formula, step->bytes);
+    Spelt rule_bytes = step->kind == RULE ? (Spelt){NO_PLACE, step->bytes, step->formula} : spelt_by(step->text, step->bytes);
+    if (rule_bytes.place != NO_PLACE || formula_breaks(rule_bytes.bytes, rule_bytes.count, symbols).refusal != 0) return 0;
+    if (different_symbols(rule_bytes.bytes, rule_bytes.count, different) > RULE_SYMBOLS) return 0;
+    Rule rule = rule_of(rule_bytes.bytes, rule_bytes.count);
     return rule.satisfying == 0 ? 0 : prime_rows(&rule, rows);
 }
 
@@ -235,7 +226,7 @@ static void start_ink(Draft *draft, const Play *play, Ink *ink) {
     ink->symbols = symbols >= 1 && symbols <= MOST_SYMBOLS ? symbols : draft->symbols;
 }
 
-/* Writes the formula of a rule, and now and then lends just the table it needs, or one number less. */
+/* Writes the formula of a rule, spelt where text is given, and now and then lends just the table it needs, or one number less. */
 static void draw_rule(Draft *draft, const Play *play, Step *step) {
     static Ink ink;
     Random *random = &draft->random;
@@ -243,8 +234,9 @@ static void draw_rule(Draft *draft, const Play *play, Step *step) {
     write_formula(&ink, random_weighted(random, sort_weights[draft->style], SORTS));
     if (random_chance(random, 20)) spoil_formula(&ink);
     if (random_chance(random, 3)) append_noise(&ink);
-    keep_formula(draft, step, &ink);
-    if (step->kind != RULE || !random_chance(random, 12)) return;
+    if (spells(step->kind)) draw_spelling(draft, step, &ink);
+    else keep_formula(draft, step, &ink);
+    if ((step->kind != RULE && step->kind != TEXT_RULE) || !random_chance(random, 12)) return;
     size_t numbers = WIDTH * (play->board.rows + rows_needed(step, ink.symbols));
     if (numbers > 0 && numbers <= WIDTH * MOST_ROWS)
         step->numbers = random_chance(random, 50) ? numbers - 1 : numbers + random_below(random, WIDTH);
@@ -263,7 +255,7 @@ static void draw_call(Draft *draft, const Play *play, Step *step) {
     step->numbers = draw_numbers(draft, play);
     switch (step->kind) {
     case OPEN: step->value = draw_opening(draft); break;
-    case RULE: draw_rule(draft, play, step); break;
+    case RULE: case TEXT_RULE: case TO_BYTES: case TO_TEXT: draw_rule(draft, play, step); break;
     case READ: draw_read(draft, play, step); break;
     case SETTLE: case BLAME: case WRITE: break;
     default: draw_given_literal(draft, play, step);
@@ -299,12 +291,18 @@ static void add_call(Draft *draft, const Play *play) {
     }
 }
 
+/* Adds the rule that was written, every fourth time as text. */
+static void add_written(Draft *draft, const Ink *ink) {
+    Step *step = add_step(draft, RULE);
+    if (!random_chance(&draft->random, 25) || !spell_rule(draft, step, ink)) keep_formula(draft, step, ink);
+}
+
 /* Adds a rule "from implies to". */
 static void add_implication(Draft *draft, const Play *play, unsigned from, unsigned to) {
     static Ink ink;
     start_ink(draft, play, &ink);
     write_implication(&ink, from, to);
-    keep_formula(draft, add_step(draft, RULE), &ink);
+    add_written(draft, &ink);
 }
 
 /* Adds a rule of a sort. */
@@ -312,7 +310,7 @@ static void add_rule(Draft *draft, const Play *play, unsigned sort) {
     static Ink ink;
     start_ink(draft, play, &ink);
     write_formula(&ink, sort);
-    keep_formula(draft, add_step(draft, RULE), &ink);
+    add_written(draft, &ink);
 }
 
 /* Adds a sound row of the caller's: literals that the leaning mostly makes false, but for one. */

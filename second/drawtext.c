@@ -1,8 +1,6 @@
 /* Drawing the steps of a sequence that read and write texts. */
 #include "drawtext.h"
 
-#include <string.h>
-
 #include "texts.h"
 
 /* The bytes that the board's rows need as text; of a board that is not good, some. */
@@ -10,20 +8,6 @@ size_t text_needed(const Play *play) {
     static char text[MOST_TEXT + 1];
     if (!board_is_good(&play->board, play->ours.table + GUARD, TABLE_LENDABLE)) return 40;
     return text_of_rows(&play->board, play->ours.table + GUARD, text);
-}
-
-/* Puts a text that was written into the step; its bytes stay in the pool. */
-static void keep_text(Draft *draft, Step *step, const Page *page) {
-    if (draft->pooled + page->length > POOL) {
-        step->kind = ASK;
-        step->value = 1;
-        return;
-    }
-    memcpy(draft->pool + draft->pooled, page->bytes, page->length);
-    step->text = draft->pool + draft->pooled;
-    step->bytes = page->given;
-    step->standing = page->length;
-    draft->pooled += page->length;
 }
 
 /* A page for this sequence. */
@@ -55,7 +39,7 @@ void draw_read(Draft *draft, const Play *play, Step *step) {
     step->torn = random_chance(random, 25);
     if (step->torn) spoil_text(page);
     step->faults += faulty + step->torn;
-    keep_text(draft, step, page);
+    step->text = keep_bytes(draft, step, page->bytes, page->length, page->given);
     size_t numbers = WIDTH * (play->board.rows + clauses);
     if (step->kind == READ && random_chance(random, 20) && numbers > 0 && numbers <= WIDTH * MOST_ROWS)
         step->numbers = random_chance(random, 50) ? numbers - 1 : numbers + random_below(random, WIDTH);
@@ -65,5 +49,6 @@ void draw_read(Draft *draft, const Play *play, Step *step) {
 void add_reading(Draft *draft, const Play *play, unsigned clauses) {
     Page *page = start_page(draft, play);
     write_text(page, clauses, false);
-    keep_text(draft, add_step(draft, READ), page);
+    Step *step = add_step(draft, READ);
+    step->text = keep_bytes(draft, step, page->bytes, page->length, page->given);
 }

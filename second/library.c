@@ -17,6 +17,30 @@ static Outcome call_rule(const Step *step, tup_board *board, int16_t *table, con
     return (Outcome){.refusal = addition.refusal, .added = addition.added, .place = addition.place};
 }
 
+/* Adds a rule from its text. */
+static Outcome call_text_rule(const Step *step, tup_board *board, int16_t *table, const uint8_t *text) {
+    tup_addition addition = tup_rule_text(*board, table, step->numbers, LENT(text, step->bytes, step), step->bytes);
+    *board = addition.board;
+    return (Outcome){.refusal = addition.refusal, .added = addition.added, .place = addition.place};
+}
+
+/* The outcome of a call that turns formula text into bytes or back. */
+static Outcome turned(tup_spelling spelling) {
+    return (Outcome){.refusal = spelling.refusal, .place = spelling.place, .written = spelling.bytes};
+}
+
+/* Reads formula text to bytes. */
+static Outcome call_to_bytes(const Step *step, const tup_board *board, const int16_t *table, const uint8_t *text, uint8_t *formula) {
+    return turned(tup_read_text(*board, table, step->numbers, LENT(text, step->bytes, step), step->bytes, LENT(formula, step->lent[0], step),
+                                step->lent[0]));
+}
+
+/* Writes formula bytes as text. */
+static Outcome call_to_text(const Step *step, const tup_board *board, const int16_t *table, const uint8_t *formula, uint8_t *text) {
+    return turned(tup_write_text(*board, table, step->numbers, LENT(formula, step->bytes, step), step->bytes, LENT(text, step->lent[0], step),
+                                 step->lent[0]));
+}
+
 /* Reads a text. */
 static Outcome call_read(const Step *step, tup_board *board, int16_t *table, const uint8_t *text) {
     tup_reading reading = tup_read_dimacs(*board, table, step->numbers, LENT(text, step->bytes, step), step->bytes);
@@ -48,14 +72,17 @@ static Outcome call_explain(const Step *step, const tup_board *board, const int1
 /* Makes the step's call on the library's board and tables. */
 Outcome library_call(const Step *step, tup_board *board, Tables *tables) {
     int16_t *table = LENT(tables->table + GUARD, step->numbers, step);
-    uint8_t *marks = LENT(tables->marks + GUARD, step->lent[0], step);
+    uint8_t *marks = LENT(tables->marks + GUARD, step->lent[0], step), *formula = tables->formula + GUARD, *text = tables->text + GUARD;
     int16_t literal = (int16_t)step->value;
     tup_answer answer;
     switch (step->kind) {
     case OPEN: return changed(tup_open((uint16_t)step->value), board);
-    case RULE: return call_rule(step, board, table, tables->formula);
-    case READ: return call_read(step, board, table, tables->text + GUARD);
-    case WRITE: return call_write(step, board, table, tables->text + GUARD);
+    case RULE: return call_rule(step, board, table, formula);
+    case TEXT_RULE: return call_text_rule(step, board, table, text);
+    case TO_BYTES: return call_to_bytes(step, board, table, text, formula);
+    case TO_TEXT: return call_to_text(step, board, table, formula, text);
+    case READ: return call_read(step, board, table, text);
+    case WRITE: return call_write(step, board, table, text);
     case HOLD: return changed(tup_hold(*board, table, step->numbers, literal), board);
     case WITHDRAW: return changed(tup_withdraw(*board, table, step->numbers, literal), board);
     case SETTLE: return call_settle(step, board, table, tables);

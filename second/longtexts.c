@@ -1,33 +1,16 @@
 /* Long texts: comments, numbers, lines and gaps of a megabyte, and as many clauses as a header can count. */
 #include <stdio.h>
-#include <string.h>
 
+#include "longtext.h"
 #include "texttrials.h"
 
 enum { MEGABYTE = 1048576, MOST_COUNTED = 32767 };
 
-static uint8_t text[TEXT_LENDABLE];
-static size_t length;
-
-/* Starts the text with these words. */
-static void start_with(const char *words) {
-    length = strlen(words);
-    memcpy(text, words, length);
-}
-
-/* Adds words so many times. */
-static void add(const char *words, size_t times) {
-    for (size_t i = 0; i < times; i++) {
-        memcpy(text + length, words, strlen(words));
-        length += strlen(words);
-    }
-}
-
 /* Reads the text onto a board of 9 symbols and as many rows as there are; false where anything is other than it is said here. */
 static bool expect(Play *play, const char *what, unsigned refusal, unsigned clauses, unsigned rows) {
-    bool good = text_open(play, 9) && text_read(play, text, length, length, TABLE_LENDABLE, false);
+    bool good = text_open(play, 9) && text_read(play, long_text, long_length, long_length, TABLE_LENDABLE, false);
     good = good && play->last.refusal == refusal && play->last.clauses == clauses && play->last.added == rows;
-    return good || text_wrong(play, what, text, length);
+    return good || text_wrong(play, what, long_text, long_length);
 }
 
 /* Comments of a megabyte in one line and in many, and one without its end. */

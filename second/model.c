@@ -63,12 +63,18 @@ static Outcome rule_outcome(unsigned refusal, size_t place) {
     return (Outcome){.refusal = refusal, .place = place};
 }
 
-/* The refusal of a formula by its bytes alone: 2 to 6, each with its place, then 7. For 6 it is that "of the first byte too many". */
-static Outcome formula_tests(const uint8_t *formula, size_t bytes, unsigned symbols) {
-    uint8_t different[MOST_SYMBOLS];
+/* Where a formula breaks: 2 to 6, each with its place. For 6 it is that "of the first byte too many". */
+Outcome formula_breaks(const uint8_t *formula, size_t bytes, unsigned symbols) {
     Reading reading = read_formula(formula, bytes, symbols);
     if (reading.refusal != 0) return rule_outcome(reading.refusal, reading.place);
-    if (reading.used < bytes) return rule_outcome(6, reading.used);
+    return reading.used < bytes ? rule_outcome(6, reading.used) : rule_outcome(0, NO_PLACE);
+}
+
+/* The refusal of a formula by its bytes alone: 2 to 6, then 7. */
+static Outcome formula_tests(const uint8_t *formula, size_t bytes, unsigned symbols) {
+    uint8_t different[MOST_SYMBOLS];
+    Outcome broken = formula_breaks(formula, bytes, symbols);
+    if (broken.refusal != 0) return broken;
     return rule_outcome(different_symbols(formula, bytes, different) > RULE_SYMBOLS ? 7 : 0, NO_PLACE);
 }
 

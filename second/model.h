@@ -1,4 +1,4 @@
-/* Document 01 with Tickets 1, 2 and 4 of document 02 by brute force, for the independent second program.
+/* Document 01 with Tickets 1, 2, 4 and 5 of document 02 by brute force, for the independent second program.
  *
  * Written from these documents and include/tupahineka.h alone. No other code of the project was read for it: what this
  * program and the library share is the documents and nothing else. Slow and by definition, wherever a definition is there. */
@@ -19,7 +19,10 @@ enum {
     ASSIGNMENTS = 256,
     MOST_CLAUSES = 6561, /* over eight symbols, the empty one included */
     DEEPEST = 16,        /* the depth an operand may stand at */
-    MOST_TEXT = 86031    /* bytes of 2,048 rows of 8 literals such as -200, under the header of 200 symbols */
+    MOST_TEXT = 86031,   /* bytes of 2,048 rows of 8 literals such as -200, under the header of 200 symbols */
+    MOST_FORMULA = 98303,   /* bytes of 32,768 symbols at depth 16 and the 32,767 kinds above them */
+    MOST_SPELLING = 196603, /* bytes of their text: three digits each, the marks, brackets round all of these forms but the whole */
+    MOST_OPEN = 16          /* brackets open at once in formula text */
 };
 
 /* Where no byte place is told: the largest size_t, by the C interface. */
@@ -37,8 +40,8 @@ typedef struct Board {
 typedef struct Outcome {
     unsigned refusal, added, standing, literals, rank, row;
     unsigned clauses; /* of a text read: those before the first at fault */
-    size_t place;     /* of a rule: the byte where its formula breaks, or NO_PLACE */
-    size_t written;   /* of a text written: its bytes */
+    size_t place;     /* of a rule, and of formula text: the byte where its formula or its text breaks, or NO_PLACE */
+    size_t written;   /* of a text or a formula written: its bytes */
 } Outcome;
 
 /* How reading a formula ended: done, the bytes used and NO_PLACE; refused, the number and the place where it breaks. */
@@ -53,6 +56,13 @@ typedef struct Rule {
     uint8_t symbol[RULE_SYMBOLS];
     bool holds[ASSIGNMENTS];
 } Rule;
+
+/* What a formula text spells: its bytes, which stand until the next text is taken; or where it leaves the form. */
+typedef struct Spelt {
+    size_t place; /* NO_PLACE for a text of the form */
+    size_t count;
+    const uint8_t *bytes;
+} Spelt;
 
 /* What the header of a DIMACS text says, and where its body starts. */
 typedef struct Form {
@@ -95,6 +105,7 @@ void walk_back(const Board *board, const int16_t *table, const Findings *found, 
 bool board_is_good(const Board *board, const int16_t *table, size_t numbers);
 size_t rows_lent(size_t numbers);
 Outcome model_open(Board *board, unsigned symbols);
+Outcome formula_breaks(const uint8_t *formula, size_t bytes, unsigned symbols);
 Outcome model_rule(Board *board, int16_t *table, size_t numbers, const uint8_t *formula, size_t bytes);
 Outcome model_hold(Board *board, const int16_t *table, size_t numbers, int literal);
 Outcome model_withdraw(Board *board, const int16_t *table, size_t numbers, int literal);
@@ -117,6 +128,18 @@ Rule clause_rule(const Clause *clause);
 Outcome model_read(Board *board, int16_t *table, size_t numbers, const uint8_t *text, size_t bytes);
 size_t text_of_rows(const Board *board, const int16_t *table, char out[MOST_TEXT + 1]);
 Outcome model_write(const Board *board, const int16_t *table, size_t numbers, uint8_t *text, size_t bytes);
+
+/* spelt.c: formulae in plain text, three calls more. */
+Spelt spelt_by(const uint8_t *text, size_t length);
+size_t text_of_formula(const uint8_t *formula, char out[MOST_SPELLING + 1]);
+Outcome model_to_bytes(const Board *board, const int16_t *table, size_t numbers, const uint8_t *text, size_t length, uint8_t *formula, size_t room);
+Outcome model_text_rule(Board *board, int16_t *table, size_t numbers, const uint8_t *text, size_t length);
+Outcome model_to_text(const Board *board, const int16_t *table, size_t numbers, const uint8_t *formula, size_t bytes, uint8_t *text, size_t room);
+
+/* reduced.c: the form of formula text a second way, and the place of a 15 by its definition. */
+bool text_is_of_form(const uint8_t *text, size_t length);
+bool text_can_go_on(const uint8_t *text, size_t length);
+bool text_leaves_form_at(const uint8_t *text, size_t length, size_t place);
 
 /* byrule.c: demand 3's second way, without clauses. */
 void force_by_rules(const Rule *rules, size_t count, const bool held[PLACES], bool forced[PLACES]);

@@ -1,6 +1,7 @@
 /* The independent second program of Tupahineka: random sequences of calls, the library against the documents by brute force.
  *
- * Written from document 01, Tickets 1, 2 and 4 of document 02 and include/tupahineka.h alone; no other code of the project was read for it.
+ * Written from document 01, Tickets 1, 2, 4 and 5 of document 02, the project's exact readings of Ticket 5 and include/tupahineka.h alone; no other
+ * code of the project was read for it.
  *
  *   second SEED COUNT               plays COUNT sequences and compares everything after every call
  *   second show SEED NUMBER         prints sequence NUMBER in words, by the model alone
@@ -17,6 +18,7 @@
 #include "draw.h"
 #include "journal.h"
 #include "rowtries.h"
+#include "spelttrials.h"
 #include "texttrials.h"
 
 enum { WHOLE_FROM = 2000 };
@@ -82,11 +84,17 @@ static bool sequence_agrees(uint64_t seed, uint64_t number) {
     return false;
 }
 
+/* Formula texts: by hand, on the boards to try, damaged, long, there and back, at every room, and by the definition of 15. */
+static bool spelt_agree(uint64_t seed) {
+    return hand_spelt_agree(&play) && boards_spelt_agree(&play) && torn_spelt_agree(&play, seed) && long_spelt_agree(&play) &&
+           spelt_trips_agree(&play, seed) && spelt_rooms_agree(&play, seed) && spelt_places_agree(&play, seed);
+}
+
 /* The boards that the documents name, those worked out by hand, then the texts. */
 static bool trials_agree(uint64_t seed) {
     in_trials = true;
     return document_agrees(&play) && row_tries_agree(&play) && spellings_agree(&play) && torn_texts_agree(&play, seed) && long_texts_agree(&play) &&
-           rooms_agree(&play, seed) && rules_agree(&play, seed);
+           rooms_agree(&play, seed) && rules_agree(&play, seed) && spelt_agree(seed);
 }
 
 /* Plays all sequences of a seed, then what is to be tried besides. */

@@ -11,10 +11,31 @@ static void past_the_last_row(Tables *tables) {
         tables->table[GUARD + place] = place % WIDTH == 0;
 }
 
+/* True if the call is given formula bytes. */
+bool gives_formula(Kind kind) {
+    return kind == RULE || kind == TO_TEXT;
+}
+
+/* True if the call is given a text of either sort. */
+bool gives_text(Kind kind) {
+    return kind == READ || spells(kind);
+}
+
+/* True if the call is given formula text. */
+bool spells(Kind kind) {
+    return kind == TEXT_RULE || kind == TO_BYTES;
+}
+
 /* Bytes of the text's table that a call may see, and the guards of one that is written. */
 size_t text_window(const Step *step) {
-    if (step->kind == READ) return GUARD + step->standing;
-    return step->kind == WRITE ? GUARD + step->lent[0] + GUARD : 0;
+    if (gives_text(step->kind)) return GUARD + step->standing;
+    return step->kind == WRITE || step->kind == TO_TEXT ? GUARD + step->lent[0] + GUARD : 0;
+}
+
+/* Bytes of the formula's table that a call may see, and the guards of one that is written. */
+size_t formula_window(const Step *step) {
+    if (gives_formula(step->kind)) return GUARD + step->standing;
+    return step->kind == TO_BYTES ? GUARD + step->lent[0] + GUARD : 0;
 }
 
 /* Both sides alike: no board, and noise in every place of every table. */
@@ -31,39 +52,35 @@ void play_start(Play *play, uint64_t seed, bool with_library) {
     memcpy(play->theirs.table, play->ours.table, sizeof play->ours.table);
 }
 
-/* Fresh noise where a text is to be written, or the text to be read with what stands after it, on both sides. */
-static void lend_text(Play *play, const Step *step) {
-    uint8_t *ours = play->ours.text, *theirs = play->theirs.text;
-    if (step->kind == READ) {
-        memcpy(ours + GUARD, step->text, step->standing);
-        memcpy(theirs + GUARD, step->text, step->standing);
-    } else {
-        random_fill(step->noise, ours, text_window(step));
-        memcpy(theirs, ours, text_window(step));
-    }
+/* Fresh noise where bytes are to be written, or those given with what stands after them, on both sides. */
+static void lend_bytes(const Step *step, bool given, const uint8_t *bytes, size_t window, uint8_t *ours, uint8_t *theirs) {
+    if (!given) random_fill(step->noise, ours, window);
+    else if (step->standing > 0) memcpy(ours + GUARD, bytes, step->standing);
+    memcpy(theirs, ours, window);
 }
 
-/* Fresh noise in the tables that calls write, and the formula with what stands after it, on both sides. */
+/* Fresh noise in the tables that calls write, and the formula or the text with what stands after it, on both sides. */
 static void lend(Play *play, const Step *step) {
     Tables *ours = &play->ours, *theirs = &play->theirs;
     size_t from = offsetof(Tables, ranks), bytes = offsetof(Tables, formula) - from;
     random_fill(step->noise, (char *)ours + from, bytes);
     memcpy((char *)theirs + from, (char *)ours + from, bytes);
-    if (step->kind == READ || step->kind == WRITE) lend_text(play, step);
-    if (step->kind != RULE) return;
-    memcpy(ours->formula, step->formula, step->standing);
-    memcpy(theirs->formula, step->formula, step->standing);
+    lend_bytes(step, gives_text(step->kind), step->text, text_window(step), ours->text, theirs->text);
+    lend_bytes(step, gives_formula(step->kind), step->formula, formula_window(step), ours->formula, theirs->formula);
 }
 
 /* The model's side of a call. */
 static Outcome model_call(const Step *step, Board *board, Tables *tables) {
     int16_t *table = tables->table + GUARD;
-    uint8_t *marks = tables->marks + GUARD;
+    uint8_t *marks = tables->marks + GUARD, *formula = tables->formula + GUARD, *text = tables->text + GUARD;
     switch (step->kind) {
     case OPEN: return model_open(board, (unsigned)step->value);
-    case RULE: return model_rule(board, table, step->numbers, tables->formula, step->bytes);
-    case READ: return model_read(board, table, step->numbers, tables->text + GUARD, step->bytes);
-    case WRITE: return model_write(board, table, step->numbers, tables->text + GUARD, step->lent[0]);
+    case RULE: return model_rule(board, table, step->numbers, formula, step->bytes);
+    case TEXT_RULE: return model_text_rule(board, table, step->numbers, text, step->bytes);
+    case TO_BYTES: return model_to_bytes(board, table, step->numbers, text, step->bytes, formula, step->lent[0]);
+    case TO_TEXT: return model_to_text(board, table, step->numbers, formula, step->bytes, text, step->lent[0]);
+    case READ: return model_read(board, table, step->numbers, text, step->bytes);
+    case WRITE: return model_write(board, table, step->numbers, text, step->lent[0]);
     case HOLD: return model_hold(board, table, step->numbers, step->value);
     case WITHDRAW: return model_withdraw(board, table, step->numbers, step->value);
     case SETTLE:
@@ -114,6 +131,16 @@ static void book_clauses(Book *book, const Step *step) {
     }
 }
 
+/* Puts the rule that a step added into the book, as its bytes or as its text has it. */
+static void book_rule(Book *book, const Step *step) {
+    if (step->kind == RULE) {
+        book->rules[book->count++] = rule_of(step->formula, step->bytes);
+        return;
+    }
+    Spelt spelt = spelt_by(step->text, step->bytes);
+    book->rules[book->count++] = rule_of(spelt.bytes, spelt.count);
+}
+
 /* Keeps the book of rules: a good open starts it, an accepted rule or text goes in with its rows. A book without room is closed. */
 static void keep_book(Play *play, const Step *step, const Outcome *outcome) {
     Book *book = &play->book;
@@ -122,13 +149,13 @@ static void keep_book(Play *play, const Step *step, const Outcome *outcome) {
         book->symbols = play->board.symbols;
         book->rows = 0;
         book->count = 0;
-    } else if (step->kind == RULE || step->kind == READ) {
-        size_t rules = step->kind == RULE ? 1 : outcome->clauses;
+    } else if (step->kind == RULE || step->kind == TEXT_RULE || step->kind == READ) {
+        size_t rules = step->kind == READ ? outcome->clauses : 1;
         if (book->count + rules > BOOK_RULES || book->rows + outcome->added > MOST_ROWS) book->symbols = 0;
         if (book->symbols == 0) return;
         const int16_t *rows = play->ours.table + GUARD + WIDTH * (play->board.rows - outcome->added);
         if (step->kind == READ) book_clauses(book, step);
-        else book->rules[book->count++] = rule_of(step->formula, step->bytes);
+        else book_rule(book, step);
         memcpy(book->written + WIDTH * book->rows, rows, outcome->added * WIDTH * sizeof rows[0]);
         book->rows += outcome->added;
     }

@@ -17,9 +17,10 @@ enum {
     PLACE_WORD = 24                            /* bytes for a place in words */
 };
 
-/* The eleven calls, those that hand a board back first; then what the caller may do between them. */
+/* The fourteen calls, those that hand a board back first; then what the caller may do between them. READ and WRITE are of DIMACS text; TEXT_RULE,
+ * TO_BYTES and TO_TEXT of formula text: a rule added from it, it read to bytes, and bytes written as it. */
 typedef enum Kind {
-    OPEN, RULE, READ, HOLD, WITHDRAW, SETTLE, ASK, EXPLAIN, GROUND, BLAME, WRITE,
+    OPEN, RULE, TEXT_RULE, READ, HOLD, WITHDRAW, SETTLE, ASK, EXPLAIN, GROUND, BLAME, WRITE, TO_BYTES, TO_TEXT,
     CALLS,
     SET_SYMBOLS = CALLS, /* the caller writes S = value into the board */
     SET_ROWS,            /* the caller writes rows in use = value */
@@ -35,9 +36,9 @@ typedef struct Step {
     unsigned place;
     int16_t row[WIDTH];
     size_t numbers;          /* numbers of the clause table lent */
-    size_t lent[3];          /* labels, ranks and supports; or marks; or bytes for a text */
-    const uint8_t *formula;  /* of a rule */
-    const uint8_t *text;     /* to be read */
+    size_t lent[3];          /* labels, ranks and supports; or marks; or bytes for a text or a formula */
+    const uint8_t *formula;  /* of a rule, or to be written as text */
+    const uint8_t *text;     /* to be read, of either sort */
     size_t bytes, standing;  /* bytes given, and bytes that stand there: those past the given ones must not be read */
     uint64_t noise;          /* what stands in the tables to be written, before the call */
     unsigned damage, faults; /* for the counts only: what was spoilt ahead of this call, and how many things */
@@ -51,7 +52,7 @@ typedef struct Tables {
     uint16_t supports[GUARD + PLACES_LENDABLE + GUARD];
     uint8_t labels[GUARD + LABELS_LENDABLE + GUARD];
     uint8_t marks[GUARD + PLACES_LENDABLE + GUARD];
-    uint8_t formula[FORMULA_LENDABLE];
+    uint8_t formula[GUARD + FORMULA_LENDABLE + GUARD];
     uint8_t text[GUARD + TEXT_LENDABLE + GUARD];
 } Tables;
 
@@ -76,7 +77,11 @@ typedef struct Play {
 } Play;
 
 /* steps.c */
+bool gives_formula(Kind kind);
+bool gives_text(Kind kind);
+bool spells(Kind kind);
 size_t text_window(const Step *step);
+size_t formula_window(const Step *step);
 void play_start(Play *play, uint64_t seed, bool with_library);
 bool play_step(Play *play, const Step *step);
 bool book_covers(const Play *play);

@@ -3,8 +3,8 @@
 
 #include "steps.h"
 
-static const char *const words[KINDS] = {"open", "rule", "read", "hold", "withdraw", "settle", "ask", "explain", "ground", "blame", "write",
-                                         "set S", "set rows used", "set a held byte", "set a number", "append a row"};
+static const char *const words[KINDS] = {"open", "rule", "add text", "read", "hold", "withdraw", "settle", "ask", "explain", "ground", "blame", "write",
+                                         "to bytes", "to text", "set S", "set rows used", "set a held byte", "set a number", "append a row"};
 
 /* The word for a kind of step. */
 const char *kind_word(Kind kind) {
@@ -76,8 +76,8 @@ static void print_lent(const Step *step) {
     if (step->kind != OPEN) printf("; table of %zu numbers (%zu rows)", step->numbers, rows_lent(step->numbers));
     if (step->kind == SETTLE) printf("; %zu labels, %zu ranks, %zu supports lent", step->lent[0], step->lent[1], step->lent[2]);
     if (step->kind == GROUND || step->kind == BLAME) printf("; %zu marks lent", step->lent[0]);
-    if (step->kind == WRITE) printf("; %zu bytes lent", step->lent[0]);
-    if (step->kind == READ && step->standing > step->bytes) printf("; bytes of the caller's go on after the text");
+    if (step->kind == WRITE || step->kind == TO_BYTES || step->kind == TO_TEXT) printf("; %zu bytes lent", step->lent[0]);
+    if (gives_text(step->kind) && step->standing > step->bytes) printf("; bytes of the caller's go on after the text");
 }
 
 /* Prints a step on a line of its own. */
@@ -89,8 +89,8 @@ void print_step(const Step *step, size_t ordinal) {
     case SET_HELD: printf("the caller sets the held byte of %d to %d", literal_at(step->place), step->value); break;
     case SET_NUMBER: printf("the caller sets row %u, place %u of it, to %d", step->place / WIDTH, step->place % WIDTH, step->value); break;
     case APPEND_ROW: printf("the caller appends the row"), print_row(step->row); break;
-    case RULE: printf("rule "), print_formula(step), print_lent(step); break;
-    case READ: printf("read "), print_text(step->text, step->bytes), print_lent(step); break;
+    case RULE: case TO_TEXT: printf("%s ", words[step->kind]), print_formula(step), print_lent(step); break;
+    case READ: case TEXT_RULE: case TO_BYTES: printf("%s ", words[step->kind]), print_text(step->text, step->bytes), print_lent(step); break;
     case SETTLE: case BLAME: case WRITE: printf("%s", words[step->kind]), print_lent(step); break;
     default: printf("%s %d", words[step->kind], step->value), print_lent(step);
     }
@@ -102,13 +102,13 @@ void print_outcome(const char *who, Kind kind, const Outcome *outcome) {
     static const char *const standings[] = {"open", "stands", "ruled out", "conflict"};
     printf("  %s: ", who);
     if (outcome->refusal != 0) printf("refusal %u", outcome->refusal);
-    else if (kind == RULE || kind == READ) printf("%u rows added", outcome->added);
-    else if (kind == WRITE) printf("%zu bytes written", outcome->written);
+    else if (kind == RULE || kind == TEXT_RULE || kind == READ) printf("%u rows added", outcome->added);
+    else if (kind == WRITE || kind == TO_BYTES || kind == TO_TEXT) printf("%zu bytes written", outcome->written);
     else if (kind == ASK) printf("%s", outcome->standing < 4 ? standings[outcome->standing] : "no standing");
     else if (kind == EXPLAIN) printf("rank %u, row %u of %u literals", outcome->rank, outcome->row, outcome->literals);
     else printf("done");
     if (kind == READ) printf(", %u clauses before the fault or the end", outcome->clauses);
-    if (kind == RULE && outcome->place != NO_PLACE) printf(", at byte %zu", outcome->place);
+    if ((gives_formula(kind) || spells(kind)) && outcome->place != NO_PLACE) printf(", at byte %zu", outcome->place);
     printf("\n");
 }
 

@@ -8,9 +8,14 @@ example=$(awk -F '  +' '/^    0[1-6] / {print $2 "\t" $4}' README.md)
 diff <(cut -f 1 <<<"$example" | tr -s ' \n' '\n') <(sed 's/#.*//' examples/cases/printed/input.hex | tr -s ' \n' '\n' | sed '/^$/d')
 diff <(cut -f 2 <<<"$example") examples/cases/printed/expected
 
-# the text that cnf is given, and what it prints
-diff <(printf "$(sed -n "s,^    \$ printf '\(.*\)' | ./run cnf\$,\1,p" README.md)") crates/cnf/stdin
+# the text that cnf is given, and what it prints; and the lines of spell, where an empty line stands between two answers
+shown() { # PROGRAM: what it is given, as printf has it
+    sed -n "s,^    \$ printf '\(.*\)' | ./run $1\$,\1,p" README.md
+}
+diff <(printf "$(shown cnf)") crates/cnf/stdin
 diff <(sed -n '/| .\/run cnf$/,/^$/s/^    \([^$].*\)/\1/p' README.md) crates/cnf/stdout
+diff <(printf "$(shown spell)") crates/spell/stdin
+diff <(sed -n '/| .\/run spell$/,/^[^ ]/p' README.md | sed -e 1d -e '$d' -e 's/^    //' | sed '$d') crates/spell/stdout
 
 for target in $(grep -o 'make [a-z]*' README.md | sort -u | cut -d ' ' -f 2); do
     grep -q "^$target:" Makefile || {

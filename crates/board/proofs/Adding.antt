@@ -19,7 +19,7 @@ use Rattle.literals.specs.Refusals.{numberOf}
 use Rattle.literals.specs.declared.refusal.Refusal.{Refusal}
 use Rattle.literals.specs.declared.refusal.Refusal.the-variants.{BytesLeftOver}
 use Rattle.formula.specs.Parse.{Parsed, good, bad, parse, levels, ended, wholeOf}
-use Rattle.formula.specs.Answers.{isGood, padded, named, namesOf, truthOf}
+use Rattle.formula.specs.Answers.{isGood, padded, named, namesOf, truthOf, formulaOf}
 use Rattle.formula.specs.declared.naming.Names.{Names}
 use Rattle.formula.proofs.Faults.{whole-faults}
 use Rattle.implicates.specs.Appending.{ruleBy, appended, answerOf, tableOf}
@@ -27,7 +27,7 @@ use Rattle.implicates.specs.declared.Appended.{Appended}
 use Rattle.implicates.specs.declared.Appended.the-variants.{Rows, Unsatisfiable, Full}
 use Rattle.implicates.proofs.Rules.{answer-by-table, append-by-table}
 use Rattle.board.specs.Faults.{firstFault}
-use Rattle.board.specs.Rules.{formulaOf, ruleFaults, noPlace, placeTold, rowsOfBytes, withRows, ruled, ruledTable}
+use Rattle.board.specs.Rules.{ruleFaults, noPlace, placeTold, rowsOfBytes, withRows, ruled, ruledTable}
 use Rattle.board.specs.declared.Board.{Board}
 use Rattle.board.specs.declared.Outcome.the-variants.{Done, Refused}
 

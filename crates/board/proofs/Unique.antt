@@ -33,6 +33,9 @@ one-ground κs a x y = (cc, refl & refl & refl & (cc) & refl)
 one-blame : One board.grounds.blame.ended board.grounds.blame.Reads.Post
 one-blame κs a x y = (cc, refl & refl & (cc) & refl)
 
+one-refused : One board.rules.refused.ended board.rules.refused.Reads.Post
+one-refused κs a x y = (cc, refl)
+
 one-add-rule : One board.rules.add_rule.ended board.rules.add_rule.Reads.Post
 one-add-rule κs a x y = (cc, refl & (cc) & refl)
 

@@ -6,27 +6,23 @@ use mathlib.Core.List.{List, [], _∷_}
 use lib.Dec.{leb}
 use lib.IntN.{ℤ}
 use lib.ListN.{length}
-use Rattle.meaning.specs.Formulae.{Formula, symbol, ruleOf}
+use Rattle.meaning.specs.Formulae.{Formula, ruleOf}
 use Rattle.meaning.specs.Clauses.{rowsOf, satisfiable}
 use Rattle.literals.specs.Row.{rowsLent}
 use Rattle.literals.specs.declared.refusal.Refusal.{Refusal}
 use Rattle.literals.specs.declared.refusal.Refusal.the-variants.{BadBoard, TooManySymbols, NoAssignment, TableFull}
 use Rattle.formula.specs.Parse.{Parsed, good, bad, wholeOf}
-use Rattle.formula.specs.Answers.{isGood}
+use Rattle.formula.specs.Answers.{isGood, formulaOf}
 use Rattle.implicates.specs.Appending.{appended}
 use Rattle.board.specs.Faults.{goodBoard, Fault, firstFault, ifDone, numberIn}
 use Rattle.board.specs.declared.Board.{Board}
 use Rattle.board.specs.declared.Outcome.{Outcome}
 use Rattle.board.specs.declared.rules.Addition.{Addition}
 
--- why bytes are no formula (asked only of those that are none), and the formula that they are (asked only of those that are one)
+-- why bytes are no formula (asked only of those that are none)
 abbrev pub whyOf : Parsed → Refusal
 whyOf (good f used) = BadBoard
 whyOf (bad why at) = why
-
-abbrev pub formulaOf : Parsed → Formula
-formulaOf (good f used) = f
-formulaOf (bad why at) = symbol 0
 
 -- 7, 8 and 9, once the formula is read: `used` rows are in use and `lent` are lent
 abbrev pub formulaFaults : (S used lent : ℕ) → Formula → List Fault
@@ -37,12 +33,14 @@ formulaFaults S used lent f =
     ∷ record { given = not (leb (used + length (rowsOf rule)) lent); refusal = TableFull }
     ∷ []
 
+-- 2 to 6, then those
+abbrev pub bytesFaults : (S used lent : ℕ) → List ℕ → List Fault
+bytesFaults S used lent bytes =
+    let read = wholeOf S bytes in record { given = not (isGood read); refusal = whyOf read } ∷ formulaFaults S used lent (formulaOf read)
+
 unfoldable pub ruleFaults : List ℤ → Board → List ℕ → List Fault
 ruleFaults table b bytes =
-    let read = wholeOf (b .symbols) bytes in
-    record { given = not (goodBoard table b); refusal = BadBoard }
-    ∷ record { given = not (isGood read); refusal = whyOf read }
-    ∷ formulaFaults (b .symbols) (b .rows) (rowsLent table) (formulaOf read)
+    record { given = not (goodBoard table b); refusal = BadBoard } ∷ bytesFaults (b .symbols) (b .rows) (rowsLent table) bytes
 
 -- what stands for a place where none is told: the largest number of 64 bits. A place that is told is at most the count of bytes, and no bytes
 -- lent are so many

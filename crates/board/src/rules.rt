@@ -7,10 +7,10 @@ ghost use lib.ListN.{length};
 ghost use Rattle.meaning.specs.Formulae.{symbolsOf, ruleOf};
 ghost use Rattle.literals.specs.Row.{rowsLent};
 ghost use Rattle.formula.specs.Parse.{wholeOf};
-ghost use Rattle.formula.specs.Answers.{isGood};
+ghost use Rattle.formula.specs.Answers.{isGood, formulaOf};
 ghost use Rattle.implicates.specs.Appending.{answerOf, tableOf};
 ghost use Rattle.board.specs.Faults.{goodBoard};
-ghost use Rattle.board.specs.Rules.{formulaOf, ruled, ruledTable};
+ghost use Rattle.board.specs.Rules.{ruled, ruledTable};
 use crate::Board;
 use crate::Outcome;
 use crate::testing::good;
@@ -30,7 +30,8 @@ pub struct Addition {
     pub board: Board,
 }
 
-fn refused(board: Board, why: Refusal, place: usize) -> Addition
+// What a rule that is refused answers.
+pub fn refused(board: Board, why: Refusal, place: usize) -> Addition
     ensures { λ r. ⌜ r ≡ record { outcome = Outcome.Refused why; place = place; added = 0; board = board } ⌝ }
 {
     Addition {

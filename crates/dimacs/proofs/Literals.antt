@@ -11,7 +11,8 @@ use lib.IntN.{pos, natAbs}
 use lib.Signed.{ltZ}
 use lib.ListN.{length, drop, getD}
 use lib.Seq.{drop-cons}
-use Rattle.dimacs.specs.Words.{beyond, decimal, denied, isGap, literalOf, numberOf, since, upTo}
+use Rattle.spelling.specs.Text.{decimal}
+use Rattle.dimacs.specs.Words.{beyond, denied, isGap, literalOf, numberOf, since, upTo}
 use Rattle.dimacs.specs.Gathering.{Place, Spells}
 use Rattle.dimacs.proofs.Scanning.{since-more}
 use Rattle.dimacs.proofs.Numbers.{number-most}

@@ -10,7 +10,8 @@ use borrow.Author.Tests.{le-leb, lt-leb}
 use lib.ListN.{length, drop, getD, drop-of-length-le}
 use lib.Seq.{drop-cons}
 use Rattle.meaning.specs.Tests.{all}
-use Rattle.dimacs.specs.Words.{beyond, decimal, isDigit, isGap, numberOf, upTo}
+use Rattle.spelling.specs.Text.{decimal, isDigit}
+use Rattle.dimacs.specs.Words.{beyond, isGap, numberOf, upTo}
 use Rattle.dimacs.specs.Gathering.{grown}
 
 -- a number with the bytes of a word after it

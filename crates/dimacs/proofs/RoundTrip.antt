@@ -11,14 +11,15 @@ use lib.ListN.{length}
 use Rattle.meaning.specs.Tests.{all}
 use Rattle.meaning.proofs.Tests.{all-append, both-true}
 use Rattle.literals.specs.Literal.{inRange}
-use Rattle.spelling.specs.Text.{literal, natural}
-use Rattle.dimacs.specs.Words.{beyond, closed, decimal, ends, inWord, isGap, literalOf, numberOf, since, upTo, words, wordsIn}
+use Rattle.spelling.specs.Text.{decimal, literal, natural}
+use Rattle.dimacs.specs.Words.{beyond, closed, ends, inWord, isGap, literalOf, numberOf, since, upTo, words, wordsIn}
 use Rattle.dimacs.specs.Form.{good, clausesIn, clauseThen, counted, countsIn, headerIn, headerStart, parseText, pastComments, startsWith}
 use Rattle.dimacs.specs.Writing.{clauseLine, clauseLines, countsLine, spaced, textOf, zeroEnd}
 use Rattle.dimacs.specs.Promises.{ReadsBack}
 use Rattle.dimacs.specs.declared.header.Counts.the-variants.{Of}
 use Rattle.dimacs.proofs.Splitting.{words-cut}
-use Rattle.dimacs.proofs.Digits.{literal-some, literal-spells, literal-word, natural-line, natural-some, natural-spells, natural-word}
+use Rattle.spelling.proofs.Digits.{natural-some}
+use Rattle.dimacs.proofs.Digits.{literal-some, literal-spells, literal-word, natural-line, natural-spells, natural-word}
 
 -- ---- a word, with a gap or nothing behind it
 

@@ -4,7 +4,8 @@ use mathlib.Core.List.{List, [], _∷_, map}
 use Prim.Native.String.{String}
 use lib.IntN.{pos, negsuc}
 use Rattle.spelling.proofs.Ascii.{ascii}
-use Rattle.dimacs.specs.Words.{decimal, literalOf, numberOf, since, upTo, wordsIn}
+use Rattle.spelling.specs.Text.{decimal}
+use Rattle.dimacs.specs.Words.{literalOf, numberOf, since, upTo, wordsIn}
 use Rattle.dimacs.specs.Form.{Parsed, good, broken, clausesIn, countsIn, headerIn, parseText, pastComments, startsWith}
 
 record Case : Type 0 where

@@ -13,7 +13,8 @@ use Rattle.literals.specs.Row.{width}
 use Rattle.literals.specs.declared.refusal.Refusal.the-variants.{BadLiteral, TooManySymbols, NoAssignment, TableFull}
 use Rattle.board.specs.declared.Outcome.{Outcome}
 use Rattle.board.specs.declared.Outcome.the-variants.{Done, Refused}
-use Rattle.dimacs.specs.Words.{beyond, isDigit, literalOf, words}
+use Rattle.spelling.specs.Text.{isDigit}
+use Rattle.dimacs.specs.Words.{beyond, literalOf, words}
 use Rattle.dimacs.specs.Form.{Parsed, clausesIn}
 use Rattle.dimacs.specs.declared.gathering.Kept.{Kept}
 use Rattle.dimacs.specs.declared.gathering.Clause.{Clause}

@@ -1,10 +1,11 @@
 -- 01, "Text, where a ticket takes it": a text as words between blanks and line ends, and the number that a word spells.
-use Prim.Native.Nat.{ℕ, zero, suc, _+_, _*_, _-_, min}
-use mathlib.Core.Bool.{Bool, cond, not, _&&_, _||_}
+use Prim.Native.Nat.{ℕ, zero, suc, _+_, min}
+use mathlib.Core.Bool.{Bool, cond, not, _||_}
 use mathlib.Core.List.{List, [], _∷_, _++_}
-use lib.Dec.{eqb, leb}
+use lib.Dec.{eqb}
 use lib.IntN.{ℤ, pos, negsuc}
 use Rattle.meaning.specs.Tests.{all}
+use Rattle.spelling.specs.Text.{isDigit, decimal}
 
 -- "Spaces are the only blanks, line feeds the only line ends."
 abbrev pub ends : ℕ → Bool
@@ -38,14 +39,6 @@ abbrev pub words : List ℕ → List (List ℕ)
 words text = wordsIn [] text
 
 -- ---- numbers
-
-abbrev pub isDigit : ℕ → Bool
-isDigit c = leb 48 c && leb c 57
-
--- the value of digits, behind those of `sum`
-unfoldable pub decimal : (sum : ℕ) → List ℕ → ℕ
-decimal sum [] = sum
-decimal sum (c ∷ rest) = decimal (sum * 10 + (c - 48)) rest
 
 -- "a number above 32,767 breaks the form": whatever breaks it counts as 32,768, which no header's variables reach
 abbrev pub beyond : ℕ

@@ -4,7 +4,6 @@ ghost use Prim.Native.Nat.{_≤_};
 use board::Board;
 use report::boards;
 use report::boards::blank;
-use report::calls;
 use report::printing;
 
 fn changing(b: Board, table: &[i16], l: i16) {

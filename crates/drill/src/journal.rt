@@ -2,7 +2,6 @@
 
 use board::Board;
 use report::boards::GUARD;
-use report::calls;
 use report::printing;
 
 // What its fifth board gives for literal 4, and its tenth, where 1 was withdrawn and -3 is held.

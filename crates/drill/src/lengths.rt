@@ -4,7 +4,6 @@ ghost use Prim.Native.Nat.{_≤_};
 use board::Board;
 use report::boards;
 use report::boards::with;
-use report::calls;
 use report::printing;
 
 fn settle(b: Board, labels: usize, ranks: usize, supports: usize)

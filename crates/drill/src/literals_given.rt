@@ -2,7 +2,6 @@
 
 use board::Board;
 use report::boards;
-use report::calls;
 use report::printing;
 
 // Hold and withdraw, each on the board as it is, and then ask, explain and ground.

@@ -1,5 +1,4 @@
-// Runs the calls of `board` over the boards that document 01 lists and over every refusal, and the two of `dimacs` over texts, and prints what each
-// call answers.
+// Runs the calls of `board` over the boards that document 01 lists and over every refusal, and prints what each call answers.
 
 mod faults;
 mod journal;
@@ -7,7 +6,6 @@ mod lengths;
 mod literals_given;
 mod opening;
 mod rules;
-mod texts;
 
 fn main() {
     opening::run();
@@ -16,5 +14,4 @@ fn main() {
     literals_given::run();
     lengths::run();
     journal::run();
-    texts::run();
 }

@@ -4,7 +4,6 @@ ghost use Prim.Native.Nat.{_≤_};
 use board::Board;
 use report::boards;
 use report::boards::blank;
-use report::calls;
 use report::printing;
 
 fn show(b: Board, lent: usize, bytes: &[u8])

@@ -7,6 +7,9 @@ pub mod Walk
 pub mod Widening
 pub mod Alone
 pub mod Faults
+pub mod Sizes
+pub mod OwnBytes
+pub mod Owned
 pub mod Before
 pub mod Breaking
 pub mod Values

@@ -117,7 +117,7 @@ pub answer-bad : (p : Parsed) {why : Refusal} {at : ℕ} → readOf p ≡ Refuse
 answer-bad (good f used) e = let z : _≡_ {A = ℕ} 0 1 = cc in absurd (omega arith)
 answer-bad (bad why′ at′) {why} {at} e = let same : why′ ≡ why = cc in let there : at′ ≡ at = cc in ap₂ bad same there
 
-past-after : (skipped : ℕ) (wrap : Formula → Formula) (p : Parsed) → past skipped (readOf p) ≡ readOf (after skipped wrap p)
+pub past-after : (skipped : ℕ) (wrap : Formula → Formula) (p : Parsed) → past skipped (readOf p) ≡ readOf (after skipped wrap p)
 past-after skipped wrap (good f used) = refl
 past-after skipped wrap (bad why at) = refl
 

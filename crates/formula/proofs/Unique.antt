@@ -9,6 +9,9 @@ one-symbols-of κs a x y = (cc, refl)
 one-kind-of : One formula.reading.kind_of.ended formula.reading.kind_of.Reads.Post
 one-kind-of κs a x y = (cc, refl)
 
+one-past-by : One formula.reading.past_by.ended formula.reading.past_by.Reads.Post
+one-past-by κs a x y = (cc, refl)
+
 one-read : One formula.reading.read.ended formula.reading.read.Reads.Post
 one-read κs a x y = (cc, refl)
 

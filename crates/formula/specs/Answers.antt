@@ -32,6 +32,11 @@ abbrev pub isGood : Parsed → Bool
 isGood (good f used) = true
 isGood (bad why at) = false
 
+-- the formula (asked only of what is one)
+abbrev pub formulaOf : Parsed → Formula
+formulaOf (good f used) = f
+formulaOf (bad why at) = symbol 0
+
 -- how many bytes a good formula takes
 abbrev pub usedOf : Parsed → ℕ
 usedOf (good f used) = used

@@ -65,3 +65,7 @@ pub record Breaks (S : ℕ) (bytes : List ℕ) (why : Refusal) (at : ℕ) : Type
 -- "the first fault met is the answer": the formula breaks at the place told, and not before
 abbrev pub FirstFault : Type 0
 FirstFault = (S : ℕ) (bytes : List ℕ) (why : Refusal) (at : ℕ) → 1 ≤ S → wholeOf S bytes ≡ bad why at → Breaks S bytes why at
+
+-- "An operand may stand at depth 16 and no deeper": so no formula has more than 98,303 bytes
+abbrev pub MostBytes : Type 0
+MostBytes = (S : ℕ) (bytes : List ℕ) (f : Formula) (used : ℕ) → wholeOf S bytes ≡ good f used → length bytes ≤ 98303

@@ -47,8 +47,8 @@ pub fn kind_of(byte: u8) -> Kind
     }
 }
 
-// The answer of a part, where the part starts `skipped` bytes into the whole.
-fn past_by(skipped: usize, answer: Answer) -> Answer
+// The answer of a part, where the part starts `skipped` bytes into the whole. Both lie in one slice, so that the sum fits.
+pub fn past_by(skipped: usize, answer: Answer) -> Answer
     requires { ⌜ skipped + extent answer ≤ 0x7fff_ffff_ffff_ffff ⌝ }
     ensures { λ r. ⌜ r ≡ past skipped answer ⌝ }
 {

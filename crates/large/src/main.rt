@@ -4,7 +4,6 @@ ghost use Prim.Native.Nat.{_+_, _≤_};
 ghost use lib.ListN.{length};
 use board::Board;
 use report::boards;
-use report::calls;
 use report::printing;
 
 // Adds the rules that each symbol but the last implies the next.

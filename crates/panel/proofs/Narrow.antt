@@ -1,6 +1,6 @@
 -- Every call hands back a board whose numbers fit C's sixteen bits, if it is given one.
 use mathlib.Core.Path.{_≡_, refl}
-use mathlib.Core.Bool.{Bool, true, false}
+use mathlib.Core.Bool.{Bool, true, false, cond}
 use mathlib.Core.List.{List}
 use Prim.Native.Nat.{ℕ, _+_, _≤_, _<_}
 use native.Mathlib.Omega.{arith}
@@ -8,15 +8,19 @@ use borrow.Author.Tests.{leb-true, not-false}
 use lib.IntN.{ℤ}
 use lib.ListN.{length}
 use Rattle.literals.specs.Row.{rowsLent}
+use Rattle.literals.specs.declared.refusal.Refusal.the-variants.{BadText}
 use Rattle.board.specs.Faults.{firstFault}
 use Rattle.board.specs.Changes.{changed, emptyBoard, openFaults, opened, withFlag, holdFaults, held, withdrawFaults, withdrawn, flagChanged}
-use Rattle.board.specs.Rules.{ruleFaults, rowsOfBytes, ruled}
+use Rattle.board.specs.Rules.{breaksAt, ruleFaults, rowsOfBytes, ruled}
 use Rattle.board.specs.declared.Board.{Board}
 use Rattle.board.specs.declared.Outcome.{Outcome}
 use Rattle.board.specs.declared.Outcome.the-variants.{Done, Refused}
 use Rattle.board.proofs.Explaining.{none-given}
 use Rattle.dimacs.specs.Reading.{readAnswer, readFaults}
 use Rattle.dimacs.proofs.ClauseCount.{read-fits, told-few}
+use Rattle.chains.specs.Form.{wholeText}
+use Rattle.text.specs.Reading.{bytesIn}
+use Rattle.text.specs.Adding.{textRefused, ruledText}
 use Rattle.panel.specs.Crossing.{Narrow}
 
 narrow-changed : (o : Outcome) (given next : Board) → Narrow given → Narrow next → Narrow (changed o given next .board)
@@ -57,6 +61,16 @@ module _ (table : List ℤ) (b : Board) (n : Narrow b) where
           let few = few-rows bytes e in
           rw e (record { symbols = n .symbols; rows = omega arith }, omega arith)
       go (Refused why) e = rw e (n, omega arith)
+
+  -- a rule from text is one from its bytes, or adds nothing
+  pub narrow-ruled-text : (text : List ℕ) → Narrow (ruledText table b text .board) × (ruledText table b text .added < 65536)
+  unfolding ruledText
+  narrow-ruled-text text = go (textRefused table b text)
+    where
+      go : (refused : Bool) → let r = cond refused (record { outcome = Refused BadText; place = breaksAt (wholeText text); added = 0; board = b })
+          (ruled table b (bytesIn text)) in Narrow (r .board) × (r .added < 65536)
+      go true = (n, omega arith)
+      go false = narrow-ruled (bytesIn text)
 
   -- and so are the rows of a text's clauses
   read-rows : (text : List ℕ) → Narrow (readAnswer table b text .board) × (readAnswer table b text .added < 65536)

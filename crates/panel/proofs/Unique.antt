@@ -35,3 +35,12 @@ one-read-dimacs κs a x y = (cc, refl & (cc) & refl)
 
 one-write-dimacs : One panel.tup_write_dimacs.ended panel.tup_write_dimacs.Reads.Post
 one-write-dimacs κs a x y = (cc, refl & refl & (cc) & refl)
+
+one-read-text : One panel.tup_read_text.ended panel.tup_read_text.Reads.Post
+one-read-text κs a x y = (cc, refl & refl & refl & (cc) & refl)
+
+one-rule-text : One panel.tup_rule_text.ended panel.tup_rule_text.Reads.Post
+one-rule-text κs a x y = (cc, refl & (cc) & refl)
+
+one-write-text : One panel.tup_write_text.ended panel.tup_write_text.Reads.Post
+one-write-text κs a x y = (cc, refl & refl & refl & (cc) & refl)

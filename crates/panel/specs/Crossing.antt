@@ -15,6 +15,7 @@ use Rattle.board.specs.declared.asking.Standing.{Standing}
 use Rattle.board.specs.declared.asking.Standing.the-variants.{Conflict, Stands, RuledOut, Open, Refused}
 use Rattle.dimacs.specs.declared.reading.Reading.{Reading}
 use Rattle.dimacs.specs.declared.writing.Writing.{Writing}
+use Rattle.text.specs.declared.Spelling.{Spelling}
 use Rattle.panel.specs.declared.PanelBoard.{PanelBoard}
 use Rattle.panel.specs.declared.PanelChange.{PanelChange}
 use Rattle.panel.specs.declared.PanelAddition.{PanelAddition}
@@ -22,6 +23,7 @@ use Rattle.panel.specs.declared.PanelAnswer.{PanelAnswer}
 use Rattle.panel.specs.declared.PanelReason.{PanelReason}
 use Rattle.panel.specs.declared.PanelReading.{PanelReading}
 use Rattle.panel.specs.declared.PanelWriting.{PanelWriting}
+use Rattle.panel.specs.declared.PanelSpelling.{PanelSpelling}
 
 -- any byte other than 0 is a premise held
 abbrev pub flagOf : ℕ → Bool
@@ -56,6 +58,9 @@ readingOut given r =
 
 abbrev pub writingOut : Writing → PanelWriting
 writingOut w = record { refusal = numberIn (w .outcome); bytes = w .bytes }
+
+abbrev pub spellingOut : Spelling → PanelSpelling
+spellingOut s = record { refusal = numberIn (s .outcome); place = s .place; bytes = s .bytes }
 
 -- the header's numbers for how a literal stands: 0 open, 1 stands, 2 ruled out, 3 conflict; 0 where refused
 abbrev pub answerOut : Standing → PanelAnswer

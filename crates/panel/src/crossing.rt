@@ -5,12 +5,13 @@ ghost use mathlib.Core.List.{map};
 ghost use Prim.Native.Nat.{_<_};
 ghost use Rattle.board.specs.Faults.{numberIn};
 ghost use Rattle.board.specs.Grounds.{byteOf};
-ghost use Rattle.panel.specs.Crossing.{flagOf, boardIn, boardOut, Narrow, nextOut, changeOut, additionOut, answerOut, readingOut, writingOut};
+ghost use Rattle.panel.specs.Crossing.{flagOf, boardIn, boardOut, Narrow, nextOut, changeOut, additionOut, answerOut, readingOut, writingOut, spellingOut};
 use crate::PanelAddition;
 use crate::PanelAnswer;
 use crate::PanelBoard;
 use crate::PanelChange;
 use crate::PanelReading;
+use crate::PanelSpelling;
 use crate::PanelWriting;
 use board::Board;
 use board::Change;
@@ -20,6 +21,7 @@ use board::rules::Addition;
 use dimacs::reading::Reading;
 use dimacs::writing::Writing;
 use literals::refusal::number;
+use text::Spelling;
 
 // The premises that the bytes of a board hold.
 fn flags_in(bytes: [u8; 400]) -> [bool; 400]
@@ -144,6 +146,18 @@ pub fn writing_out(writing: Writing) -> PanelWriting
     PanelWriting {
         refusal: number_of(outcome),
         bytes: writing.bytes,
+    }
+}
+
+// What reading a formula's text, or writing it, tells C.
+pub fn spelling_out(spelling: Spelling) -> PanelSpelling
+    ensures { λ r. ⌜ r ≡ spellingOut spelling ⌝ }
+{
+    let outcome = spelling.outcome;
+    PanelSpelling {
+        refusal: number_of(outcome),
+        place: spelling.place,
+        bytes: spelling.bytes,
     }
 }
 

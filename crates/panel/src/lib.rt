@@ -1,4 +1,4 @@
-// The C boundary: each exported function is a call of `board` or `dimacs` and nothing else. include/tupahineka.h declares them.
+// The C boundary: each exported function is a call of `board`, `dimacs` or `text` and nothing else. include/tupahineka.h declares them.
 
 mod crossing;
 
@@ -12,7 +12,10 @@ ghost use Rattle.board.specs.Asking.{asked, reasoned, explained};
 ghost use Rattle.board.specs.Grounds.{groundOutcome, groundMarks, blameOutcome, blameMarks};
 ghost use Rattle.dimacs.specs.Reading.{readAnswer, readTable};
 ghost use Rattle.dimacs.specs.Writing.{writeAnswer, writeBytes};
-ghost use Rattle.panel.specs.Crossing.{boardIn, boardOut, changeOut, additionOut, answerOut, reasonOut, readingOut, writingOut};
+ghost use Rattle.text.specs.Adding.{ruledText, ruledTextTable};
+ghost use Rattle.text.specs.Reading.{readTextAnswer, readTextBytes};
+ghost use Rattle.text.specs.Writing.{writeTextAnswer, writeTextBytes};
+ghost use Rattle.panel.specs.Crossing.{boardIn, boardOut, changeOut, additionOut, answerOut, reasonOut, readingOut, writingOut, spellingOut};
 use crate::crossing::addition_out;
 use crate::crossing::answer_out;
 use crate::crossing::board_in;
@@ -20,6 +23,7 @@ use crate::crossing::board_out;
 use crate::crossing::change_out;
 use crate::crossing::number_of;
 use crate::crossing::reading_out;
+use crate::crossing::spelling_out;
 use crate::crossing::writing_out;
 use board::Outcome;
 use literals::WIDTH;
@@ -57,6 +61,13 @@ pub struct PanelReading {
 #[repr(C)]
 pub struct PanelWriting {
     pub refusal: u8,
+    pub bytes: usize,
+}
+
+#[repr(C)]
+pub struct PanelSpelling {
+    pub refusal: u8,
+    pub place: usize,
     pub bytes: usize,
 }
 
@@ -112,6 +123,43 @@ pub extern "C" fn tup_write_dimacs(given: PanelBoard, table: &[i16], out: &mut [
 {
     let writing = dimacs::writing::write(board_in(given), table, out);
     writing_out(writing)
+}
+
+#[no_mangle]
+pub extern "C" fn tup_read_text(
+    given: PanelBoard,
+    table: &[i16],
+    text: &[u8],
+    out: &mut [u8],
+) -> PanelSpelling
+    ensures { λ r. ⌜ r ≡ spellingOut (readTextAnswer (now (table .entry)) (boardIn given) (now (text .entry)) (now (out .entry))) ⌝ }
+    ensures { λ _. ⌜ now (out .exit) ≡ readTextBytes (now (table .entry)) (boardIn given) (now (text .entry)) (now (out .entry)) ⌝ }
+{
+    let spelling = text::reading::read(board_in(given), table, text, out);
+    spelling_out(spelling)
+}
+
+#[no_mangle]
+pub extern "C" fn tup_rule_text(given: PanelBoard, table: &mut [i16], text: &[u8]) -> PanelAddition
+    ensures { λ r. ⌜ r ≡ additionOut given (ruledText (now (table .entry)) (boardIn given) (now (text .entry))) ⌝ }
+    ensures { λ _. ⌜ now (table .exit) ≡ ruledTextTable (now (table .entry)) (boardIn given) (now (text .entry)) ⌝ }
+{
+    let addition = text::adding::add_text(board_in(given), table, text);
+    addition_out(given, addition)
+}
+
+#[no_mangle]
+pub extern "C" fn tup_write_text(
+    given: PanelBoard,
+    table: &[i16],
+    bytes: &[u8],
+    out: &mut [u8],
+) -> PanelSpelling
+    ensures { λ r. ⌜ r ≡ spellingOut (writeTextAnswer (now (table .entry)) (boardIn given) (now (bytes .entry)) (now (out .entry))) ⌝ }
+    ensures { λ _. ⌜ now (out .exit) ≡ writeTextBytes (now (table .entry)) (boardIn given) (now (bytes .entry)) (now (out .entry)) ⌝ }
+{
+    let spelling = text::writing::write(board_in(given), table, bytes, out);
+    spelling_out(spelling)
 }
 
 #[no_mangle]

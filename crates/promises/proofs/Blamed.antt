@@ -25,11 +25,11 @@ use Rattle.board.specs.declared.Outcome.the-variants.{Done}
 use Rattle.board.proofs.Goodness.{Good, good-is}
 use Rattle.board.proofs.Explaining.{none-given}
 use Rattle.promises.specs.Calls.{Call, opens, adds, holds, withdraws, asks, explains, settles, grounds, blames, reads, writes}
-use Rattle.promises.specs.Calls.{World, front, outcome, after, run, notOpen}
+use Rattle.promises.specs.Calls.{readsText, addsText, writesText, World, front, outcome, after, run, notOpen}
 use Rattle.promises.specs.Demands.{rowsOfWorld, derivedSet, Appends, BlameTakes, Marked, Spares, then, BlameMarksHeld, BlameAlone, ConflictStays}
 use Rattle.promises.proofs.Refusals.{so-after}
 use Rattle.promises.proofs.Changes.{hold-puts, withdraw-takes}
-use Rattle.promises.proofs.Stored.{rule-appends, read-appends}
+use Rattle.promises.proofs.Stored.{rule-appends, text-appends, read-appends}
 use Rattle.promises.proofs.Told.{rows-read, blame-tells}
 
 -- a premise held stays where another is put
@@ -153,6 +153,9 @@ module _ (w : World) (lent : ℕ) (marks : List ℕ) (e : outcome w (blames lent
     step (blames some bytes) n out = k
     step (reads some text) n out = so-after Kept v (reads some text) refl k (λ d. grown (read-appends v some text d))
     step (writes some bytes) n out = k
+    step (readsText some text bytes) n out = k
+    step (addsText some text) n out = so-after Kept v (addsText some text) refl k (λ d. grown (text-appends v some text d))
+    step (writesText some formula bytes) n out = k
 
   steps : (v : World) (calls : List Call) → Kept v → Spares (Marked w lent marks) v calls → Kept (run v calls)
   steps v [] k sparing = k

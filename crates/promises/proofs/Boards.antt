@@ -1,8 +1,8 @@
--- 01's boards "Marked P: to be proved", together: what 01 says of each, and that the calls come to the same; and those of 02's Tickets 1, 2 and
--- 4. Rules are given as 01's bytes, and each board is opened over a table of 8 rows of zeros.
+-- 01's boards "Marked P: to be proved", together: what 01 says of each, and that the calls come to the same; and those of 02's Tickets 1, 2, 4
+-- and 5. Rules are given as 01's bytes or as text, and each board is opened over a table of 8 rows of zeros.
 use mathlib.Core.Path.{_≡_, refl}
 use mathlib.Core.Bool.{true, false}
-use mathlib.Core.List.{List, [], _∷_, map}
+use mathlib.Core.List.{List, [], _∷_, _++_, map}
 use Prim.Native.Nat.{ℕ, _*_}
 use lib.IntN.{ℤ, pos, negsuc}
 use lib.ListN.{replicate, take}
@@ -14,6 +14,7 @@ use Rattle.meaning.specs.Ground.{reachesIn, reaches, largerRank, blamed, blame}
 use Rattle.literals.specs.Literal.{placeOf, literalAt}
 use Rattle.literals.specs.Row.{numbersAt, zeros, rising, rowSound, rowsSound, decode, rowsIn, encode}
 use Rattle.formula.specs.Parse.{symbolAt, secondOf, bodyOf, parse, wholeOf}
+use Rattle.formula.specs.Bytes.{bytesOf}
 use Rattle.implicates.specs.Appending.{appended}
 use Rattle.board.specs.Faults.{goodBoard, numberIn}
 use Rattle.board.specs.Changes.{openFaults, opened, emptyBoard, flagFaults, flagChanged}
@@ -23,14 +24,19 @@ use Rattle.board.specs.Asking.{askFaults, asked, explainFaults, reasoned}
 use Rattle.board.specs.Grounds.{blameFaults, blameOutcome, blameMarks}
 use Rattle.board.specs.declared.asking.Standing.{Standing}
 use Rattle.board.specs.declared.asking.Standing.the-variants.{Conflict, Stands, RuledOut, Open}
-use Rattle.spelling.specs.Text.{digitsOf}
+use Rattle.spelling.specs.Text.{decimal, digitsOf}
 use Rattle.spelling.proofs.Ascii.{ascii}
-use Rattle.dimacs.specs.Words.{upTo, since, wordsIn, decimal, numberOf, literalOf}
+use Rattle.dimacs.specs.Words.{upTo, since, wordsIn, numberOf, literalOf}
 use Rattle.dimacs.specs.Form.{pastComments, startsWith, countsIn, headerIn, clausesIn, parseText}
 use Rattle.dimacs.specs.Clauses.{oneOf, clauseFaults, clausesFaults, passed}
 use Rattle.dimacs.specs.Reading.{textFaults, readFaults, readAnswer, readTable}
 use Rattle.dimacs.specs.Writing.{spaced, clauseLines, textOf, literalsOf, clausesAt, textOn, writeFaults, writeOutcome, writeAnswer, writeBytes}
-use Rattle.promises.specs.Calls.{Call, opens, adds, holds, withdraws, reads, World, outcome, after, run}
+use Rattle.chains.specs.Form.{lead, unitOf, fromMark, goOn, more, atClose, closed, bracketAt, wholeText}
+use Rattle.chains.specs.Spelling.{unitText, spelled}
+use Rattle.text.specs.Reading.{readTextFaults, readTextOutcome, readTextAnswer, readTextBytes}
+use Rattle.text.specs.Adding.{ruledText, ruledTextTable}
+use Rattle.text.specs.Writing.{writeTextFaults, writeTextOutcome, writeTextAnswer, writeTextBytes}
+use Rattle.promises.specs.Calls.{Call, opens, adds, holds, withdraws, reads, addsText, World, outcome, after, run}
 use Rattle.promises.specs.Demands.{rowsOfWorld}
 
 -- ---- what is asked of the board that some calls leave, and what the answers are
@@ -38,8 +44,8 @@ use Rattle.promises.specs.Demands.{rowsOfWorld}
 data Question : Type 0 where
   -- the number of the refusal of one call more
   refusal : Call → Question
-  -- where a formula breaks, added as a rule
-  breaks : List ℕ → Question
+  -- where a formula breaks, added as a rule, in bytes or in text
+  breaks breaks-text : List ℕ → Question
   -- the rows in use
   rows : Question
   -- the labels that settle writes
@@ -53,6 +59,8 @@ data Question : Type 0 where
   stops : List ℕ → Question
   -- the text that is written
   written : Question
+  -- the bytes that a formula's text is read to, and the text that is written of a formula's bytes
+  read spell : List ℕ → Question
   -- what is asked once one call more is made
   past : Call → Question → Question
 
@@ -81,6 +89,7 @@ blank n = replicate n 9
 tell : World → Question → Answer
 tell w (refusal c) = number (numberIn (outcome w c))
 tell w (breaks formula) = let a = ruled (w .table) (w .board) formula in refused-at (numberIn (a .outcome)) (a .place)
+tell w (breaks-text text) = let a = ruledText (w .table) (w .board) text in refused-at (numberIn (a .outcome)) (a .place)
 tell w rows = appended-rows (rowsOfWorld w)
 tell w labels =
     let S = w .board .symbols in bytes (settledLabels (w .table) (w .board) (blank S) (blank (2 * S)) (blank (2 * S)))
@@ -89,6 +98,10 @@ tell w (rank l) = number (reasoned (w .table) (w .board) l .rank)
 tell w marks = bytes (blameMarks (w .table) (w .board) (blank (2 * w .board .symbols)))
 tell w (stops text) = let a = readAnswer (w .table) (w .board) text in stopped (numberIn (a .outcome)) (a .clauses)
 tell w written = bytes (take (writeAnswer (w .table) (w .board) (blank 100) .bytes) (writeBytes (w .table) (w .board) (blank 100)))
+tell w (read text) =
+    bytes (take (readTextAnswer (w .table) (w .board) text (blank 20) .bytes) (readTextBytes (w .table) (w .board) text (blank 20)))
+tell w (spell formula) =
+    bytes (take (writeTextAnswer (w .table) (w .board) formula (blank 20) .bytes) (writeTextBytes (w .table) (w .board) formula (blank 20)))
 tell w (past c question) = tell (after w c) question
 
 -- ---- the boards
@@ -131,7 +144,8 @@ abbrev consequence : List Call
 consequence =
     opens 6 ∷ reads lent (ascii "p cnf 6 5\n-3 6 0\n-4 -6 0\n-6 5 0\n-5 -2 1 0\n6 -1 0\n") ∷ hold (pos 2) ∷ hold (pos 3) ∷ hold (pos 4) ∷ []
 
--- Quoted from 01; the sentence on places from 02, Ticket 1, those on texts from Ticket 2, those on blame from Ticket 4.
+-- Quoted from 01; the sentence on places from 02, Ticket 1, those on texts from Ticket 2, those on blame from Ticket 4, those on a
+-- formula's text from Ticket 5.
 abbrev boards : List (List Call × List (Question × Answer))
 boards =
     -- "1 and not 1: refusal 8. 1 or not 1: no row."
@@ -223,6 +237,22 @@ boards =
           ∷ (refusal (reads 16 (ascii "p cnf 3 1\n-3 0\n")), number 9)
           ∷ [],
     )
+    -- "Text and bytes of one formula add the same rows." 15 "at the first offending place"; "2 and 5 carry their place in the resulting bytes"
+    ∷ (
+      opens 2 ∷ addsText lent (ascii " 1 > 02") ∷ hold (pos 1) ∷ [],
+      (rows, appended-rows ((minus 1 ∷ plus 2 ∷ []) ∷ []))
+          ∷ (ask (pos 2), standing Stands)
+          ∷ (breaks-text (ascii "1 2"), refused-at 15 2)
+          ∷ (breaks-text (ascii "1&2|1"), refused-at 15 3)
+          ∷ (breaks-text (ascii "(1>"), refused-at 15 3)
+          ∷ (breaks-text (replicate 17 40), refused-at 15 16)
+          ∷ (breaks-text (ascii "1|-3"), refused-at 2 5)
+          ∷ (breaks-text (replicate 16 45 ++ ascii "1"), refused-at 5 16)
+          ∷ (breaks-text (ascii "1&-1"), refused-at 8 noPlace)
+          ∷ (read (ascii "-(1 = 2) & 2"), bytes (0x12 ∷ 0x11 ∷ 0x15 ∷ 0x10 ∷ 1 ∷ 0x10 ∷ 2 ∷ 0x10 ∷ 2 ∷ []))
+          ∷ (spell (0x12 ∷ 0x11 ∷ 0x15 ∷ 0x10 ∷ 1 ∷ 0x10 ∷ 2 ∷ 0x10 ∷ 2 ∷ []), bytes (ascii "-(1=2)&2"))
+          ∷ [],
+    )
     ∷ []
 
 -- what the calls answer, one after the other: 0 for each that is done
@@ -239,5 +269,5 @@ abbrev due : List Call × List (Question × Answer) → List ℕ × List Answer
 due b = (map (λ c. 0) (b .0), map (λ q. q .1) (b .1))
 
 boards-hold : map found boards ≡ map due boards
-unfolding tell outcome after opp value occurs symbolsOf hit implicate prime ofSize gives next reached rankBy firstGiver supportAt supportOf labelsOf rankAbove reachesIn reaches largerRank blamed blame placeOf literalAt numbersAt zeros rising rowSound rowsSound decode rowsIn encode symbolAt secondOf bodyOf parse wholeOf appended goodBoard openFaults opened flagFaults flagChanged ruleFaults ruled ruledTable settleFaults settleOutcome settledLabels askFaults asked explainFaults reasoned blameFaults blameOutcome blameMarks digitsOf upTo since wordsIn decimal numberOf literalOf pastComments startsWith countsIn headerIn clausesIn parseText oneOf clauseFaults clausesFaults passed textFaults readFaults readAnswer readTable spaced clauseLines textOf literalsOf clausesAt textOn writeFaults writeOutcome writeAnswer writeBytes
+unfolding tell outcome after opp value occurs symbolsOf hit implicate prime ofSize gives next reached rankBy firstGiver supportAt supportOf labelsOf rankAbove reachesIn reaches largerRank blamed blame placeOf literalAt numbersAt zeros rising rowSound rowsSound decode rowsIn encode symbolAt secondOf bodyOf parse wholeOf appended goodBoard openFaults opened flagFaults flagChanged ruleFaults ruled ruledTable settleFaults settleOutcome settledLabels askFaults asked explainFaults reasoned blameFaults blameOutcome blameMarks digitsOf upTo since wordsIn decimal numberOf literalOf pastComments startsWith countsIn headerIn clausesIn parseText oneOf clauseFaults clausesFaults passed textFaults readFaults readAnswer readTable spaced clauseLines textOf literalsOf clausesAt textOn writeFaults writeOutcome writeAnswer writeBytes bytesOf lead unitOf fromMark goOn more atClose closed bracketAt wholeText unitText spelled readTextFaults readTextOutcome readTextAnswer readTextBytes ruledText ruledTextTable writeTextFaults writeTextOutcome writeTextAnswer writeTextBytes
 boards-hold = refl

@@ -12,7 +12,9 @@ use Rattle.board.specs.declared.Change.{Change}
 use Rattle.board.specs.declared.rules.Addition.{Addition}
 use Rattle.dimacs.specs.Reading.{readAnswer, readTable}
 use Rattle.dimacs.specs.declared.reading.Reading.{Reading}
-use Rattle.promises.specs.Calls.{opens, adds, holds, withdraws, asks, explains, settles, grounds, blames, reads, writes, World, front, after}
+use Rattle.text.specs.Adding.{ruledText, ruledTextTable}
+use Rattle.promises.specs.Calls.{opens, adds, holds, withdraws, asks, explains, settles, grounds, blames, reads, writes}
+use Rattle.promises.specs.Calls.{readsText, addsText, writesText, World, front, after}
 
 module _ (w : World) where
   -- the world with the board of an answer
@@ -37,6 +39,11 @@ module _ (w : World) where
         → t ≡ readTable (front w lent) (w .board) text → with-part (r .board) t ≡ after w (reads lent text)
     unfolding after with-part
     read-carried text r t e f = ap₂ (λ (a : Reading). with-part (a .board)) e f
+
+    rule-text-carried : (text : List ℕ) (r : Addition) (t : List ℤ) → r ≡ ruledText (front w lent) (w .board) text
+        → t ≡ ruledTextTable (front w lent) (w .board) text → with-part (r .board) t ≡ after w (addsText lent text)
+    unfolding after with-part
+    rule-text-carried text r t e f = ap₂ (λ (a : Addition). with-part (a .board)) e f
 
     hold-carried : (l : ℤ) (r : Change) → r ≡ held (front w lent) (w .board) l → with-board r ≡ after w (holds lent l)
     unfolding after with-board
@@ -69,3 +76,11 @@ module _ (w : World) where
     write-changes-nothing : (out : List ℕ) → after w (writes lent out) ≡ w
     unfolding after
     write-changes-nothing out = refl
+
+    read-text-changes-nothing : (text out : List ℕ) → after w (readsText lent text out) ≡ w
+    unfolding after
+    read-text-changes-nothing text out = refl
+
+    write-text-changes-nothing : (bytes out : List ℕ) → after w (writesText lent bytes out) ≡ w
+    unfolding after
+    write-text-changes-nothing bytes out = refl

@@ -28,11 +28,12 @@ use Rattle.board.specs.declared.Board.{Board}
 use Rattle.board.specs.declared.Outcome.the-variants.{Done}
 use Rattle.board.proofs.Goodness.{flagFrom, by-flags, empty-good, good-is}
 use Rattle.board.proofs.Explaining.{none-given}
-use Rattle.promises.specs.Calls.{Call, opens, adds, holds, withdraws, asks, explains, settles, grounds, blames, reads, writes, World, front, faults, outcome, after, run, notOpen}
+use Rattle.promises.specs.Calls.{Call, opens, adds, holds, withdraws, asks, explains, settles, grounds, blames, reads, writes}
+use Rattle.promises.specs.Calls.{readsText, addsText, writesText, World, front, faults, outcome, after, run, notOpen}
 use Rattle.promises.specs.Demands.{StaysGood}
 use Rattle.promises.proofs.Refusals.{cases, so-after}
 use Rattle.promises.proofs.Changes.{hold-puts, withdraw-takes}
-use Rattle.promises.proofs.Tested.{rowsFor, Added, sound-rows, rule-added, text-added}
+use Rattle.promises.proofs.Tested.{rowsFor, Added, sound-rows, rule-added, rule-text-added, text-added}
 use Rattle.promises.proofs.Lent.{numbers-front, numbers-lent}
 use Rattle.promises.proofs.Stored.{kept, after-them, whole, kept-long}
 
@@ -159,6 +160,9 @@ module _ (w : World) (g : Whole w) where
   step (blames lent marks) n = g
   step (reads lent text) n = so-after Whole w (reads lent text) refl g (λ e. added-good (text-added w lent text e))
   step (writes lent out) n = g
+  step (readsText lent text out) n = g
+  step (addsText lent text) n = so-after Whole w (addsText lent text) refl g (λ e. added-good (rule-text-added w lent text e))
+  step (writesText lent bytes out) n = g
 
 -- ---- any calls but an open
 

@@ -15,11 +15,12 @@ use Rattle.literals.specs.Row.{rowsIn}
 use Rattle.board.specs.Faults.{firstFault, ifDone}
 use Rattle.board.specs.Changes.{emptyBoard, openFaults, opened, withFlag}
 use Rattle.board.specs.declared.Outcome.the-variants.{Done}
-use Rattle.promises.specs.Calls.{Call, opens, adds, holds, withdraws, asks, explains, settles, grounds, blames, reads, writes, World, outcome, after, run, rulesAfter, rulesAfterAll, notOpen}
+use Rattle.promises.specs.Calls.{Call, opens, adds, holds, withdraws, asks, explains, settles, grounds, blames, reads, writes}
+use Rattle.promises.specs.Calls.{readsText, addsText, writesText, World, outcome, after, run, rulesAfter, rulesAfterAll, notOpen}
 use Rattle.promises.specs.Demands.{rowsOfWorld, since, acceptedSince}
 use Rattle.promises.proofs.Refusals.{done-or-refused, so-refused, so-after}
 use Rattle.promises.proofs.Changes.{hold-puts, withdraw-takes}
-use Rattle.promises.proofs.Tested.{Added, rule-added, text-added}
+use Rattle.promises.proofs.Tested.{Added, rule-added, rule-text-added, text-added}
 use Rattle.promises.proofs.Stored.{appends}
 
 pub record Keeps (w : World) (fs : List Formula) : Type 0 where
@@ -73,6 +74,9 @@ module _ (w : World) (fs : List Formula) (k : Keeps w fs) where
   step (blames lent marks) = k
   step (reads lent text) = adding (reads lent text) refl (text-added w lent text)
   step (writes lent out) = k
+  step (readsText lent text out) = k
+  step (addsText lent text) = adding (addsText lent text) refl (rule-text-added w lent text)
+  step (writesText lent bytes out) = k
 
 steps : (w : World) (fs : List Formula) (calls : List Call) → Keeps w fs → Keeps (run w calls) (rulesAfterAll w fs calls)
 steps w fs [] k = k

@@ -1,4 +1,5 @@
 -- The demands, proved.
+pub mod RuleTexts
 pub mod Refusals
 pub mod Fourteen
 pub mod Changes
@@ -6,10 +7,12 @@ mod Lent
 mod Tested
 pub mod Stored
 pub mod Places
+pub mod FormulaPlaces
 pub mod Stops
 pub mod Told
 pub mod Blamed
 pub mod Texts
+pub mod FormulaTexts
 pub mod Explained
 mod History
 pub mod Good

@@ -1,7 +1,7 @@
 -- 02, Ticket 1: a rule that is refused for its formula is told where it breaks, and no other answer has a place.
 use mathlib.Core.Path.{_≡_, refl, sym, ap, _∙_}
 use mathlib.Core.Logic.{_⊎_, inl, inr}
-use mathlib.Core.Bool.{Bool, true, false, cond}
+use mathlib.Core.Bool.{Bool, true, false}
 use mathlib.Core.List.{List}
 use Prim.Native.Nat.{ℕ, _≤_, _<_}
 use native.Mathlib.Omega.{arith}
@@ -12,7 +12,7 @@ use Rattle.literals.specs.declared.refusal.Refusal.{Refusal}
 use Rattle.formula.specs.Parse.{Parsed, good, bad, wholeOf}
 use Rattle.formula.proofs.Breaking.{first-fault}
 use Rattle.board.specs.Faults.{Fault, firstFault, goodBoard, numberIn}
-use Rattle.board.specs.Rules.{breaksAt, hasPlace, noPlace, placeTold, ruleFaults}
+use Rattle.board.specs.Rules.{noPlace, placeTold, ruleFaults}
 use Rattle.board.specs.declared.Outcome.{Outcome}
 use Rattle.board.specs.declared.Outcome.the-variants.{Refused}
 use Rattle.board.proofs.Goodness.{good-is}
@@ -61,10 +61,11 @@ rule-breaks w lent bytes why e low high =
     let place = rule-place (front w lent) (w .board) bytes ∙ ap (λ (o : Outcome). placeTold o (wholeOf S bytes)) e ∙ place-told S bytes (f .2) in
     rw place (first-fault S bytes why (f .1) (good-is (front w lent) (w .board) (f .0) .some) (f .2))
 
+pub none-told : (o : Outcome) (p : Parsed) → (numberIn o < 2) ⊎ (6 < numberIn o) → placeTold o p ≡ noPlace
+none-told o p (inl low) = rw (lt-leb 2 (numberIn o) low)
+none-told o p (inr high) = rw (le-leb 2 (numberIn o) (omega arith), lt-leb (numberIn o) 6 high)
+
 pub no-place-else : NoPlaceElse
 unfolding outcome
-no-place-else w lent bytes h = rule-place (front w lent) (w .board) bytes ∙ go (numberIn (outcome w (adds lent bytes))) h
-  where
-    go : (number : ℕ) → (number < 2) ⊎ (6 < number) → cond (hasPlace number) (breaksAt (wholeOf (w .board .symbols) bytes)) noPlace ≡ noPlace
-    go number (inl low) = rw (lt-leb 2 number low)
-    go number (inr high) = rw (le-leb 2 number (omega arith), lt-leb number 6 high)
+no-place-else w lent bytes h =
+    rule-place (front w lent) (w .board) bytes ∙ none-told (outcome w (adds lent bytes)) (wholeOf (w .board .symbols) bytes) h

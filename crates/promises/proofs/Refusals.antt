@@ -23,8 +23,13 @@ use Rattle.board.proofs.Answered.{told-by, rule-told}
 use Rattle.dimacs.specs.Reading.{readFaults, readAnswer, readTable}
 use Rattle.dimacs.specs.Writing.{writeOutcome, writeAnswer, writeBytes}
 use Rattle.dimacs.specs.declared.reading.Reading.{Reading}
-use Rattle.promises.specs.Calls.{Call, opens, adds, holds, withdraws, asks, explains, settles, grounds, blames, reads, writes, World, front, faults, askOutcome, outcome, after, notOpen}
+use Rattle.text.specs.Reading.{bytesIn, readTextOutcome, readTextAnswer, readTextBytes}
+use Rattle.text.specs.Adding.{textRefused, ruledText, ruledTextTable}
+use Rattle.text.specs.Writing.{writeTextOutcome, writeTextAnswer, writeTextBytes}
+use Rattle.promises.specs.Calls.{Call, opens, adds, holds, withdraws, asks, explains, settles, grounds, blames, reads, writes}
+use Rattle.promises.specs.Calls.{readsText, addsText, writesText, World, front, faults, askOutcome, outcome, after, notOpen}
 use Rattle.promises.specs.Demands.{FirstGiven, here, later, RefusedExactly, DoneExactly, RefusedUntouched, RefusedUnwritten, RefusedHandsBack}
+use Rattle.promises.proofs.RuleTexts.{rule-text-told}
 
 -- ---- what a call answers
 
@@ -39,7 +44,7 @@ stands-done known p = go (conflict known) (has known p) (has known (opp p)) refl
     go false false false ea eb ec = rw (ea, eb, ec)
 
 pub first-case : (w : World) (c : Call) → outcome w c ≡ firstFault (faults w c)
-unfolding outcome faults opened flagChanged asked reasoned settleOutcome groundOutcome blameOutcome readAnswer writeAnswer writeOutcome
+unfolding outcome faults opened flagChanged asked reasoned settleOutcome groundOutcome blameOutcome readAnswer writeAnswer writeOutcome readTextAnswer readTextOutcome writeTextAnswer writeTextOutcome
 first-case w (opens S) = refl
 first-case w (adds lent bytes) = rule-told (front w lent) (w .board) bytes
 first-case w (holds lent l) = refl
@@ -54,6 +59,9 @@ first-case w (blames lent marks) = refl
 first-case w (reads lent text) =
     told-by (λ (r : Reading). r .outcome) _ _ (firstFault (readFaults (front w lent) (w .board) text)) (λ e. refl) (λ why e. refl)
 first-case w (writes lent out) = refl
+first-case w (readsText lent text out) = refl
+first-case w (addsText lent text) = rule-text-told (front w lent) (w .board) text
+first-case w (writesText lent bytes out) = refl
 
 -- so what is known of the answer is known of the cases
 pub cases : (w : World) (c : Call) {o : Outcome} → outcome w c ≡ o → firstFault (faults w c) ≡ o
@@ -100,10 +108,27 @@ done-exactly w c = (λ e. none-of (faults w c) (cases w c e), λ h. first-case w
 
 -- ---- what it leaves
 
+-- a refused rule adds no row and leaves all as it was,
+rule-refused : (w : World) (lent : ℕ) (bytes : List ℕ) (why : Refusal) → outcome w (adds lent bytes) ≡ Refused why
+    → (ruled (front w lent) (w .board) bytes .added ≡ 0) × (after w (adds lent bytes) ≡ w)
+unfolding after faults ruled ruledTable
+rule-refused w lent bytes why e = rw (cases w (adds lent bytes) e, take-append-drop) (refl, refl)
+
+-- and so does one from text, be it for the text or for its bytes
+rule-text-refused : (w : World) (lent : ℕ) (text : List ℕ) (why : Refusal) → outcome w (addsText lent text) ≡ Refused why
+    → (ruledText (front w lent) (w .board) text .added ≡ 0) × (after w (addsText lent text) ≡ w)
+unfolding outcome after ruledText ruledTextTable
+rule-text-refused w lent text why e = go (textRefused (front w lent) (w .board) text) refl
+  where
+    go : (t : Bool) → textRefused (front w lent) (w .board) text ≡ t
+        → (ruledText (front w lent) (w .board) text .added ≡ 0) × (after w (addsText lent text) ≡ w)
+    go true r = rw (r, take-append-drop) (refl, refl)
+    go false r = rw r (rule-refused w lent (bytesIn text) why (rw (r, outcome) at e))
+
 pub refused-untouched : RefusedUntouched
-unfolding after faults opened ruled ruledTable flagChanged readAnswer readTable
+unfolding after faults opened flagChanged readAnswer readTable
 refused-untouched w (opens S) why e = rw (cases w (opens S) e)
-refused-untouched w (adds lent bytes) why e = rw (cases w (adds lent bytes) e, take-append-drop)
+refused-untouched w (adds lent bytes) why e = rule-refused w lent bytes why e .1
 refused-untouched w (holds lent l) why e = rw (cases w (holds lent l) e)
 refused-untouched w (withdraws lent l) why e = rw (cases w (withdraws lent l) e)
 refused-untouched w (asks lent l) why e = refl
@@ -113,6 +138,9 @@ refused-untouched w (grounds lent l marks) why e = refl
 refused-untouched w (blames lent marks) why e = refl
 refused-untouched w (reads lent text) why e = rw (cases w (reads lent text) e, take-append-drop)
 refused-untouched w (writes lent out) why e = refl
+refused-untouched w (readsText lent text out) why e = refl
+refused-untouched w (addsText lent text) why e = rule-text-refused w lent text why e .1
+refused-untouched w (writesText lent bytes out) why e = refl
 
 -- a call is done or refused
 pub done-or-refused : (o : Outcome) → (o ≡ Done) ⊎ ((why : Refusal) × (o ≡ Refused why))
@@ -129,21 +157,26 @@ module _ (So : World → Type 0) (w : World) (c : Call) (n : notOpen c ≡ true)
   so-after good = ⊎-elim good so-refused (done-or-refused (outcome w c))
 
 pub refused-unwritten : RefusedUnwritten
-unfolding outcome settledLabels settledRanks settledSupports groundMarks blameMarks writeAnswer writeBytes
+unfolding outcome settledLabels settledRanks settledSupports groundMarks blameMarks writeAnswer writeBytes readTextAnswer readTextBytes writeTextAnswer writeTextBytes
 refused-unwritten w lent why =
     record {
       settle = λ labels ranks supports e. (rw e, rw e, rw e);
       ground = λ l marks e. rw e;
       blame = λ marks e. rw e;
       write = λ out e. rw e;
+      read-text = λ text out e. rw e;
+      write-text = λ bytes out e. rw e;
     }
 
 pub refused-hands-back : RefusedHandsBack
-unfolding faults ruled reasoned explained readAnswer outcome writeAnswer
+unfolding faults reasoned explained readAnswer outcome writeAnswer readTextAnswer writeTextAnswer
 refused-hands-back w lent why =
     record {
-      rule = λ bytes e. rw (cases w (adds lent bytes) e);
+      rule = λ bytes e. rule-refused w lent bytes why e .0;
       explain = λ l e. (let f = cases w (explains lent l) e in (rw f, rw f, rw f, rw f));
       read = λ text e. rw (cases w (reads lent text) e);
       write = λ out e. rw e;
+      read-text = λ text out e. rw e;
+      rule-text = λ text e. rule-text-refused w lent text why e .0;
+      write-text = λ bytes out e. rw e;
     }

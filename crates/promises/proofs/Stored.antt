@@ -16,11 +16,10 @@ use Rattle.literals.specs.Row.{width, numbersAt, decode, rowsIn, encode}
 use Rattle.literals.proofs.Encoding.{length-encode, decode-encode}
 use Rattle.implicates.specs.Appending.{encodeAll, appended}
 use Rattle.implicates.proofs.Appending.{length-encodeAll}
-use Rattle.board.specs.Rules.{ruled}
 use Rattle.board.specs.declared.Board.{Board}
-use Rattle.promises.specs.Calls.{adds, World, front, after, formulaIn}
-use Rattle.promises.specs.Demands.{Appends, RuleAppends, ReadAppends}
-use Rattle.promises.proofs.Tested.{rowsFor, Added, sound-rows, rule-added, text-added}
+use Rattle.promises.specs.Calls.{World, front}
+use Rattle.promises.specs.Demands.{Appends, RuleAppends, ReadAppends, TextAppends}
+use Rattle.promises.proofs.Tested.{rowsFor, Added, sound-rows, rule-added, rule-text-added, text-added}
 use Rattle.promises.proofs.Lent.{rows-front, rows-lent}
 
 -- ---- the rows of a table, from the front
@@ -124,13 +123,17 @@ module _ {w next : World} {lent : ℕ} {fs : List Formula} {count : ℕ} (a : Ad
             ∙ ap (drop (width * (w .board .rows + length new))) whole-table;
       }
 
+-- one rule
+appends-one : {w next : World} {lent : ℕ} {f : Formula} {count : ℕ} → Added w next lent (f ∷ []) count
+    → Appends w next (rowsOf (ruleOf (w .board .symbols) f)) count
+appends-one {w = w} {next = next} {f = f} {count = count} a =
+    subst (λ (new : List (List ℕ)). Appends w next new count) (append-nil (rowsOf (ruleOf (w .board .symbols) f))) (appends a)
+
 pub rule-appends : RuleAppends
-rule-appends w lent bytes e =
-    let S = w .board .symbols in
-    let next = after w (adds lent bytes) in
-    let count = ruled (front w lent) (w .board) bytes .added in
-    subst (λ (new : List (List ℕ)). Appends w next new count) (append-nil (rowsOf (ruleOf S (formulaIn S bytes))))
-    (appends (rule-added w lent bytes e))
+rule-appends w lent bytes e = appends-one (rule-added w lent bytes e)
+
+pub text-appends : TextAppends
+text-appends w lent text e = appends-one (rule-text-added w lent text e)
 
 pub read-appends : ReadAppends
 read-appends w lent text e = appends (text-added w lent text e)

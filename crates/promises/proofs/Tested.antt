@@ -17,11 +17,11 @@ use Rattle.meaning.proofs.SoundRows.{SoundRow, rows-sound}
 use Rattle.meaning.proofs.Forced.{accepted-words}
 use Rattle.literals.specs.Row.{width, rowsLent}
 use Rattle.formula.specs.Parse.{Parsed, good, bad, wholeOf}
-use Rattle.formula.specs.Answers.{isGood}
+use Rattle.formula.specs.Answers.{isGood, formulaOf}
 use Rattle.formula.proofs.Widening.{whole-read}
 use Rattle.implicates.specs.Appending.{appended}
 use Rattle.board.specs.Faults.{goodBoard, firstFault}
-use Rattle.board.specs.Rules.{ruleFaults, formulaOf, withRows, ruled, ruledTable}
+use Rattle.board.specs.Rules.{ruleFaults, withRows, ruled, ruledTable}
 use Rattle.board.specs.declared.Outcome.the-variants.{Done}
 use Rattle.board.proofs.Goodness.{Good, good-is}
 use Rattle.board.proofs.Explaining.{none-given}
@@ -29,7 +29,12 @@ use Rattle.dimacs.specs.Form.{clausesOf, parseText}
 use Rattle.dimacs.specs.Reading.{formulaeIn, readFaults, readAnswer, readTable}
 use Rattle.dimacs.proofs.FirstFaults.{clauses-accepted}
 use Rattle.dimacs.proofs.ClauseCount.{read-clauses, read-fits, read-good}
-use Rattle.promises.specs.Calls.{adds, reads, World, front, faults, outcome, after, formulaIn}
+use Rattle.chains.specs.Form.{wholeText}
+use Rattle.text.specs.Reading.{bytesIn, readIn}
+use Rattle.text.specs.Adding.{ruledText}
+use Rattle.text.proofs.Back.{says-same}
+use Rattle.promises.specs.Calls.{adds, reads, addsText, World, front, faults, outcome, after, formulaIn}
+use Rattle.promises.proofs.RuleTexts.{done-same}
 use Rattle.promises.proofs.Refusals.{cases}
 
 -- the rows of rules on a world's board
@@ -93,6 +98,28 @@ rule-added w lent bytes e =
       board = rw (done, one);
       table = rw (done, one);
     }
+
+-- in text: the bytes, read, are the formula that the text says
+formula-said : (S : ℕ) (text : List ℕ) → S ≤ 200 → isGood (readIn S text) ≡ true → formulaIn S (bytesIn text) ≡ formulaOf (wholeText text)
+formula-said S text few e = go (readIn S text) refl e
+  where
+    go : (p : Parsed) → readIn S text ≡ p → isGood p ≡ true → formulaOf p ≡ formulaOf (wholeText text)
+    go (good f used) q e = sym (says-same S text f used few q)
+    go (bad why at) q e = clash e refl
+
+pub rule-text-added : (w : World) (lent : ℕ) (text : List ℕ) → outcome w (addsText lent text) ≡ Done
+    → Added w (after w (addsText lent text)) lent (formulaOf (wholeText text) ∷ []) (ruledText (front w lent) (w .board) text .added)
+unfolding outcome faults ruleFaults
+rule-text-added w lent text e =
+    let bytes = bytesIn text in
+    let S = w .board .symbols in
+    let same = done-same w lent text e in
+    let done : outcome w (adds lent bytes) ≡ Done = rw (same .0, outcome) at e in
+    let given = none-given (ruleFaults (front w lent) (w .board) bytes) (cases w (adds lent bytes) done) in
+    let added = rule-added w lent bytes done in
+    let said = formula-said S text (added .good .sound .symbols) (not-false (isGood (wholeOf S bytes)) (given 1)) in
+    let told = ruledText (front w lent) (w .board) text .added in
+    subst (λ (f : Formula). Added w (after w (addsText lent text)) lent (f ∷ []) told) said (rw (same .0, same .1) added)
 
 -- ---- a text
 

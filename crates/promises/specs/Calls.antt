@@ -1,5 +1,5 @@
 -- "After every sequence of calls": the calls with all that each is lent, and what they do to the board and the caller's table, by the
--- very definitions that the contracts of `board` and `dimacs` cite.
+-- very definitions that the contracts of `board`, `dimacs` and `text` cite.
 use Prim.Native.Nat.{ℕ}
 use mathlib.Core.Bool.{Bool, true, false}
 use mathlib.Core.List.{List, [], _∷_, _++_}
@@ -7,15 +7,20 @@ use lib.IntN.{ℤ}
 use lib.ListN.{length, take, drop}
 use Rattle.meaning.specs.Formulae.{Formula}
 use Rattle.formula.specs.Parse.{wholeOf}
+use Rattle.formula.specs.Answers.{formulaOf}
 use Rattle.board.specs.Faults.{Fault, ifDone}
 use Rattle.board.specs.Changes.{openFaults, opened, holdFaults, held, withdrawFaults, withdrawn}
-use Rattle.board.specs.Rules.{ruleFaults, ruled, ruledTable, formulaOf}
+use Rattle.board.specs.Rules.{ruleFaults, ruled, ruledTable}
 use Rattle.board.specs.Settling.{settleFaults, settleOutcome}
 use Rattle.board.specs.Asking.{askFaults, asked, explainFaults, reasoned}
 use Rattle.board.specs.Grounds.{groundFaults, groundOutcome, blameFaults, blameOutcome}
 use Rattle.dimacs.specs.Form.{parseText}
 use Rattle.dimacs.specs.Reading.{formulaeIn, readFaults, readAnswer, readTable}
 use Rattle.dimacs.specs.Writing.{writeFaults, writeAnswer}
+use Rattle.chains.specs.Form.{wholeText}
+use Rattle.text.specs.Reading.{readTextFaults, readTextAnswer}
+use Rattle.text.specs.Adding.{ruleTextFaults, ruledText, ruledTextTable}
+use Rattle.text.specs.Writing.{writeTextFaults, writeTextAnswer}
 use Rattle.board.specs.declared.Board.{Board}
 use Rattle.board.specs.declared.Outcome.{Outcome}
 use Rattle.board.specs.declared.Outcome.the-variants.{Done, Refused}
@@ -32,6 +37,9 @@ pub data Call : Type 0 where
   blames : (lent : ℕ) (marks : List ℕ) → Call
   reads : (lent : ℕ) (text : List ℕ) → Call
   writes : (lent : ℕ) (out : List ℕ) → Call
+  readsText : (lent : ℕ) (text out : List ℕ) → Call
+  addsText : (lent : ℕ) (text : List ℕ) → Call
+  writesText : (lent : ℕ) (bytes out : List ℕ) → Call
 
 -- the board and the whole table, "written by nobody else"
 pub record World : Type 0 where
@@ -55,6 +63,9 @@ faults w (grounds lent l marks) = groundFaults (front w lent) (w .board) l (leng
 faults w (blames lent marks) = blameFaults (front w lent) (w .board) (length marks)
 faults w (reads lent text) = readFaults (front w lent) (w .board) text
 faults w (writes lent out) = writeFaults (front w lent) (w .board) (length out)
+faults w (readsText lent text out) = readTextFaults (front w lent) (w .board) text (length out)
+faults w (addsText lent text) = ruleTextFaults (front w lent) (w .board) text
+faults w (writesText lent bytes out) = writeTextFaults (front w lent) (w .board) bytes (length out)
 
 -- ask has one answer for both: how the literal stands, which is of a call that is done, or why it is refused
 abbrev pub askOutcome : Standing → Outcome
@@ -77,6 +88,9 @@ outcome w (grounds lent l marks) = groundOutcome (front w lent) (w .board) l mar
 outcome w (blames lent marks) = blameOutcome (front w lent) (w .board) marks
 outcome w (reads lent text) = readAnswer (front w lent) (w .board) text .outcome
 outcome w (writes lent out) = writeAnswer (front w lent) (w .board) out .outcome
+outcome w (readsText lent text out) = readTextAnswer (front w lent) (w .board) text out .outcome
+outcome w (addsText lent text) = ruledText (front w lent) (w .board) text .outcome
+outcome w (writesText lent bytes out) = writeTextAnswer (front w lent) (w .board) bytes out .outcome
 
 -- "In a sequence of calls each is given the board that the one before handed back."
 unfoldable pub after : World → Call → World
@@ -99,6 +113,13 @@ after w (reads lent text) =
       table = readTable (front w lent) (w .board) text ++ drop lent (w .table);
     }
 after w (writes lent out) = w
+after w (readsText lent text out) = w
+after w (addsText lent text) =
+    record {
+      board = ruledText (front w lent) (w .board) text .board;
+      table = ruledTextTable (front w lent) (w .board) text ++ drop lent (w .table);
+    }
+after w (writesText lent bytes out) = w
 
 abbrev pub run : World → List Call → World
 run w [] = w
@@ -110,8 +131,8 @@ run w (c ∷ calls) = run (after w c) calls
 abbrev pub formulaIn : ℕ → List ℕ → Formula
 formulaIn S bytes = formulaOf (wholeOf S bytes)
 
--- the rules accepted since the last open, after one call more: an open forgets them, a good rule call adds its formula, a good reading those
--- of its clauses
+-- the rules accepted since the last open, after one call more: an open forgets them, a good rule call adds its formula, in bytes or in text, a good
+-- reading those of its clauses
 unfoldable pub rulesAfter : World → List Formula → Call → List Formula
 rulesAfter w fs (opens S) = []
 rulesAfter w fs (adds lent bytes) = ifDone (outcome w (adds lent bytes)) (fs ++ (formulaIn (w .board .symbols) bytes ∷ [])) (λ _. fs)
@@ -124,6 +145,9 @@ rulesAfter w fs (grounds lent l marks) = fs
 rulesAfter w fs (blames lent marks) = fs
 rulesAfter w fs (reads lent text) = ifDone (outcome w (reads lent text)) (fs ++ formulaeIn (parseText text)) (λ _. fs)
 rulesAfter w fs (writes lent out) = fs
+rulesAfter w fs (readsText lent text out) = fs
+rulesAfter w fs (addsText lent text) = ifDone (outcome w (addsText lent text)) (fs ++ (formulaOf (wholeText text) ∷ [])) (λ _. fs)
+rulesAfter w fs (writesText lent bytes out) = fs
 
 -- and after several
 abbrev pub rulesAfterAll : World → List Formula → List Call → List Formula
@@ -143,3 +167,6 @@ notOpen (grounds lent l marks) = true
 notOpen (blames lent marks) = true
 notOpen (reads lent text) = true
 notOpen (writes lent out) = true
+notOpen (readsText lent text out) = true
+notOpen (addsText lent text) = true
+notOpen (writesText lent bytes out) = true

@@ -20,6 +20,8 @@ use Rattle.literals.specs.Row.{width, rowsLent, decode}
 use Rattle.literals.specs.Refusals.{numberOf}
 use Rattle.literals.specs.declared.refusal.Refusal.{Refusal}
 use Rattle.formula.specs.Promises.{Breaks}
+use Rattle.formula.specs.Parse.{good, wholeOf}
+use Rattle.formula.specs.Answers.{isGood as isFormula, formulaOf}
 use Rattle.board.specs.Faults.{Fault, firstFault, numberIn, goodBoard}
 use Rattle.board.specs.Changes.{emptyBoard, withFlag}
 use Rattle.board.specs.Rules.{noPlace, ruled}
@@ -32,7 +34,12 @@ use Rattle.dimacs.specs.Form.{isGood, clausesOf, parseText}
 use Rattle.dimacs.specs.Clauses.{oneOf, clauseFaults, clausesFaults}
 use Rattle.dimacs.specs.Reading.{rowsOfText, readAnswer}
 use Rattle.dimacs.specs.Writing.{textOn, writeAnswer, writeBytes}
-use Rattle.promises.specs.Calls.{Call, opens, adds, holds, withdraws, asks, explains, settles, grounds, blames, reads, writes, World, front, faults, outcome, after, run, formulaIn, rulesAfterAll, notOpen}
+use Rattle.chains.specs.Form.{wholeText}
+use Rattle.chains.specs.Promises.{Says, Offends}
+use Rattle.text.specs.Reading.{bytesIn, readTextAnswer, readTextBytes}
+use Rattle.text.specs.Adding.{ruledText}
+use Rattle.text.specs.Writing.{textIn, writeTextAnswer, writeTextBytes}
+use Rattle.promises.specs.Calls.{Call, opens, adds, holds, withdraws, asks, explains, settles, grounds, blames, reads, writes, readsText, addsText, writesText, World, front, faults, outcome, after, run, formulaIn, rulesAfterAll, notOpen}
 
 -- ---- demand 1: "Each refusal is given exactly in the case document 01 names, and leaves each table untouched."
 
@@ -61,7 +68,7 @@ asBefore w c = cond (notOpen c) w (record { board = emptyBoard 0; table = w .tab
 abbrev pub RefusedUntouched : Type 0
 RefusedUntouched = (w : World) (c : Call) (why : Refusal) → outcome w c ≡ Refused why → after w c ≡ asBefore w c
 
--- "it writes nothing in a lent table": settle's three, the marks of ground and blame, and the bytes of a text
+-- "it writes nothing in a lent table": settle's three, the marks of ground and blame, the bytes of a text, and those of a formula
 pub record Unwritten (w : World) (lent : ℕ) (why : Refusal) : Type 0 where
   pub settle : (labels ranks supports : List ℕ) → outcome w (settles lent labels ranks supports) ≡ Refused why
       → (settledLabels (front w lent) (w .board) labels ranks supports ≡ labels)
@@ -71,12 +78,15 @@ pub record Unwritten (w : World) (lent : ℕ) (why : Refusal) : Type 0 where
       → groundMarks (front w lent) (w .board) l marks ≡ marks
   pub blame : (marks : List ℕ) → outcome w (blames lent marks) ≡ Refused why → blameMarks (front w lent) (w .board) marks ≡ marks
   pub write : (out : List ℕ) → outcome w (writes lent out) ≡ Refused why → writeBytes (front w lent) (w .board) out ≡ out
+  pub read-text : (text out : List ℕ) → outcome w (readsText lent text out) ≡ Refused why → readTextBytes (front w lent) (w .board) text out ≡ out
+  pub write-text : (bytes out : List ℕ) → outcome w (writesText lent bytes out) ≡ Refused why
+      → writeTextBytes (front w lent) (w .board) bytes out ≡ out
 
 abbrev pub RefusedUnwritten : Type 0
 RefusedUnwritten = (w : World) (lent : ℕ) (why : Refusal) → Unwritten w lent why
 
--- what it hands back besides: a rule and a text read no rows, a text written no bytes; "A refused explain hands back the empty part at the
--- table's front, and 65535 for rank and row number."
+-- what it hands back besides: a rule, in bytes or in text, and a DIMACS text read no rows; a DIMACS text written, and formula text read or written, no
+-- bytes; "A refused explain hands back the empty part at the table's front, and 65535 for rank and row number."
 pub record HandedBack (w : World) (lent : ℕ) (why : Refusal) : Type 0 where
   pub rule : (bytes : List ℕ) → outcome w (adds lent bytes) ≡ Refused why → ruled (front w lent) (w .board) bytes .added ≡ 0
   pub explain : (l : ℤ) → outcome w (explains lent l) ≡ Refused why
@@ -84,6 +94,11 @@ pub record HandedBack (w : World) (lent : ℕ) (why : Refusal) : Type 0 where
       × (explained (front w lent) (w .board) l .start ≡ 0) × (explained (front w lent) (w .board) l .stop ≡ 0)
   pub read : (text : List ℕ) → outcome w (reads lent text) ≡ Refused why → readAnswer (front w lent) (w .board) text .added ≡ 0
   pub write : (out : List ℕ) → outcome w (writes lent out) ≡ Refused why → writeAnswer (front w lent) (w .board) out .bytes ≡ 0
+  pub read-text : (text out : List ℕ) → outcome w (readsText lent text out) ≡ Refused why
+      → readTextAnswer (front w lent) (w .board) text out .bytes ≡ 0
+  pub rule-text : (text : List ℕ) → outcome w (addsText lent text) ≡ Refused why → ruledText (front w lent) (w .board) text .added ≡ 0
+  pub write-text : (bytes out : List ℕ) → outcome w (writesText lent bytes out) ≡ Refused why
+      → writeTextAnswer (front w lent) (w .board) bytes out .bytes ≡ 0
 
 abbrev pub RefusedHandsBack : Type 0
 RefusedHandsBack = (w : World) (lent : ℕ) (why : Refusal) → HandedBack w lent why
@@ -124,6 +139,28 @@ abbrev pub ReadTellsNone : Type 0
 ReadTellsNone =
     (w : World) (lent : ℕ) (text : List ℕ) → (goodBoard (front w lent) (w .board) ≡ false) ⊎ (isGood (parseText text) ≡ false)
     → readAnswer (front w lent) (w .board) text .clauses ≡ 0
+
+-- 02, Ticket 5: 15 is told "at the first offending place" of the text, "2 and 5 carry their place in the resulting bytes", and every other answer has
+-- no place
+pub record TextPlaced (S : ℕ) (text : List ℕ) (number place : ℕ) : Type 0 where
+  pub text-breaks : number ≡ 15 → Offends text place
+  pub bytes-break : 2 ≤ number → number ≤ 6
+      → ((number ≡ 2) ⊎ (number ≡ 5)) × (why : Refusal) × (numberOf why ≡ number) × Breaks S (bytesIn text) why place
+  pub nowhere : (number < 2) ⊎ ((6 < number) × (number ≢ 15)) → place ≡ noPlace
+
+abbrev pub TextPlaces : Type 0
+TextPlaces =
+    (w : World) (lent : ℕ) (text out : List ℕ)
+    → TextPlaced (w .board .symbols) text (numberIn (outcome w (readsText lent text out))) (readTextAnswer (front w lent) (w .board) text out .place)
+    × TextPlaced (w .board .symbols) text (numberIn (outcome w (addsText lent text))) (ruledText (front w lent) (w .board) text .place)
+
+-- the writer's places are those of a rule in bytes
+abbrev pub WriteTextPlaces : Type 0
+WriteTextPlaces =
+    (w : World) (lent : ℕ) (bytes out : List ℕ) → let number = numberIn (outcome w (writesText lent bytes out)) in
+    let place = writeTextAnswer (front w lent) (w .board) bytes out .place in
+    (2 ≤ number → number ≤ 6 → (numberIn (outcome w (adds lent bytes)) ≡ number) × (ruled (front w lent) (w .board) bytes .place ≡ place))
+    × ((number < 2) ⊎ (6 < number) → place ≡ noPlace)
 
 -- ---- demand 2: what the calls leave
 
@@ -171,6 +208,28 @@ abbrev pub ReadAppends : Type 0
 ReadAppends =
     (w : World) (lent : ℕ) (text : List ℕ) → outcome w (reads lent text) ≡ Done
     → Appends w (after w (reads lent text)) (rowsOfText (w .board .symbols) (parseText text)) (readAnswer (front w lent) (w .board) text .added)
+
+-- 02, Ticket 5: "Text and bytes of one formula add the same rows": the two calls answer the same and leave the same
+abbrev pub TextIsBytes : Type 0
+TextIsBytes =
+    (w : World) (lent : ℕ) (text : List ℕ) → isFormula (wholeText text) ≡ true
+    → (ruledText (front w lent) (w .board) text ≡ ruled (front w lent) (w .board) (bytesIn text))
+    × (after w (addsText lent text) ≡ after w (adds lent (bytesIn text)))
+
+-- so whatever text and whatever bytes say the formula, on a good board
+abbrev pub OneFormula : Type 0
+OneFormula =
+    (w : World) (lent : ℕ) (text bytes : List ℕ) (f : Formula) (used : ℕ) → goodBoard (front w lent) (w .board) ≡ true → Says text f
+    → wholeOf (w .board .symbols) bytes ≡ good f used
+    → (ruledText (front w lent) (w .board) text ≡ ruled (front w lent) (w .board) bytes)
+    × (after w (addsText lent text) ≡ after w (adds lent bytes))
+
+-- and the rows are those of the formula that the text says
+abbrev pub TextAppends : Type 0
+TextAppends =
+    (w : World) (lent : ℕ) (text : List ℕ) → outcome w (addsText lent text) ≡ Done
+    → Appends w (after w (addsText lent text)) (rowsOf (ruleOf (w .board .symbols) (formulaOf (wholeText text))))
+    (ruledText (front w lent) (w .board) text .added)
 
 -- ---- demand 2: what the calls tell, "over the rows in the table and the premises then held, in 01's rounds"
 
@@ -295,6 +354,39 @@ RoundTrip =
     → let text = take (writeAnswer (front w lent) (w .board) out .bytes) (writeBytes (front w lent) (w .board) out) in
     let new = after v (opens (w .board .symbols)) in
     (outcome new (reads room text) ≡ Done) × (rowsOfWorld (after new (reads room text)) ≡ rowsOfWorld w)
+
+-- 02, Ticket 5: a text that is read leaves its formula's bytes, and the bytes beyond them stay
+abbrev pub ReadTextTells : Type 0
+ReadTextTells =
+    (w : World) (lent : ℕ) (text out : List ℕ) → outcome w (readsText lent text out) ≡ Done
+    → let bytes = bytesIn text in
+    (readTextAnswer (front w lent) (w .board) text out .bytes ≡ length bytes)
+    × (readTextBytes (front w lent) (w .board) text out ≡ bytes ++ drop (length bytes) out)
+
+-- "Write text from bytes too"
+abbrev pub WriteTextTells : Type 0
+WriteTextTells =
+    (w : World) (lent : ℕ) (bytes out : List ℕ) → outcome w (writesText lent bytes out) ≡ Done
+    → let text = textIn (w .board .symbols) bytes in
+    (writeTextAnswer (front w lent) (w .board) bytes out .bytes ≡ length text)
+    × (writeTextBytes (front w lent) (w .board) bytes out ≡ text ++ drop (length text) out)
+
+-- the text that a good writing left
+abbrev pub textWritten : World → (lent : ℕ) → (bytes out : List ℕ) → List ℕ
+textWritten w lent bytes out =
+    take (writeTextAnswer (front w lent) (w .board) bytes out .bytes) (writeTextBytes (front w lent) (w .board) bytes out)
+
+-- "reading it gives the same bytes", on every good board of equal S with room for them; and added to any board it adds what those bytes do
+pub record WrittenBack (text bytes : List ℕ) (S : ℕ) : Type 0 where
+  pub reads : (v : World) (lent : ℕ) (out : List ℕ) → v .board .symbols ≡ S → goodBoard (front v lent) (v .board) ≡ true → length bytes ≤ length out
+      → (outcome v (readsText lent text out) ≡ Done) × (readTextBytes (front v lent) (v .board) text out ≡ bytes ++ drop (length bytes) out)
+  pub adds : (v : World) (lent : ℕ) → (ruledText (front v lent) (v .board) text ≡ ruled (front v lent) (v .board) bytes)
+      × (after v (addsText lent text) ≡ after v (adds lent bytes))
+
+abbrev pub TextRoundTrip : Type 0
+TextRoundTrip =
+    (w : World) (lent : ℕ) (bytes out : List ℕ) → outcome w (writesText lent bytes out) ≡ Done
+    → WrittenBack (textWritten w lent bytes out) bytes (w .board .symbols)
 
 -- ---- demand 3
 

@@ -1,4 +1,5 @@
 -- Laws of the crate's definitions.
 pub mod Pieces
+pub mod Digits
 pub mod Ascii
-mod Unique
+pub mod Unique

@@ -59,7 +59,7 @@ natural-three n h short =
 
 -- ---- pieces
 
-sets-append : (l : List ℕ) (i : ℕ) (a b : List ℕ) → sets l i (a ++ b) ≡ sets (sets l i a) (i + length a) b
+pub sets-append : (l : List ℕ) (i : ℕ) (a b : List ℕ) → sets l i (a ++ b) ≡ sets (sets l i a) (i + length a) b
 sets-append l i [] b = rw add-zero
 sets-append l i (x ∷ a) b =
     let e : suc i + length a ≡ i + suc (length a) = omega arith in

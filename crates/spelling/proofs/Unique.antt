@@ -7,7 +7,7 @@ use Rattle.spelling.specs.Text.{Put}
 use Rattle.spelling.proofs as spelling
 
 -- of a piece put at a place there is one buffer and one place after it
-put-one-way : {before m n : List ℕ} {at i j : ℕ} {piece : List ℕ} → Put before m at piece i → Put before n at piece j → (i ≡ j) × (m ≡ n)
+pub put-one-way : {before m n : List ℕ} {at i j : ℕ} {piece : List ℕ} → Put before m at piece i → Put before n at piece j → (i ≡ j) × (m ≡ n)
 put-one-way p q = (p .ends ∙ sym (q .ends), p .written ∙ sym (q .written))
 
 one-put-natural : One spelling.put_natural.ended spelling.put_natural.Reads.Post

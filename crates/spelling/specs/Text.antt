@@ -1,9 +1,9 @@
--- Numbers, literals and words as bytes.
-use Prim.Native.Nat.{ℕ, zero, suc, _+_, _/_, _%_}
+-- Numbers, literals and words as bytes; and the number that digits spell.
+use Prim.Native.Nat.{ℕ, zero, suc, _+_, _*_, _-_, _/_, _%_}
 use mathlib.Core.Path.{_≡_}
-use mathlib.Core.Bool.{cond}
+use mathlib.Core.Bool.{Bool, cond, _&&_}
 use mathlib.Core.List.{List, [], _∷_, _++_}
-use lib.Dec.{ltb}
+use lib.Dec.{leb, ltb}
 use lib.IntN.{ℤ, pos, negsuc}
 use lib.ListN.{length}
 use lib.Seq.{sets}
@@ -15,6 +15,14 @@ digitsOf (suc steps) n = cond (ltb n 10) ((48 + n) ∷ []) (digitsOf steps (n / 
 
 abbrev pub natural : ℕ → List ℕ
 natural n = digitsOf (suc n) n
+
+-- the other way round: "A number is digits, leading zeros taken." The value of digits, behind those of `sum`
+abbrev pub isDigit : ℕ → Bool
+isDigit c = leb 48 c && leb c 57
+
+unfoldable pub decimal : (sum : ℕ) → List ℕ → ℕ
+decimal sum [] = sum
+decimal sum (c ∷ rest) = decimal (sum * 10 + (c - 48)) rest
 
 -- a literal in decimal, with `-` before that of a negative one
 abbrev pub literal : ℤ → List ℕ

@@ -12,10 +12,10 @@ use Rattle.meaning.specs.Clauses.{rowsOf}
 use Rattle.literals.specs.Row.{rowsLent}
 use Rattle.literals.specs.declared.refusal.Refusal.the-variants.{TooManySymbols, NoAssignment, TableFull}
 use Rattle.formula.specs.Parse.{Parsed, wholeOf}
-use Rattle.formula.specs.Answers.{isGood, namesOf}
+use Rattle.formula.specs.Answers.{isGood, namesOf, formulaOf}
 use Rattle.implicates.specs.Appending.{answerOf, tableOf}
 use Rattle.implicates.proofs.Rules.{told-unsatisfiable, told-full, told-rows}
-use Rattle.board.specs.Rules.{formulaOf, ruleFaults}
+use Rattle.board.specs.Rules.{ruleFaults}
 use Rattle.board.proofs.Goodness.{Good, good-is}
 use Rattle.board.proofs.Adding.{Listed, listed, too-many, whole-is, because, rule-refused, rule-done}
 use Rattle.board.proofs.rules.add_formula.Statement.{statement}
