@@ -39,10 +39,10 @@ install: $(ARCHIVE)
 	install -d $(DEST)/include $(DEST)/lib/pkgconfig
 	install -m 644 include/tupahineka.h $(DEST)/include/
 	install -m 644 $(ARCHIVE) $(DEST)/lib/
-	printf '%s\n' 'prefix=$(PREFIX)' 'Name: tupahineka' 'Description: A proved truth-maintenance board' 'Version: 2.3' \
+	printf '%s\n' 'prefix=$(PREFIX)' 'Name: tupahineka' 'Description: A proved truth-maintenance board' 'Version: 3.0' \
 	    'Cflags: -I$${prefix}/include' 'Libs: -L$${prefix}/lib -lpanel' >$(DEST)/lib/pkgconfig/tupahineka.pc
 
-target/trend: examples/trend.c
+target/trend: examples/trend.c examples/chart.c examples/trend.h
 target/second: $(wildcard second/*.c second/*.h)
 target/bench: $(wildcard bench/*.c bench/*.h)
 target/trend target/second target/bench: include/tupahineka.h $(ARCHIVE)

@@ -1,6 +1,6 @@
-/* The measure: settle, ask, rule, ground, and DIMACS text in and out through the library, against the same by hand in plain C (bench/plain.c and
- * bench/dimacs.c), and settle, ask and ground against plain C with an index of the rows by literal (bench/indexed.c). Then rules from formula text
- * against the same rules from their bytes (bench/spelt.c).
+/* The measure: open, rule, every call that names a furnace, and DIMACS text in and out through the library, against the same by hand in plain C
+ * (bench/plain.c and bench/dimacs.c), and settle, ask and ground against plain C with an index of the rows by literal (bench/indexed.c). Then rules
+ * from formula text against the same rules from their bytes (bench/spelt.c).
  *
  * All sides in one program, one process, same inputs, same outputs (compared first), calls by the same kind of pointer.
  * A figure is the best of several runs, the sides taking turns within each run; times are the processor's, not the wall's.
@@ -18,24 +18,32 @@
 #include "spelt.h"
 #include "timing.h"
 
-enum { SETTLE, ASK, RULE, GROUND, READ, WRITE, CALLS };
+enum { OPEN, SETTLE, ASK, EXPLAIN, GROUND, BLAME, HOLD, WITHDRAW, RULE, READ, WRITE, CALLS };
 enum { LIBRARY, PLAIN, INDEXED, OTHER, SIDES };
 
 typedef struct side {
-    uint8_t (*settle)(tup_board, const int16_t *, size_t, uint8_t *, size_t, uint16_t *, size_t, uint16_t *, size_t);
-    tup_answer (*ask)(tup_board, const int16_t *, size_t, int16_t);
-    tup_addition (*rule)(tup_board, int16_t *, size_t, const uint8_t *, size_t);
-    uint8_t (*ground)(tup_board, const int16_t *, size_t, int16_t, uint8_t *, size_t);
-    tup_reading (*read)(tup_board, int16_t *, size_t, const uint8_t *, size_t);
-    tup_writing (*write)(tup_board, const int16_t *, size_t, uint8_t *, size_t);
+    tup_change (*open)(uint16_t);
+    uint8_t (*settle)(tup_board, const int16_t *, size_t numbers, uint8_t furnace, uint8_t *, size_t, uint16_t *, size_t, uint16_t *, size_t);
+    tup_answer (*ask)(tup_board, const int16_t *, size_t numbers, uint8_t furnace, int16_t);
+    tup_reason (*explain)(tup_board, const int16_t *, size_t numbers, uint8_t furnace, int16_t);
+    uint8_t (*ground)(tup_board, const int16_t *, size_t numbers, uint8_t furnace, int16_t, uint8_t *, size_t);
+    uint8_t (*blame)(tup_board, const int16_t *, size_t numbers, uint8_t furnace, uint8_t *, size_t);
+    tup_change (*hold)(tup_board, const int16_t *, size_t numbers, uint8_t furnace, int16_t);
+    tup_change (*withdraw)(tup_board, const int16_t *, size_t numbers, uint8_t furnace, int16_t);
+    tup_addition (*rule)(tup_board, int16_t *, size_t numbers, const uint8_t *, size_t);
+    tup_reading (*read)(tup_board, int16_t *, size_t numbers, const uint8_t *, size_t);
+    tup_writing (*write)(tup_board, const int16_t *, size_t numbers, uint8_t *, size_t);
 } side;
 
-static const side sides[SIDES] = {{tup_settle, tup_ask, tup_rule, tup_ground, tup_read_dimacs, tup_write_dimacs},
-                                  {plain_settle, plain_ask, plain_rule, plain_ground, plain_read_dimacs, plain_write_dimacs},
-                                  {indexed_settle, indexed_ask, NULL, indexed_ground, NULL, NULL},
-                                  {indexed_settle_summing, NULL, NULL, NULL, plain_read_dimacs_once, NULL}};
+static const side sides[SIDES] = {
+    {tup_open, tup_settle, tup_ask, tup_explain, tup_ground, tup_blame, tup_hold, tup_withdraw, tup_rule, tup_read_dimacs, tup_write_dimacs},
+    {plain_open, plain_settle, plain_ask, plain_explain, plain_ground, plain_blame, plain_hold, plain_withdraw, plain_rule, plain_read_dimacs,
+     plain_write_dimacs},
+    {.settle = indexed_settle, .ask = indexed_ask, .ground = indexed_ground},
+    {.settle = indexed_settle_summing, .read = plain_read_dimacs_once},
+};
 static const char *const side_words[SIDES] = {"library", "plain", "indexed", "other"};
-static const char *const call_words[CALLS] = {"settle", "ask", "rule", "ground", "read", "write"};
+static const char *const call_words[CALLS] = {"open", "settle", "ask", "explain", "ground", "blame", "hold", "withdraw", "rule", "read", "write"};
 
 /* All that calls write, and what is compared of what they return. */
 typedef struct outputs {
@@ -44,6 +52,7 @@ typedef struct outputs {
     int16_t table[NUMBERS];
     uint8_t text[TUP_MOST_TEXT];
     tup_board board;
+    tup_reason reason;
     uint8_t refusal;
     uint16_t clauses;
     size_t place;
@@ -59,9 +68,29 @@ static const char *worst_board, *worst_call;
 
 /* ---- Measuring ---- */
 
-/* Notes a rule's place; the rows that it added. */
+/* Notes the refusal of an answer; how the literal stands. */
+static unsigned made_answer(tup_answer answer, outputs *out) {
+    out->refusal = answer.refusal;
+    return answer.standing;
+}
+
+/* Takes the board over, as a caller does; the refusal. */
+static unsigned made_change(tup_change change, outputs *out) {
+    out->board = change.board;
+    return change.refusal;
+}
+
+/* Notes the whole answer of an explain; its row. */
+static unsigned made_reason(tup_reason reason, outputs *out) {
+    out->reason = reason;
+    return reason.row;
+}
+
+/* Notes the whole answer of a rule; the rows that it added. */
 static unsigned made_rule(tup_addition addition, outputs *out) {
+    out->refusal = addition.refusal;
     out->place = addition.place;
+    out->board = addition.board;
     return addition.added;
 }
 
@@ -73,27 +102,44 @@ static unsigned made_reading(tup_reading reading, outputs *out) {
     return reading.added;
 }
 
+/* Notes the refusal of a writing; the bytes that it wrote. */
+static unsigned made_writing(tup_writing writing, outputs *out) {
+    out->refusal = writing.refusal;
+    return (unsigned)writing.bytes;
+}
+
 /* Makes one call on one side. */
 static unsigned make(const side *with, unsigned call, outputs *out, int16_t *table) {
     switch (call) {
+    case OPEN: return made_change(with->open(now.board.symbols), out);
     case SETTLE:
-        return with->settle(now.board, table, NUMBERS, out->labels, sizeof out->labels, out->ranks, TUP_PLACES, out->supports, TUP_PLACES);
-    case ASK: return with->ask(now.board, table, NUMBERS, now.literal).standing;
+        return with->settle(now.board, table, NUMBERS, FURNACE, out->labels, sizeof out->labels, out->ranks, TUP_PLACES, out->supports, TUP_PLACES);
+    case ASK: return made_answer(with->ask(now.board, table, NUMBERS, FURNACE, now.literal), out);
+    case EXPLAIN: return made_reason(with->explain(now.board, table, NUMBERS, FURNACE, now.literal), out);
+    case GROUND: return with->ground(now.board, table, NUMBERS, FURNACE, now.literal, out->marks, sizeof out->marks);
+    case BLAME: return with->blame(now.board, table, NUMBERS, FURNACE, out->marks, sizeof out->marks);
+    case HOLD: return made_change(with->hold(now.board, table, NUMBERS, FURNACE, now.literal), out);
+    case WITHDRAW: return made_change(with->withdraw(now.board, table, NUMBERS, FURNACE, now.premise), out);
     case RULE: return made_rule(with->rule(now.board, table, NUMBERS, now.formula, now.bytes), out);
     case READ: return made_reading(with->read(now.board, table, NUMBERS, now.text, now.text_bytes), out);
-    case WRITE: return (unsigned)with->write(now.board, table, NUMBERS, out->text, sizeof out->text).bytes;
-    default: return with->ground(now.board, table, NUMBERS, now.literal, out->marks, sizeof out->marks);
+    default: return made_writing(with->write(now.board, table, NUMBERS, out->text, sizeof out->text), out);
     }
 }
 
 /* True if the side has the call. */
 static bool has(const side *with, unsigned call) {
     switch (call) {
-    case SETTLE: return true;
+    case OPEN: return with->open != NULL;
+    case SETTLE: return with->settle != NULL;
+    case ASK: return with->ask != NULL;
+    case EXPLAIN: return with->explain != NULL;
+    case GROUND: return with->ground != NULL;
+    case BLAME: return with->blame != NULL;
+    case HOLD: return with->hold != NULL;
+    case WITHDRAW: return with->withdraw != NULL;
     case RULE: return with->rule != NULL;
     case READ: return with->read != NULL;
-    case WRITE: return with->write != NULL;
-    default: return with->ask != NULL;
+    default: return with->write != NULL;
     }
 }
 
@@ -164,11 +210,21 @@ static void print_call(const char *board, unsigned call) {
     if (has(&sides[INDEXED], call)) note_ratio(board, call, best[LIBRARY] / best[INDEXED]);
 }
 
-/* Measures settle, ask and ground on the setting, which stays as it is. */
-static void print_readers(const char *board) {
-    print_call(board, SETTLE);
-    print_call(board, ASK);
-    print_call(board, GROUND);
+/* Measures the calls that name a furnace on the setting, which stays as it is; blame with a conflict. */
+static void print_named(const char *board) {
+    tup_board before = now.board;
+    for (unsigned call = SETTLE; call <= WITHDRAW; call++)
+        if (call != BLAME) print_call(board, call);
+    in_conflict();
+    print_call(board, BLAME);
+    now.board = before;
+}
+
+/* Measures what can be done on a board without rows and premises. */
+static void print_empty(void) {
+    static const unsigned calls[] = {OPEN, SETTLE, ASK, HOLD, RULE};
+    empty_board();
+    for (unsigned i = 0; i < sizeof calls / sizeof calls[0]; i++) print_call("empty, 200 symbols", calls[i]);
 }
 
 /* The table of calls. */
@@ -176,14 +232,15 @@ static void print_calls(void) {
     printf("%-28s%-8s%14s", "ns per call", "call", side_words[LIBRARY]);
     for (unsigned s = PLAIN; s < SIDES; s++) printf("%14s%9s", side_words[s], "ratio");
     printf("\n");
-    full_board(false), print_readers("full, 2,048 rows of 2 to 4");
+    full_board(false), print_named("full, 2,048 rows of 2 to 4");
     full_board(true), print_call("full but for one row", RULE);
-    chain(200), print_readers("chain of 200"), print_call("chain of 200", RULE);
-    long_rows(false), print_readers("2,048 rows of 8");
+    chain(200), print_named("chain of 200"), print_call("chain of 200", RULE);
+    long_rows(false), print_named("2,048 rows of 8");
     long_rows(true), print_call("2,047 rows of 8", RULE);
-    typical(), print_readers("typical, 150 rows");
+    typical(), print_named("typical, 150 rows");
+    chain(8), print_named("chain of 8"), print_call("chain of 8", RULE);
     parity_rule(), print_call("parity of 8 symbols", RULE);
-    empty_board(), print_readers("empty, 200 symbols"), print_call("empty, 200 symbols", RULE);
+    print_empty();
     full_board(false), print_call("full, 2,048 rows of 2 to 4", WRITE), as_text(), print_call("text of 2,048 of 2 to 4", READ);
     long_rows(false), print_call("2,048 rows of 8", WRITE), as_text(), print_call("text of 2,048 of 8", READ);
 }

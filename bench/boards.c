@@ -23,7 +23,7 @@ static unsigned draw(unsigned limit) {
 static void start(unsigned symbols) {
     memset(&now, 0, sizeof now);
     now.board.symbols = (uint16_t)symbols;
-    now.literal = 1;
+    now.literal = now.premise = 1;
     now.formula = implication;
     now.bytes = sizeof implication;
     state = 1;
@@ -47,16 +47,27 @@ static void add_link(unsigned i) {
     row[1] = (int16_t)(i + 1);
 }
 
-/* Aims ask and ground at the derived literal of the highest rank. */
+/* The literal at a place. */
+static int16_t literal_at(unsigned p) {
+    return (int16_t)(p % 2 == 0 ? (int)(p / 2) + 1 : -(int)(p / 2) - 1);
+}
+
+/* Holds the literal at a place. */
+static void hold(unsigned p) {
+    now.board.held[FURNACE - 1][p] = 1;
+    now.premise = literal_at(p);
+}
+
+/* Aims the calls for one literal at the derived literal of the highest rank. */
 static void aim_high(void) {
     uint8_t labels[TUP_MOST_SYMBOLS];
     uint16_t ranks[TUP_PLACES], supports[TUP_PLACES];
     unsigned best = 0;
-    plain_settle(now.board, now.table, NUMBERS, labels, TUP_MOST_SYMBOLS, ranks, TUP_PLACES, supports, TUP_PLACES);
+    plain_settle(now.board, now.table, NUMBERS, FURNACE, labels, TUP_MOST_SYMBOLS, ranks, TUP_PLACES, supports, TUP_PLACES);
     for (unsigned p = 0; p < 2u * now.board.symbols; p++) {
         if (ranks[p] == TUP_NONE || ranks[p] < best) continue;
         best = ranks[p];
-        now.literal = (int16_t)(p % 2 == 0 ? (int)(p / 2) + 1 : -(int)(p / 2) - 1);
+        now.literal = literal_at(p);
     }
 }
 
@@ -64,7 +75,7 @@ static void aim_high(void) {
 void full_board(bool for_rule) {
     start(200);
     for (unsigned r = 0; r < TUP_MOST_ROWS - (for_rule ? 1u : 0u); r++) add_random_row(1, 2 + draw(3));
-    for (unsigned s = 1; s <= 4; s++) now.board.held[2 * (40 * s - 1)] = 1;
+    for (unsigned s = 1; s <= 4; s++) hold(2 * (40 * s - 1));
     aim_high();
 }
 
@@ -72,7 +83,7 @@ void full_board(bool for_rule) {
 void chain(unsigned symbols) {
     start(symbols);
     for (unsigned i = 1; i < symbols; i++) add_link(i);
-    now.board.held[0] = 1;
+    hold(0);
     aim_high();
 }
 
@@ -80,7 +91,7 @@ void chain(unsigned symbols) {
 void long_rows(bool for_rule) {
     start(200);
     for (unsigned r = 0; r < TUP_MOST_ROWS - (for_rule ? 1u : 0u); r++) add_random_row(1, 8);
-    for (unsigned s = 0; s < 200; s += 2) now.board.held[2 * s] = 1;
+    for (unsigned s = 0; s < 200; s += 2) hold(2 * s);
     aim_high();
 }
 
@@ -89,20 +100,27 @@ void many_rows(unsigned rows) {
     start(200);
     while (now.board.rows + 8u < rows) add_random_row(20, 3);
     for (unsigned i = 1; i <= 8; i++) add_link(i);
-    now.board.held[0] = 1;
+    hold(0);
 }
 
-/* 150 rows of 2 to 4 literals over 45 symbols, the first four held: a board of the usual size, on which rules fire. */
+/* 150 rows of 2 to 4 literals over 45 symbols, the first four held, and as many for each further furnace: a board of the usual size, on which
+ * rules fire. */
 void typical(void) {
     start(45);
     while (now.board.rows < 150) add_random_row(1, 2 + draw(3));
-    for (unsigned s = 1; s <= 4; s++) now.board.held[2 * (s - 1)] = 1;
+    for (unsigned s = 1; s <= 4; s++) hold(2 * (s - 1));
+    for (unsigned s = 5; s <= 4 * TUP_FURNACES; s++) now.board.held[(s - 1) / 4][2 * (s - 1)] = 1;
     aim_high();
 }
 
 /* An empty board of 200 symbols. */
 void empty_board(void) {
     start(200);
+}
+
+/* Holds the opposite of the literal aimed at as well: a conflict, where that one is derived. */
+void in_conflict(void) {
+    now.board.held[FURNACE - 1][place(opposite(now.literal))] = 1;
 }
 
 /* An empty board and the parity of eight symbols. */

@@ -10,13 +10,13 @@
 extern "C" {
 #endif
 
-enum { NUMBERS = TUP_MOST_ROWS * TUP_ROW_WIDTH };
+enum { NUMBERS = TUP_MOST_ROWS * TUP_ROW_WIDTH, FURNACE = 1 };
 
-/* What a call is given: a board, its table, a literal, a formula, a text. */
+/* What a call is given: a board, its table, a literal to ask of, one to withdraw, which FURNACE holds on all boards with rows, a formula, a text. */
 typedef struct setting {
     tup_board board;
     int16_t table[NUMBERS];
-    int16_t literal;
+    int16_t literal, premise;
     const uint8_t *formula;
     size_t bytes;
     uint8_t text[TUP_MOST_TEXT];
@@ -31,6 +31,7 @@ void long_rows(bool for_rule);
 void typical(void);
 void many_rows(unsigned rows);
 void empty_board(void);
+void in_conflict(void);
 void parity_rule(void);
 void as_text(void);
 void text_of(unsigned rows);

@@ -128,7 +128,7 @@ static tup_reading refused(uint8_t refusal, size_t clauses, const tup_board *boa
 static tup_reading done(tup_board board, int clauses, size_t rows) {
     tup_reading reading = {.refusal = 0, .clauses = (uint16_t)clauses, .added = (uint16_t)(rows - board.rows), .board = board};
     reading.board.rows = (uint16_t)rows;
-    for (size_t p = 0; p < TUP_PLACES; p++) reading.board.held[p] = board.held[p] != 0;
+    plain_tidy(&reading.board);
     return reading;
 }
 

@@ -28,12 +28,11 @@ static inline void give(work *w, uint16_t *ranks, unsigned p, unsigned k) {
 }
 
 /* Gives rank 0 to the premises. */
-static void rank_premises(work *w, const tup_board *board, uint16_t *ranks) {
-    unsigned places = 2u * board->symbols;
+static void rank_premises(work *w, const uint8_t *held, unsigned places, uint16_t *ranks) {
     w->count = 0;
     memset(ranks, 0xFF, places * sizeof ranks[0]);
     for (unsigned p = 0; p < places; p++)
-        if (board->held[p] != 0) give(w, ranks, p, 0);
+        if (held[p] != 0) give(w, ranks, p, 0);
 }
 
 /* Makes the lists and the counts; a row of one literal gives it rank 1. */
@@ -90,8 +89,8 @@ static inline void rule_out_summing(work *w, const int16_t *table, unsigned p, u
 }
 
 /* Ranks by rounds: round k takes the places of rank k - 1 from the queue, and gives rank k. */
-static void rank_all(work *w, const tup_board *board, const int16_t *table, uint16_t *ranks, bool summing) {
-    rank_premises(w, board, ranks);
+static void rank_all(work *w, const tup_board *board, const uint8_t *held, const int16_t *table, uint16_t *ranks, bool summing) {
+    rank_premises(w, held, 2u * board->symbols, ranks);
     unsigned at = 0, end = w->count;
     index_rows(w, board, table, ranks, summing);
     for (unsigned k = 1; at < w->count; k++, end = w->count)
@@ -115,35 +114,37 @@ static uint16_t support(const work *w, const int16_t *table, const uint16_t *ran
 }
 
 /* Settles a board that was tested. */
-static inline void settle(const tup_board *board, const int16_t *table, uint8_t *labels, uint16_t *ranks, uint16_t *supports, bool summing) {
+static inline void settle(const tup_board *board, const uint8_t *held, const int16_t *table, uint8_t *labels, uint16_t *ranks, uint16_t *supports,
+                          bool summing) {
     work w;
-    rank_all(&w, board, table, ranks, summing);
+    rank_all(&w, board, held, table, ranks, summing);
     plain_label_all(board, ranks, labels);
     memset(supports, 0xFF, 2u * board->symbols * sizeof supports[0]);
     for (unsigned i = 0; i < w.count; i++)
         if (ranks[w.queue[i]] != 0) supports[w.queue[i]] = support(&w, table, ranks, w.queue[i]);
 }
 
-uint8_t indexed_settle(tup_board board, const int16_t *table, size_t numbers, uint8_t *labels, size_t label_count,
+uint8_t indexed_settle(tup_board board, const int16_t *table, size_t numbers, uint8_t furnace, uint8_t *labels, size_t label_count,
                        uint16_t *ranks, size_t rank_count, uint16_t *supports, size_t support_count) {
-    uint8_t refusal = plain_settle_tests(&board, table, numbers, label_count, rank_count, support_count);
-    if (refusal == 0) settle(&board, table, labels, ranks, supports, false);
+    uint8_t refusal = plain_settle_tests(&board, table, numbers, furnace, label_count, rank_count, support_count);
+    if (refusal == 0) settle(&board, board.held[furnace - 1], table, labels, ranks, supports, false);
     return refusal;
 }
 
-uint8_t indexed_settle_summing(tup_board board, const int16_t *table, size_t numbers, uint8_t *labels, size_t label_count,
+uint8_t indexed_settle_summing(tup_board board, const int16_t *table, size_t numbers, uint8_t furnace, uint8_t *labels, size_t label_count,
                                uint16_t *ranks, size_t rank_count, uint16_t *supports, size_t support_count) {
-    uint8_t refusal = plain_settle_tests(&board, table, numbers, label_count, rank_count, support_count);
-    if (refusal == 0) settle(&board, table, labels, ranks, supports, true);
+    uint8_t refusal = plain_settle_tests(&board, table, numbers, furnace, label_count, rank_count, support_count);
+    if (refusal == 0) settle(&board, board.held[furnace - 1], table, labels, ranks, supports, true);
     return refusal;
 }
 
-tup_answer indexed_ask(tup_board board, const int16_t *table, size_t numbers, int16_t literal) {
+tup_answer indexed_ask(tup_board board, const int16_t *table, size_t numbers, uint8_t furnace, int16_t literal) {
     work w;
     uint16_t ranks[TUP_PLACES];
-    if (!plain_good(&board, table, numbers)) return (tup_answer){1, TUP_OPEN};
+    uint8_t refusal = plain_tests(&board, table, numbers, furnace);
+    if (refusal != 0) return (tup_answer){refusal, TUP_OPEN};
     if (!plain_fits(literal, &board)) return (tup_answer){2, TUP_OPEN};
-    rank_all(&w, &board, table, ranks, false);
+    rank_all(&w, &board, board.held[furnace - 1], table, ranks, false);
     for (unsigned i = 0; i < w.count; i++)
         if (ranks[w.queue[i] ^ 1u] != NONE) return (tup_answer){0, TUP_CONFLICT};
     if (ranks[place(literal)] != NONE) return (tup_answer){0, TUP_STANDS};
@@ -151,15 +152,17 @@ tup_answer indexed_ask(tup_board board, const int16_t *table, size_t numbers, in
     return (tup_answer){0, TUP_OPEN};
 }
 
-uint8_t indexed_ground(tup_board board, const int16_t *table, size_t numbers, int16_t literal, uint8_t *marks, size_t mark_count) {
+uint8_t indexed_ground(tup_board board, const int16_t *table, size_t numbers, uint8_t furnace, int16_t literal, uint8_t *marks,
+                       size_t mark_count) {
     work w;
     uint16_t ranks[TUP_PLACES], waiting[TUP_PLACES];
     bool seen[TUP_PLACES] = {false};
     unsigned count = 0;
-    if (!plain_good(&board, table, numbers)) return 1;
+    uint8_t refusal = plain_tests(&board, table, numbers, furnace);
+    if (refusal != 0) return refusal;
     if (!plain_fits(literal, &board)) return 2;
     if (mark_count < 2u * board.symbols) return 13;
-    rank_all(&w, &board, table, ranks, false);
+    rank_all(&w, &board, board.held[furnace - 1], table, ranks, false);
     if (ranks[place(literal)] == NONE) return 12;
     memset(marks, 0, 2u * board.symbols);
     seen[waiting[count++] = (uint16_t)place(literal)] = true;

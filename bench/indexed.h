@@ -4,13 +4,14 @@
 
 #include "tupahineka.h"
 
-uint8_t indexed_settle(tup_board board, const int16_t *table, size_t numbers, uint8_t *labels, size_t label_count,
+uint8_t indexed_settle(tup_board board, const int16_t *table, size_t numbers, uint8_t furnace, uint8_t *labels, size_t label_count,
                        uint16_t *ranks, size_t rank_count, uint16_t *supports, size_t support_count);
-tup_answer indexed_ask(tup_board board, const int16_t *table, size_t numbers, int16_t literal);
-uint8_t indexed_ground(tup_board board, const int16_t *table, size_t numbers, int16_t literal, uint8_t *marks, size_t mark_count);
+tup_answer indexed_ask(tup_board board, const int16_t *table, size_t numbers, uint8_t furnace, int16_t literal);
+uint8_t indexed_ground(tup_board board, const int16_t *table, size_t numbers, uint8_t furnace, int16_t literal, uint8_t *marks,
+                       size_t mark_count);
 
 /* Settle once more, with the exclusive or of the places left kept beside the count of each row, so that a row with one literal left is not read. */
-uint8_t indexed_settle_summing(tup_board board, const int16_t *table, size_t numbers, uint8_t *labels, size_t label_count,
+uint8_t indexed_settle_summing(tup_board board, const int16_t *table, size_t numbers, uint8_t furnace, uint8_t *labels, size_t label_count,
                                uint16_t *ranks, size_t rank_count, uint16_t *supports, size_t support_count);
 
 #endif

@@ -44,7 +44,7 @@ public:
     bool hold() {
         newDecisionLevel();
         for (int p = 0; p < 2 * now.board.symbols; p++)
-            if (now.board.held[p] != 0 && !enqueue(literal_at(p))) return false;
+            if (now.board.held[FURNACE - 1][p] != 0 && !enqueue(literal_at(p))) return false;
         return propagate() == Minisat::CRef_Undef;
     }
 
@@ -69,7 +69,7 @@ double clock_ns() {
 /* Propagates once on one side. */
 unsigned make(int side) {
     if (side == LIBRARY)
-        return tup_settle(now.board, now.table, NUMBERS, labels, TUP_MOST_SYMBOLS, ranks, TUP_PLACES, supports, TUP_PLACES);
+        return tup_settle(now.board, now.table, NUMBERS, FURNACE, labels, TUP_MOST_SYMBOLS, ranks, TUP_PLACES, supports, TUP_PLACES);
     if (side == COLD) return Propagator().hold();
     bool held = built->hold();
     built->withdraw();

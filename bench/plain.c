@@ -1,5 +1,5 @@
-/* Settle, ask, rule and ground as a C programmer would write them at once: rounds over the rows, each support by the search
- * that its definition describes, prime implicates by marking all 3^n clauses. The same tests, the same outputs, no proof. */
+/* Open, rule and the calls that name a furnace as a C programmer would write them at once: rounds over the rows, each support by the search that its
+ * definition describes, prime implicates by marking all 3^n clauses. The same tests, the same outputs, no proof. */
 #include "plain.h"
 
 #include <stdlib.h>
@@ -31,16 +31,54 @@ static bool sound(const int16_t *row, int symbols) {
 /* The test behind refusal 1. */
 bool plain_good(const tup_board *board, const int16_t *table, size_t numbers) {
     if (board->symbols < 1 || board->symbols > TUP_MOST_SYMBOLS || board->rows > plain_rows_lent(numbers)) return false;
-    for (size_t p = 2u * board->symbols; p < TUP_PLACES; p++)
-        if (board->held[p] != 0) return false;
+    for (unsigned f = 0; f < TUP_FURNACES; f++)
+        for (size_t p = 2u * board->symbols; p < TUP_PLACES; p++)
+            if (board->held[f][p] != 0) return false;
     for (size_t r = 0; r < board->rows; r++)
         if (!sound(table + WIDTH * r, board->symbols)) return false;
     return true;
 }
 
+/* The tests of a call that names a furnace. */
+uint8_t plain_tests(const tup_board *board, const int16_t *table, size_t numbers, uint8_t furnace) {
+    if (!plain_good(board, table, numbers)) return 1;
+    return furnace < 1 || furnace > TUP_FURNACES ? 16 : 0;
+}
+
 /* True if the number is a literal of the board. */
 bool plain_fits(int literal, const tup_board *board) {
     return literal != 0 && abs(literal) <= board->symbols;
+}
+
+/* Writes the held bytes as 0 and 1. */
+void plain_tidy(tup_board *board) {
+    for (unsigned f = 0; f < TUP_FURNACES; f++)
+        for (size_t p = 0; p < TUP_PLACES; p++) board->held[f][p] = board->held[f][p] != 0;
+}
+
+tup_change plain_open(uint16_t symbols) {
+    bool good = symbols >= 1 && symbols <= TUP_MOST_SYMBOLS;
+    return (tup_change){.refusal = good ? 0 : 2, .board = {.symbols = good ? symbols : 0}};
+}
+
+/* Puts the literal into the furnace's premises, or takes it out: refused with the number given where it is so already. */
+static tup_change change(tup_board board, const int16_t *table, size_t numbers, uint8_t furnace, int16_t literal, bool hold, uint8_t already) {
+    uint8_t refusal = plain_tests(&board, table, numbers, furnace);
+    if (refusal == 0 && !plain_fits(literal, &board)) refusal = 2;
+    if (refusal == 0 && (board.held[furnace - 1][place(literal)] != 0) == hold) refusal = already;
+    if (refusal == 0) {
+        plain_tidy(&board);
+        board.held[furnace - 1][place(literal)] = hold;
+    }
+    return (tup_change){.refusal = refusal, .board = board};
+}
+
+tup_change plain_hold(tup_board board, const int16_t *table, size_t numbers, uint8_t furnace, int16_t literal) {
+    return change(board, table, numbers, furnace, literal, true, 10);
+}
+
+tup_change plain_withdraw(tup_board board, const int16_t *table, size_t numbers, uint8_t furnace, int16_t literal) {
+    return change(board, table, numbers, furnace, literal, false, 11);
 }
 
 /* ---- Rounds ---- */
@@ -68,9 +106,9 @@ static bool fire(const int16_t *row, unsigned k, uint16_t *ranks) {
 }
 
 /* Ranks by rounds over the rows until one adds nothing. */
-static void rank_all(const tup_board *board, const int16_t *table, uint16_t *ranks) {
+static void rank_all(const tup_board *board, const uint8_t *held, const int16_t *table, uint16_t *ranks) {
     bool any = true;
-    for (unsigned p = 0; p < 2u * board->symbols; p++) ranks[p] = board->held[p] ? 0 : NONE;
+    for (unsigned p = 0; p < 2u * board->symbols; p++) ranks[p] = held[p] ? 0 : NONE;
     for (unsigned k = 1; any; k++) {
         any = false;
         for (size_t r = 0; r < board->rows; r++) any |= fire(table + WIDTH * r, k, ranks);
@@ -107,60 +145,119 @@ void plain_label_all(const tup_board *board, const uint16_t *ranks, uint8_t *lab
 }
 
 /* Tests of settle. */
-uint8_t plain_settle_tests(const tup_board *board, const int16_t *table, size_t numbers, size_t labels, size_t ranks, size_t supports) {
-    if (!plain_good(board, table, numbers)) return 1;
+uint8_t plain_settle_tests(const tup_board *board, const int16_t *table, size_t numbers, uint8_t furnace, size_t labels, size_t ranks,
+                           size_t supports) {
+    uint8_t refusal = plain_tests(board, table, numbers, furnace);
+    if (refusal != 0) return refusal;
     size_t s = board->symbols;
     return labels < s || ranks < 2 * s || supports < 2 * s ? 13 : 0;
 }
 
-uint8_t plain_settle(tup_board board, const int16_t *table, size_t numbers, uint8_t *labels, size_t label_count,
+uint8_t plain_settle(tup_board board, const int16_t *table, size_t numbers, uint8_t furnace, uint8_t *labels, size_t label_count,
                      uint16_t *ranks, size_t rank_count, uint16_t *supports, size_t support_count) {
-    uint8_t refusal = plain_settle_tests(&board, table, numbers, label_count, rank_count, support_count);
+    uint8_t refusal = plain_settle_tests(&board, table, numbers, furnace, label_count, rank_count, support_count);
     if (refusal != 0) return refusal;
-    rank_all(&board, table, ranks);
+    rank_all(&board, board.held[furnace - 1], table, ranks);
     plain_label_all(&board, ranks, labels);
     for (unsigned p = 0; p < 2u * board.symbols; p++)
         supports[p] = ranks[p] == NONE || ranks[p] == 0 ? NONE : support(&board, table, ranks, p);
     return 0;
 }
 
-tup_answer plain_ask(tup_board board, const int16_t *table, size_t numbers, int16_t literal) {
+tup_answer plain_ask(tup_board board, const int16_t *table, size_t numbers, uint8_t furnace, int16_t literal) {
     uint16_t ranks[TUP_PLACES];
-    if (!plain_good(&board, table, numbers)) return (tup_answer){1, TUP_OPEN};
+    uint8_t refusal = plain_tests(&board, table, numbers, furnace);
+    if (refusal != 0) return (tup_answer){refusal, TUP_OPEN};
     if (!plain_fits(literal, &board)) return (tup_answer){2, TUP_OPEN};
-    rank_all(&board, table, ranks);
+    rank_all(&board, board.held[furnace - 1], table, ranks);
     if (conflict(&board, ranks)) return (tup_answer){0, TUP_CONFLICT};
     if (ranks[place(literal)] != NONE) return (tup_answer){0, TUP_STANDS};
     if (ranks[place(opposite(literal))] != NONE) return (tup_answer){0, TUP_RULED_OUT};
     return (tup_answer){0, TUP_OPEN};
 }
 
-uint8_t plain_ground(tup_board board, const int16_t *table, size_t numbers, int16_t literal, uint8_t *marks, size_t mark_count) {
-    uint16_t ranks[TUP_PLACES], waiting[TUP_PLACES];
-    bool seen[TUP_PLACES] = {false};
-    unsigned count = 0;
-    if (!plain_good(&board, table, numbers)) return 1;
-    if (!plain_fits(literal, &board)) return 2;
-    if (mark_count < 2u * board.symbols) return 13;
-    rank_all(&board, table, ranks);
-    if (ranks[place(literal)] == NONE) return 12;
-    memset(marks, 0, 2u * board.symbols);
-    seen[waiting[count++] = (uint16_t)place(literal)] = true;
-    while (count > 0) {
-        unsigned p = waiting[--count];
+/* An explain that is refused. */
+static tup_reason no_reason(uint8_t refusal) {
+    return (tup_reason){.refusal = refusal, .literals = 0, .rank = NONE, .row = NONE};
+}
+
+tup_reason plain_explain(tup_board board, const int16_t *table, size_t numbers, uint8_t furnace, int16_t literal) {
+    uint16_t ranks[TUP_PLACES];
+    uint8_t refusal = plain_tests(&board, table, numbers, furnace), count = 0;
+    if (refusal != 0) return no_reason(refusal);
+    if (!plain_fits(literal, &board)) return no_reason(2);
+    rank_all(&board, board.held[furnace - 1], table, ranks);
+    unsigned p = place(literal);
+    if (ranks[p] == NONE || ranks[p] == 0) return no_reason(12);
+    uint16_t row = support(&board, table, ranks, p);
+    while (count < WIDTH && table[WIDTH * row + count] != 0) count++;
+    return (tup_reason){.refusal = 0, .literals = count, .rank = ranks[p], .row = row};
+}
+
+/* ---- Grounds ---- */
+
+/* Literals whose grounds are wanted. */
+typedef struct search {
+    unsigned count;
+    uint16_t waiting[TUP_PLACES];
+    bool seen[TUP_PLACES];
+} search;
+
+/* Adds a place that was not seen yet. */
+static inline void want(search *s, unsigned p) {
+    if (s->seen[p]) return;
+    s->seen[p] = true;
+    s->waiting[s->count++] = (uint16_t)p;
+}
+
+/* Marks the premises that the literals wanted reach. */
+static void mark_grounds(search *s, const tup_board *board, const int16_t *table, const uint16_t *ranks, uint8_t *marks) {
+    memset(marks, 0, 2u * board->symbols);
+    while (s->count > 0) {
+        unsigned p = s->waiting[--s->count];
         if (ranks[p] == 0) {
             marks[p] = 1;
             continue;
         }
-        const int16_t *row = table + WIDTH * support(&board, table, ranks, p);
-        for (int i = 0; i < WIDTH && row[i] != 0; i++) {
-            if (place(row[i]) == p) continue;
-            unsigned q = place(opposite(row[i]));
-            if (seen[q]) continue;
-            seen[q] = true;
-            waiting[count++] = (uint16_t)q;
-        }
+        const int16_t *row = table + WIDTH * support(board, table, ranks, p);
+        for (int i = 0; i < WIDTH && row[i] != 0; i++)
+            if (place(row[i]) != p) want(s, place(opposite(row[i])));
     }
+}
+
+uint8_t plain_ground(tup_board board, const int16_t *table, size_t numbers, uint8_t furnace, int16_t literal, uint8_t *marks,
+                     size_t mark_count) {
+    uint16_t ranks[TUP_PLACES];
+    search s = {.count = 0};
+    uint8_t refusal = plain_tests(&board, table, numbers, furnace);
+    if (refusal != 0) return refusal;
+    if (!plain_fits(literal, &board)) return 2;
+    if (mark_count < 2u * board.symbols) return 13;
+    rank_all(&board, board.held[furnace - 1], table, ranks);
+    if (ranks[place(literal)] == NONE) return 12;
+    want(&s, place(literal));
+    mark_grounds(&s, &board, table, ranks, marks);
+    return 0;
+}
+
+uint8_t plain_blame(tup_board board, const int16_t *table, size_t numbers, uint8_t furnace, uint8_t *marks, size_t mark_count) {
+    uint16_t ranks[TUP_PLACES], least = NONE;
+    unsigned first = 0;
+    search s = {.count = 0};
+    uint8_t refusal = plain_tests(&board, table, numbers, furnace);
+    if (refusal != 0) return refusal;
+    if (mark_count < 2u * board.symbols) return 13;
+    rank_all(&board, board.held[furnace - 1], table, ranks);
+    for (unsigned p = 0; p < 2u * board.symbols; p += 2) {
+        uint16_t larger = ranks[p] > ranks[p + 1] ? ranks[p] : ranks[p + 1]; /* NONE is above every rank */
+        if (larger >= least) continue;
+        least = larger;
+        first = p;
+    }
+    if (least == NONE) return 12;
+    want(&s, first);
+    want(&s, first + 1);
+    mark_grounds(&s, &board, table, ranks, marks);
     return 0;
 }
 
@@ -300,5 +397,6 @@ tup_addition plain_rule(tup_board board, int16_t *table, size_t numbers, const u
     if (board.rows + count > plain_rows_lent(numbers)) return refused(9, TUP_NO_PLACE, &board);
     if (count != 0) memcpy(table + WIDTH * board.rows, out, count * sizeof out[0]);
     board.rows = (uint16_t)(board.rows + count);
+    plain_tidy(&board);
     return (tup_addition){.refusal = 0, .place = TUP_NO_PLACE, .added = (uint16_t)count, .board = board};
 }

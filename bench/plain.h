@@ -1,4 +1,4 @@
-/* The measure's other side: settle, ask, rule, ground, and DIMACS text in and out, by hand in plain C, with the contract of tupahineka.h. */
+/* The measure's other side: all calls but those for formula text, by hand in plain C, with the contract of tupahineka.h. */
 #ifndef PLAIN_H
 #define PLAIN_H
 
@@ -16,20 +16,31 @@ static inline int16_t opposite(int16_t literal) {
     return (int16_t)-literal;
 }
 
-/* Rows lent, and the test behind refusal 1; that of settle's tables too; and that of a literal. */
+/* Rows lent, and the test behind refusal 1; with that of the furnace; with those of settle's tables too; and that of a literal. */
 size_t plain_rows_lent(size_t numbers);
 bool plain_good(const tup_board *board, const int16_t *table, size_t numbers);
-uint8_t plain_settle_tests(const tup_board *board, const int16_t *table, size_t numbers, size_t labels, size_t ranks, size_t supports);
+uint8_t plain_tests(const tup_board *board, const int16_t *table, size_t numbers, uint8_t furnace);
+uint8_t plain_settle_tests(const tup_board *board, const int16_t *table, size_t numbers, uint8_t furnace, size_t labels, size_t ranks,
+                           size_t supports);
 bool plain_fits(int literal, const tup_board *board);
+
+/* Writes the held bytes as 0 and 1, as a call that hands a board back. */
+void plain_tidy(tup_board *board);
 
 /* Writes the labels from the ranks. */
 void plain_label_all(const tup_board *board, const uint16_t *ranks, uint8_t *labels);
 
+tup_change plain_open(uint16_t symbols);
 tup_addition plain_rule(tup_board board, int16_t *table, size_t numbers, const uint8_t *formula, size_t bytes);
-uint8_t plain_settle(tup_board board, const int16_t *table, size_t numbers, uint8_t *labels, size_t label_count,
+tup_change plain_hold(tup_board board, const int16_t *table, size_t numbers, uint8_t furnace, int16_t literal);
+tup_change plain_withdraw(tup_board board, const int16_t *table, size_t numbers, uint8_t furnace, int16_t literal);
+uint8_t plain_settle(tup_board board, const int16_t *table, size_t numbers, uint8_t furnace, uint8_t *labels, size_t label_count,
                      uint16_t *ranks, size_t rank_count, uint16_t *supports, size_t support_count);
-tup_answer plain_ask(tup_board board, const int16_t *table, size_t numbers, int16_t literal);
-uint8_t plain_ground(tup_board board, const int16_t *table, size_t numbers, int16_t literal, uint8_t *marks, size_t mark_count);
+tup_answer plain_ask(tup_board board, const int16_t *table, size_t numbers, uint8_t furnace, int16_t literal);
+tup_reason plain_explain(tup_board board, const int16_t *table, size_t numbers, uint8_t furnace, int16_t literal);
+uint8_t plain_ground(tup_board board, const int16_t *table, size_t numbers, uint8_t furnace, int16_t literal, uint8_t *marks,
+                     size_t mark_count);
+uint8_t plain_blame(tup_board board, const int16_t *table, size_t numbers, uint8_t furnace, uint8_t *marks, size_t mark_count);
 
 tup_reading plain_read_dimacs(tup_board board, int16_t *table, size_t numbers, const uint8_t *text, size_t bytes);
 tup_writing plain_write_dimacs(tup_board board, const int16_t *table, size_t numbers, uint8_t *text, size_t bytes);

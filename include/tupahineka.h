@@ -1,6 +1,10 @@
 /* Tupahineka: a proved truth-maintenance board behind a trend screen. The nine calls of document 01 for C and C++, with the places of
- * document 02's first ticket, the two calls for DIMACS text of its second, blame as its fourth has it, and the three calls for formulae in plain
- * text of its fifth.
+ * document 02's first ticket, the two calls for DIMACS text of its second, blame as its fourth has it, the three calls for formulae in plain text
+ * of its fifth, and the two furnaces of its sixth.
+ *
+ * Two furnaces run the same rules: a board has one S and one table of rows, and for each furnace a set of premises of its own. A call that changes
+ * premises, or answers by them, names its furnace, 1 or 2, right after the table and its count. What is held and withdrawn for one furnace changes
+ * no answer for the other, and none of a call that names no furnace.
  *
  * Link with libpanel.a (`make lib`). Every call ends, takes any numbers, and tests its own input. A call that is refused
  * returns one of the numbers below, hands the board back as it was given (a refused tup_open: S = 0, no rows, no premises)
@@ -24,6 +28,7 @@ extern "C" {
 enum {
     TUP_MOST_SYMBOLS = 200,    /* S is from 1 to this */
     TUP_PLACES = 400,          /* two for each symbol */
+    TUP_FURNACES = 2,          /* furnaces are numbered from 1 */
     TUP_ROW_WIDTH = 8,         /* numbers in a row of the clause table */
     TUP_MOST_ROWS = 2048,      /* rows used of a longer table */
     TUP_NONE = 65535,          /* no rank, no support, no row */
@@ -38,7 +43,7 @@ enum {
 /* Numbers of the refusals; 0 is a call that is done. */
 enum {
     TUP_DONE = 0,
-    TUP_BAD_BOARD = 1,        /* S outside 1 to 200, rows in use exceed rows lent, a row in use not sound, a premise beyond S */
+    TUP_BAD_BOARD = 1,        /* S outside 1 to 200, rows in use exceed rows lent, a row in use not sound, a premise of either furnace beyond S */
     TUP_BAD_LITERAL = 2,      /* a literal or symbol is 0 or beyond S; at open, the count is outside 1 to 200 */
     TUP_CUT_SHORT = 3,        /* the formula's bytes end where a kind or body is due */
     TUP_UNKNOWN_KIND = 4,     /* the byte where a kind is due is none */
@@ -52,20 +57,21 @@ enum {
     TUP_NOTHING_TO_SHOW = 12, /* explain: not derived, or held; ground: not derived; blame: no conflict */
     TUP_TABLE_TOO_SHORT = 13, /* a table to be written is shorter than stated */
     TUP_RANK_TOO_HIGH = 14,   /* never given: proved */
-    TUP_BAD_TEXT = 15         /* DIMACS text that breaks the form, has not the header's number of clauses, or a literal beyond its variables;
+    TUP_BAD_TEXT = 15,        /* DIMACS text that breaks the form, has not the header's number of clauses, or a literal beyond its variables;
                                * formula text that breaks its form, or opens a seventeenth bracket */
+    TUP_BAD_FURNACE = 16      /* a furnace number other than 1 or 2 */
 };
 
 /* How a literal stands. */
 enum { TUP_OPEN = 0, TUP_STANDS = 1, TUP_RULED_OUT = 2, TUP_CONFLICT = 3 };
 
-/* A board: S, the rows of the clause table in use, and for each place a byte, 0 where the literal is not held. Any bytes are taken.
- * A call that is done and hands a board back writes its held bytes as 0 and 1, whatever bytes other than 0 it was given; a refused
- * call hands back the very bytes that it was given. */
+/* A board: S, the rows of the clause table in use, and for each furnace and each place a byte, 0 where the furnace does not hold the literal. Any
+ * bytes are taken. A call that is done and hands a board back writes its held bytes, of both furnaces, as 0 and 1, whatever bytes other than 0 it
+ * was given; a refused call hands back the very bytes that it was given. */
 typedef struct tup_board {
     uint16_t symbols;
     uint16_t rows;
-    uint8_t held[TUP_PLACES];
+    uint8_t held[TUP_FURNACES][TUP_PLACES]; /* the premises of furnace f are held[f - 1] */
 } tup_board;
 
 typedef struct tup_change {
@@ -119,7 +125,7 @@ typedef struct tup_reason {
     uint16_t row;     /* TUP_NONE, 65535, where refused */
 } tup_reason;
 
-/* Opens a board of S symbols with no rows in use and no premises. Refused: 2. */
+/* Opens a board of S symbols with no rows in use and no premises of either furnace. Refused: 2. */
 tup_change tup_open(uint16_t symbols);
 
 /* Adds a rule, given in formula bytes: appends all its prime implicates, and no other row, to the table. Refused: 1, 2 to 6 (each with
@@ -155,30 +161,33 @@ tup_addition tup_rule_text(tup_board board, int16_t *table, size_t numbers, cons
 tup_spelling tup_write_text(tup_board board, const int16_t *table, size_t numbers, const uint8_t *formula, size_t bytes,
                             uint8_t *text, size_t room);
 
-/* Puts a literal into the premises. Refused: 1, 2, 10. */
-tup_change tup_hold(tup_board board, const int16_t *table, size_t numbers, int16_t literal);
+/* The calls below name a furnace: the first two change its premises, the others tell what these and the rules derive. */
 
-/* Takes a literal out of the premises. Refused: 1, 2, 11. */
-tup_change tup_withdraw(tup_board board, const int16_t *table, size_t numbers, int16_t literal);
+/* Puts a literal into the furnace's premises. Refused: 1, 16, 2, 10. */
+tup_change tup_hold(tup_board board, const int16_t *table, size_t numbers, uint8_t furnace, int16_t literal);
 
-/* Writes S labels (0 neither literal derived, 1 only +s, 2 only -s, 3 both), 2S ranks and 2S supports. Refused: 1, 13, 14. */
-uint8_t tup_settle(tup_board board, const int16_t *table, size_t numbers, uint8_t *labels, size_t label_count,
+/* Takes a literal out of the furnace's premises. Refused: 1, 16, 2, 11. */
+tup_change tup_withdraw(tup_board board, const int16_t *table, size_t numbers, uint8_t furnace, int16_t literal);
+
+/* Writes S labels (0 neither literal derived, 1 only +s, 2 only -s, 3 both), 2S ranks and 2S supports. Refused: 1, 16, 13, 14. */
+uint8_t tup_settle(tup_board board, const int16_t *table, size_t numbers, uint8_t furnace, uint8_t *labels, size_t label_count,
                    uint16_t *ranks, size_t rank_count, uint16_t *supports, size_t support_count);
 
-/* How a literal stands. Refused: 1, 2, 14. */
-tup_answer tup_ask(tup_board board, const int16_t *table, size_t numbers, int16_t literal);
+/* How a literal stands. Refused: 1, 16, 2, 14. */
+tup_answer tup_ask(tup_board board, const int16_t *table, size_t numbers, uint8_t furnace, int16_t literal);
 
-/* Why a derived literal that is not held stands: its rank and its supporting row. Refused: 1, 2, 14, 12. */
-tup_reason tup_explain(tup_board board, const int16_t *table, size_t numbers, int16_t literal);
+/* Why a derived literal that is not held stands: its rank and its supporting row. Refused: 1, 16, 2, 14, 12. */
+tup_reason tup_explain(tup_board board, const int16_t *table, size_t numbers, uint8_t furnace, int16_t literal);
 
-/* Writes 2S bytes, 1 for each premise that the literal stands on, else 0. Refused: 1, 2, 13, 14, 12. */
-uint8_t tup_ground(tup_board board, const int16_t *table, size_t numbers, int16_t literal, uint8_t *marks, size_t mark_count);
+/* Writes 2S bytes, 1 for each premise that the literal stands on, else 0. Refused: 1, 16, 2, 13, 14, 12. */
+uint8_t tup_ground(tup_board board, const int16_t *table, size_t numbers, uint8_t furnace, int16_t literal,
+                   uint8_t *marks, size_t mark_count);
 
 /* Writes 2S bytes, 1 for each premise that a conflict stands on, else 0: those reached by +s or -s, where of all symbols with label 3 s is the one
  * whose larger rank of its two literals is smallest, and of equals the lowest. The premises marked are in conflict by themselves: whatever else is
- * held, withdrawn or added, the board stays in conflict until one of them is withdrawn or it is opened anew. Where nothing is marked, the rules
- * alone are in conflict. Refused: 1, 13, 14, 12. */
-uint8_t tup_blame(tup_board board, const int16_t *table, size_t numbers, uint8_t *marks, size_t mark_count);
+ * held, withdrawn or added, the furnace stays in conflict until one of them is withdrawn for it or the board is opened anew. Where nothing is
+ * marked, the rules alone are in conflict. Refused: 1, 16, 13, 14, 12. */
+uint8_t tup_blame(tup_board board, const int16_t *table, size_t numbers, uint8_t furnace, uint8_t *marks, size_t mark_count);
 
 #ifdef __cplusplus
 }

@@ -3,6 +3,7 @@
 #include <string.h>
 
 #include "spelttrials.h"
+#include "tries.h"
 
 /* A rule to try: its text, the refusal, and the rows. */
 typedef struct Try {
@@ -39,10 +40,9 @@ static bool add(Play *play, const char *text, size_t numbers, unsigned refusal) 
     return spelt_text_rule(play, (const uint8_t *)text, strlen(text), strlen(text), numbers, false) && spelt_gave(play, refusal, NO_PLACE, 0);
 }
 
-/* Plays a call with the whole table. */
+/* Plays a call for furnace 1 that has to be done. */
 static bool make(Play *play, Kind kind, int literal) {
-    Step step = {.kind = kind, .value = literal, .numbers = TABLE_LENDABLE};
-    return play_step(play, &step) && play->last.refusal == 0;
+    return try_call(play, kind, 1, literal, 0);
 }
 
 /* Tries one rule: its rows, then just the rows it needs, then one number less. */

@@ -28,9 +28,9 @@ static void force_by_rule(const Rule *rule, const bool forced[PLACES], bool next
 }
 
 /* Closes the premises under all rules, round by round. */
-void force_by_rules(const Rule *rules, size_t count, const bool held[PLACES], bool forced[PLACES]) {
+void force_by_rules(const Rule *rules, size_t count, const bool premises[PLACES], bool forced[PLACES]) {
     bool next[PLACES];
-    memcpy(next, held, sizeof next);
+    memcpy(next, premises, sizeof next);
     do {
         memcpy(forced, next, sizeof next);
         for (size_t r = 0; r < count; r++) force_by_rule(&rules[r], forced, next);

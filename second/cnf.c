@@ -8,10 +8,10 @@
 #include "folder.h"
 #include "texts.h"
 
-enum { MOST_REFUSALS = 16, WHOLE_FROM = 100 };
+enum { WHOLE_FROM = 100 };
 
 static const unsigned can_say[] = {0, 2, 7, 8, 9, 15};
-static unsigned long said[MOST_REFUSALS];
+static unsigned long said[NUMBERS];
 
 /* Says why a text is refused; for 2 the number is the header's variables, for the others that of the first clause at fault. */
 static void say(FILE *err, unsigned refusal, unsigned number) {

@@ -15,7 +15,7 @@ static bool differs(Play *play, const char *what, long place, long theirs, long 
 }
 
 /* Compares one number. */
-static bool same(Play *play, const char *what, long place, unsigned theirs, unsigned ours) {
+bool same(Play *play, const char *what, long place, unsigned theirs, unsigned ours) {
     return theirs == ours || differs(play, what, place, theirs, ours);
 }
 
@@ -30,7 +30,7 @@ static bool same_place(Play *play, const char *what, size_t theirs, size_t ours)
 }
 
 /* Compares what the two calls returned. */
-static bool same_outcome(Play *play, const Outcome *ours, const Outcome *theirs) {
+bool same_outcome(Play *play, const Outcome *ours, const Outcome *theirs) {
     return same(play, "refusal", NONE, theirs->refusal, ours->refusal) && same_place(play, "place told", theirs->place, ours->place) &&
            same(play, "clauses before the fault", NONE, theirs->clauses, ours->clauses) &&
            same_place(play, "bytes written", theirs->written, ours->written) &&
@@ -41,14 +41,20 @@ static bool same_outcome(Play *play, const Outcome *ours, const Outcome *theirs)
            same(play, "row of the reason", NONE, theirs->row, ours->row);
 }
 
-/* Compares the boards handed back, every byte: held as 0 and 1 by a call that is done, as they were given by a refused one. */
+_Static_assert(sizeof(bool) == 1, "the model's premises are compared with the library's byte by byte");
+
+/* Compares the boards handed back, every byte: both furnaces' held as 0 and 1 by a call that is done, as they were given by a refused one. */
 static bool same_board(Play *play, const Step *step) {
+    static const char *const held_words[FURNACES] = {"board: furnace 1's held byte,", "board: furnace 2's held byte,"};
     bool fresh = step->kind == OPEN || (step->kind < SETTLE && play->last.refusal == 0);
     bool alike = same(play, "board: S", NONE, play->library_board.symbols, play->board.symbols) &&
                  same(play, "board: rows in use", NONE, play->library_board.rows, play->board.rows);
-    for (unsigned p = 0; p < PLACES && alike; p++)
-        alike = same(play, "board: held byte", p, play->library_board.held[p], fresh ? play->board.held[p] : play->given.held[p]);
-    return alike;
+    const uint8_t *theirs = (const uint8_t *)&play->library_board.held, *ours = (const uint8_t *)&play->given.held;
+    if (fresh) ours = (const uint8_t *)&play->board.held;
+    if (!alike || memcmp(theirs, ours, sizeof play->given.held) == 0) return alike;
+    unsigned i = 0;
+    while (theirs[i] == ours[i]) i++;
+    return differs(play, held_words[i / PLACES], i % PLACES, theirs[i], ours[i]);
 }
 
 /* Compares two clause tables, guards included; the first place lent is place 0. */
@@ -76,7 +82,7 @@ static bool same_bytes(Play *play, const char *what, const uint8_t *theirs, cons
 }
 
 /* Compares every table, those that the call was not lent included. */
-static bool same_tables(Play *play, const Step *step) {
+bool same_tables(Play *play, const Step *step) {
     const Tables *theirs = &play->theirs, *ours = &play->ours;
     return same_table(play, theirs->table, ours->table, sizeof ours->table) &&
            same_bytes(play, "labels", theirs->labels, ours->labels, sizeof ours->labels) &&
@@ -92,12 +98,14 @@ bool same_everywhere(Play *play, const Step *step, const Outcome *ours, const Ou
     return same_outcome(play, ours, theirs) && same_board(play, step) && same_tables(play, step);
 }
 
-/* The round that completes the first conflict, by the library's settle: the smallest rank up to which some symbol has both its literals. */
+/* The round that completes the furnace's first conflict, by the library's settle: the smallest rank up to which some symbol has both its literals. */
 static unsigned first_round(const Play *play, const Step *step, tup_board board) {
     uint8_t labels[MOST_SYMBOLS];
     uint16_t ranks[PLACES], supports[PLACES];
     unsigned first = NONE;
-    if (tup_settle(board, play->theirs.table + GUARD, step->numbers, labels, MOST_SYMBOLS, ranks, PLACES, supports, PLACES) != 0) return NONE;
+    if (tup_settle(board, play->theirs.table + GUARD, step->numbers, (uint8_t)step->furnace, labels, MOST_SYMBOLS, ranks, PLACES, supports,
+                   PLACES) != 0)
+        return NONE;
     for (unsigned s = 0; s < board.symbols; s++) {
         unsigned both = ranks[2 * s] > ranks[2 * s + 1] ? ranks[2 * s] : ranks[2 * s + 1];
         if (both < first) first = both;
@@ -105,29 +113,32 @@ static unsigned first_round(const Play *play, const Step *step, tup_board board)
     return first;
 }
 
-/* What follows of Ticket 4 after a good blame: its marks are premises, and with only these held the same rows are in conflict, whatever literal is
- * asked, and in the same round. */
+/* What follows of Ticket 4 after a good blame: its marks are premises of the furnace, and with only these held for it the same rows are in conflict,
+ * whatever literal is asked, and in the same round. What the other furnace holds stays. */
 bool marks_are_enough(Play *play, const Step *step) {
     const tup_board *board = &play->library_board;
     const uint8_t *marks = play->theirs.marks + GUARD;
     unsigned places = 2 * play->board.symbols, asked = (unsigned)(step->noise % places);
-    tup_board alone = {.symbols = board->symbols, .rows = board->rows};
+    tup_board alone = *board;
+    const uint8_t *premises = board->held[step->furnace - 1];
     for (unsigned p = 0; p < places; p++) {
-        if (marks[p] != 0 && board->held[p] == 0) return differs(play, "blame, a mark (model: a premise)", p, marks[p], 0);
-        alone.held[p] = marks[p];
+        if (marks[p] != 0 && premises[p] == 0) return differs(play, "blame, a mark (model: a premise)", p, marks[p], 0);
+        alone.held[step->furnace - 1][p] = marks[p];
     }
-    tup_answer answer = tup_ask(alone, play->theirs.table + GUARD, step->numbers, (int16_t)literal_at(asked));
+    tup_answer answer = tup_ask(alone, play->theirs.table + GUARD, step->numbers, (uint8_t)step->furnace, (int16_t)literal_at(asked));
+    unsigned round = first_round(play, step, *board);
     return same(play, "blame, refusal of ask with only the marks held", asked, answer.refusal, 0) &&
            same(play, "blame, standing with only the marks held", asked, answer.standing, IN_CONFLICT) &&
-           same(play, "blame, round of the conflict (library: only the marks held, model: all premises)", NONE, first_round(play, step, alone),
-                first_round(play, step, *board));
+           same(play, "blame, a conflict by settle", NONE, round != NONE, true) &&
+           same(play, "blame, round of the conflict (library: only the marks held, model: all premises)", NONE,
+                first_round(play, step, alone), round);
 }
 
-/* Demand 3 after a good settle: both ways find a conflict or neither does, and without one every label is the same. */
-bool same_by_rules(Play *play) {
+/* Demand 3 after a good settle, from the furnace's premises: both ways find a conflict or neither does, and without one every label is the same. */
+bool same_by_rules(Play *play, const Step *step) {
     const uint8_t *labels = (play->with_library ? play->theirs.labels : play->ours.labels) + GUARD;
     bool forced[PLACES], by_rows = false, by_rules = false, alike;
-    force_by_rules(play->book.rules, play->book.count, play->board.held, forced);
+    force_by_rules(play->book.rules, play->book.count, premises_of(&play->board, step->furnace), forced);
     for (unsigned s = 0; s < play->board.symbols; s++) {
         by_rows |= labels[s] == 3;
         by_rules |= forced[2 * s] && forced[2 * s + 1];

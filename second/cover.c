@@ -6,8 +6,6 @@
 
 #include "damage.h"
 
-enum { NUMBERS = 16 };
-
 /* Cases beyond the table of refusals, each of which has to come up. */
 enum {
     ASK_OPEN, ASK_STANDS, ASK_RULED_OUT, ASK_CONFLICT, EXPLAIN_HELD, EXPLAIN_NOT_DERIVED, EXPLAIN_ONE_LITERAL, GROUND_HELD,
@@ -51,12 +49,12 @@ typedef struct Spot {
 
 /* The refusals that can come up, by call. */
 static const unsigned possible[CALLS][NUMBERS] = {
-    [OPEN] = {2},          [RULE] = {1, 2, 3, 4, 5, 6, 7, 8, 9}, [READ] = {1, 2, 7, 8, 9, 15}, [HOLD] = {1, 2, 10},
-    [SETTLE] = {1, 13},    [WITHDRAW] = {1, 2, 11},              [GROUND] = {1, 2, 12, 13},    [ASK] = {1, 2},
-    [BLAME] = {1, 12, 13}, [EXPLAIN] = {1, 2, 12},               [WRITE] = {1, 13},            [TEXT_RULE] = {1, 2, 5, 7, 8, 9, 15},
+    [OPEN] = {2},              [RULE] = {1, 2, 3, 4, 5, 6, 7, 8, 9}, [READ] = {1, 2, 7, 8, 9, 15},  [HOLD] = {1, 16, 2, 10},
+    [SETTLE] = {1, 16, 13},    [WITHDRAW] = {1, 16, 2, 11},          [GROUND] = {1, 16, 2, 13, 12}, [ASK] = {1, 16, 2},
+    [BLAME] = {1, 16, 13, 12}, [EXPLAIN] = {1, 16, 2, 12},           [WRITE] = {1, 13},             [TEXT_RULE] = {1, 2, 5, 7, 8, 9, 15},
     [TO_BYTES] = {1, 2, 5, 13, 15}, [TO_TEXT] = {1, 2, 3, 4, 5, 6, 13}};
 
-static unsigned long calls[CALLS], refusals[CALLS][NUMBERS + 1], damaged[BAD_BOARDS][CALLS], cases[CASES];
+static unsigned long calls[CALLS], refusals[CALLS][NUMBERS], damaged[BAD_BOARDS][CALLS], cases[CASES];
 static unsigned long broken[BREAKS][SPOTS];
 static unsigned long labels_seen[4], demand_3, settled, rules_done, rows_added, acts;
 static unsigned highest_rank, most_rows;
@@ -80,6 +78,7 @@ static unsigned depth_of(const uint8_t *bytes, size_t *at) {
 /* Counts what a good settle wrote. */
 static void cover_settle(const Play *play, const Step *step) {
     const Board *board = &play->board;
+    const bool *premises = premises_of(board, step->furnace);
     bool conflict = false, both = false, any = false;
     unsigned highest = 0;
     for (unsigned s = 0; s < board->symbols; s++) {
@@ -87,7 +86,7 @@ static void cover_settle(const Play *play, const Step *step) {
         labels_seen[label]++;
         conflict |= label == 3;
         any |= label != 0;
-        both |= board->held[2 * s] && board->held[2 * s + 1];
+        both |= premises[2 * s] && premises[2 * s + 1];
     }
     for (unsigned p = 0; p < 2 * board->symbols; p++) {
         uint16_t rank = play->ours.ranks[GUARD + p];
@@ -199,14 +198,12 @@ static void cover_refused(const Play *play, const Step *step) {
     cases[PAST_2048_LENT] += refusal == 1 && play->board.rows > MOST_ROWS && play->board.rows <= step->numbers / WIDTH;
     if (refusal == 2 && step->value == -32768) cases[LOWEST_ASKED]++;
     if (refusal != 12 || step->kind != EXPLAIN) return;
-    cases[play->board.held[place_of(step->value)] ? EXPLAIN_HELD : EXPLAIN_NOT_DERIVED]++;
+    cases[premises_of(&play->board, step->furnace)[place_of(step->value)] ? EXPLAIN_HELD : EXPLAIN_NOT_DERIVED]++;
 }
 
 /* Counts how the tables and the board of a call that was done looked. */
 static void cover_lent(const Play *play, const Step *step) {
-    bool odd = false;
-    for (unsigned p = 0; p < PLACES; p++) odd |= play->given.held[p] > 1;
-    cases[step->kind >= SETTLE ? ODD_BYTES_DONE : ODD_BYTES_BACK] += odd;
+    cases[step->kind >= SETTLE ? ODD_BYTES_DONE : ODD_BYTES_BACK] += odd_before(play, 1) || odd_before(play, 2);
     cases[NOTHING_LENT] += step->numbers == 0;
     cases[BEYOND_2048] += step->numbers > WIDTH * MOST_ROWS;
     cases[ODD_LENGTH] += step->numbers % WIDTH != 0;
@@ -224,22 +221,23 @@ static void cover_done(const Play *play, const Step *step) {
     unsigned marks = step->kind == GROUND || step->kind == BLAME ? marks_set(play) : 0;
     if (step->kind == OPEN) return;
     cover_lent(play, step);
-    if (step->kind == SETTLE) cover_settle(play, step), cover_rows(play);
+    if (step->kind == SETTLE) cover_settle(play, step), cover_rows(play, step->furnace);
     if (step->kind == RULE) cover_rule(play, step);
     if (step->kind == ASK) cases[ASK_OPEN + play->last.standing]++;
     if (step->kind == EXPLAIN) cases[EXPLAIN_ONE_LITERAL] += play->last.literals == 1;
     if (step->kind == BLAME) {
         cases[BLAME_MORE] += marks > 1;
-        cover_blame(play, marks);
+        cover_blame(play, step->furnace, marks);
     }
     if (step->kind != GROUND) return;
-    cases[GROUND_HELD] += play->board.held[place_of(step->value)];
+    cases[GROUND_HELD] += premises_of(&play->board, step->furnace)[place_of(step->value)];
     cases[GROUND_NO_PREMISE] += marks == 0;
     cases[GROUND_MORE] += marks > 1;
 }
 
 /* Counts one step that was played. */
 void cover_step(const Play *play, const Step *step) {
+    cover_furnace(play, step);
     if (step->kind >= CALLS) {
         acts++;
         return;
@@ -260,8 +258,8 @@ unsigned long cover_calls(void) {
     return sum;
 }
 
-/* True if the refusal can come up for the call. */
-static bool can_come_up(unsigned kind, unsigned number) {
+/* True if the call can give the refusal. */
+bool can_refuse(unsigned kind, unsigned number) {
     for (unsigned i = 0; i < NUMBERS; i++)
         if (number != 0 && possible[kind][i] == number) return true;
     return false;
@@ -275,7 +273,7 @@ static void print_refusals(void) {
     for (unsigned k = 0; k < CALLS; k++) {
         printf("%-9s%9lu%9lu", kind_word((Kind)k), calls[k], refusals[k][0]);
         for (unsigned n = 1; n < NUMBERS; n++) {
-            if (can_come_up(k, n)) printf("%7lu", refusals[k][n]);
+            if (can_refuse(k, n)) printf("%7lu", refusals[k][n]);
             else printf("%7s", ".");
         }
         printf("\n");
@@ -328,12 +326,14 @@ void cover_print(void) {
     printf("%s", CASES % 2 == 0 ? "" : "\n");
     cover_rows_print();
     cover_blames_print();
+    cover_furnaces_print();
     cover_texts_print();
     cover_spelt_print();
     printf("labels 0, 1, 2, 3: %lu %lu %lu %lu\n", labels_seen[0], labels_seen[1], labels_seen[2], labels_seen[3]);
     printf("highest rank: %u; boards settled: %lu, of them in conflict: %lu\n", highest_rank, settled, cases[CONFLICT_SETTLED]);
     printf("rules accepted: %lu, rows they added: %lu, most of one rule: %u; the caller's own acts: %lu\n", rules_done, rows_added, most_rows, acts);
     printf("demand 3 compared: %lu boards, of them in conflict: %lu\n", demand_3, cases[DEMAND_3_CONFLICT]);
+    cover_furnaces_close();
     cover_texts_close();
     cover_spelt_close();
 }
@@ -360,12 +360,13 @@ bool cover_is_whole(void) {
     bool whole = breaks_are_whole();
     whole &= cover_rows_are_whole();
     whole &= cover_blames_are_whole();
+    whole &= cover_furnaces_are_whole();
     whole &= cover_texts_are_whole();
     whole &= cover_spelt_is_whole();
     for (unsigned k = 0; k < CALLS; k++) {
         whole &= came_up(refusals[k][0], "done", kind_word((Kind)k), 0);
         for (unsigned n = 1; n < NUMBERS; n++)
-            if (can_come_up(k, n)) whole &= came_up(refusals[k][n], "refusal", kind_word((Kind)k), n);
+            if (can_refuse(k, n)) whole &= came_up(refusals[k][n], "refusal", kind_word((Kind)k), n);
     }
     for (unsigned d = 1; d < BAD_BOARDS; d++)
         for (unsigned k = RULE; k < CALLS; k++) whole &= came_up(damaged[d][k], damage_words[d], kind_word((Kind)k), 0);

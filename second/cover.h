@@ -4,21 +4,34 @@
 
 #include "steps.h"
 
+enum { NUMBERS = 17 }; /* of refusals, and 0 for a call that is done */
+
 void cover_step(const Play *play, const Step *step);
 void cover_print(void);
 bool cover_is_whole(void);
 unsigned long cover_calls(void);
+bool can_refuse(unsigned kind, unsigned number);
 bool came_up(unsigned long count, const char *what, const char *of, unsigned number);
 
 /* coverrows.c: the rounds of the boards settled. */
-void cover_rows(const Play *play);
+void cover_rows(const Play *play, unsigned furnace);
 void cover_rows_print(void);
 bool cover_rows_are_whole(void);
 
 /* coverblame.c: the symbols that good blames took. */
-void cover_blame(const Play *play, unsigned marks);
+void cover_blame(const Play *play, unsigned furnace, unsigned marks);
 void cover_blames_print(void);
 bool cover_blames_are_whole(void);
+
+/* coverfurnace.c: what was told to the two furnaces. */
+void cover_furnace(const Play *play, const Step *step);
+bool held_before(const Play *play, unsigned furnace);
+bool odd_before(const Play *play, unsigned furnace);
+void cover_apart(unsigned furnace, unsigned struck);
+void cover_compared(unsigned furnace, Kind kind);
+void cover_furnaces_print(void);
+void cover_furnaces_close(void);
+bool cover_furnaces_are_whole(void);
 
 /* covertext.c: the texts read and written. */
 void cover_text(const Play *play, const Step *step);

@@ -40,34 +40,27 @@ static unsigned by_smaller_rank(const Board *board, const Findings *found) {
 }
 
 /* True if blame would have marked other premises for another symbol. */
-static bool marks_others(const Play *play, const Findings *found, unsigned other) {
+static bool marks_others(const Play *play, unsigned furnace, const Findings *found, unsigned other) {
     uint8_t marks[PLACES];
-    mark_both(&play->board, play->ours.table + GUARD, found, other, marks);
+    mark_both(&play->board, furnace, play->ours.table + GUARD, found, other, marks);
     return memcmp(marks, play->ours.marks + GUARD, 2 * play->board.symbols) != 0;
 }
 
-/* True if a premise is held. */
-static bool any_held(const Board *board) {
-    for (unsigned p = 0; p < PLACES; p++)
-        if (board->held[p]) return true;
-    return false;
-}
-
-/* Counts the cases of a good blame that marked so many premises. */
-void cover_blame(const Play *play, unsigned marks) {
+/* Counts the cases of a good blame for a furnace that marked so many premises. */
+void cover_blame(const Play *play, unsigned furnace, unsigned marks) {
     const Board *board = &play->board;
-    Findings found = propagate(board, play->ours.table + GUARD);
+    Findings found = propagate(board, furnace, play->ours.table + GUARD);
     unsigned lowest = first_conflict(board, &found), taken = blamed_symbol(board, &found), last = last_of_tie(board, &found, taken);
     unsigned plus = found.rank[place_of((int)taken)], minus = found.rank[place_of(-(int)taken)];
     cases[NOT_LOWEST] += taken != lowest;
-    cases[LOWEST_MARKS_OTHERS] += marks_others(play, &found, lowest);
+    cases[LOWEST_MARKS_OTHERS] += marks_others(play, furnace, &found, lowest);
     cases[TIE] += taken != last;
-    cases[TIE_MARKS_OTHERS] += marks_others(play, &found, last);
-    cases[SMALLER_MARKS_OTHERS] += marks_others(play, &found, by_smaller_rank(board, &found));
+    cases[TIE_MARKS_OTHERS] += marks_others(play, furnace, &found, last);
+    cases[SMALLER_MARKS_OTHERS] += marks_others(play, furnace, &found, by_smaller_rank(board, &found));
     cases[PLUS_IS_LATER] += plus > minus;
     cases[MINUS_IS_LATER] += minus > plus;
     cases[NOTHING_MARKED] += marks == 0;
-    cases[NOTHING_THOUGH_HELD] += marks == 0 && any_held(board);
+    cases[NOTHING_THOUGH_HELD] += marks == 0 && held_before(play, furnace);
 }
 
 /* Prints the counts. */

@@ -98,11 +98,11 @@ static void note_place(const Play *play, unsigned place, unsigned having, unsign
     note_order(play, place, seen);
 }
 
-/* Counts the cases of a board that was settled. */
-void cover_rows(const Play *play) {
+/* Counts the cases of a board that was settled for a furnace. */
+void cover_rows(const Play *play, unsigned furnace) {
     const Board *board = &play->board;
     unsigned having[PLACES] = {0}, giving[PLACES] = {0};
-    bool seen[CASES] = {false}, held = false, second = false;
+    bool seen[CASES] = {false}, second = false;
     for (unsigned r = 0; r < board->rows; r++) {
         const int16_t *row = play->ours.table + GUARD + WIDTH * r;
         Ranked it = ranked(row, play->ours.ranks + GUARD);
@@ -111,10 +111,9 @@ void cover_rows(const Play *play) {
     }
     for (unsigned p = 0; p < 2 * board->symbols; p++) {
         note_place(play, p, having[p], giving[p], seen);
-        held |= board->held[p];
         second |= play->ours.ranks[GUARD + p] == 2;
     }
-    seen[ROWS_ALONE] = second && !held;
+    seen[ROWS_ALONE] = second && !held_before(play, furnace);
     for (unsigned c = 0; c < CASES; c++) cases[c] += seen[c];
 }
 

@@ -3,8 +3,6 @@
 
 #include "cover.h"
 
-enum { REFUSALS = 16 };
-
 /* Cases beyond the refusals, each of which has to come up. */
 enum {
     NO_CLAUSES, NO_LAST_FEED, COMMENTS, EMPTY_LINES, LEADING_ZEROS, MORE_VARIABLES, FEWER_VARIABLES, REPEATED, TRUE_CLAUSE, TRUE_ON_FULL,
@@ -30,8 +28,8 @@ static const unsigned at_fault[] = {2, 7, 8, 9};
 
 enum { READER = sizeof reader_gives / sizeof reader_gives[0], WRITER = sizeof writer_gives / sizeof writer_gives[0] };
 
-static unsigned long reads[REFUSALS], torn_reads[REFUSALS], writes[REFUSALS], cases[CASES], trips, by_rules;
-static unsigned long first_clause[REFUSALS], later_clause[REFUSALS];
+static unsigned long reads[NUMBERS], torn_reads[NUMBERS], writes[NUMBERS], cases[CASES], trips, by_rules;
+static unsigned long first_clause[NUMBERS], later_clause[NUMBERS];
 
 /* True if the bytes have this pair somewhere. */
 static bool has_pair(const uint8_t *text, size_t bytes, bool (*is)(uint8_t, uint8_t, uint8_t)) {
@@ -83,15 +81,13 @@ static void cover_spelling(const Step *step, const Form *form, unsigned symbols)
 /* Counts a text that was read. */
 static void cover_read_done(const Play *play, const Step *step) {
     Form form;
-    bool held = false;
     unsigned rows = play->board.rows, added = play->last.added;
     if (!text_keeps_form(step->text, step->bytes, &form)) return;
     cover_spelling(step, &form, play->board.symbols);
     cover_clauses(step, &form, play->board.symbols);
-    for (unsigned p = 0; p < PLACES; p++) held |= play->board.held[p];
     cases[TRUE_ON_FULL] += rows == rows_lent(step->numbers) && added == 0 && form.clauses > 0;
     cases[ONTO_ROWS] += rows > added && added > 0;
-    cases[WITH_PREMISES] += held && added > 0;
+    cases[WITH_PREMISES] += added > 0 && (held_before(play, 1) || held_before(play, 2));
     cases[ROWS_FILLED] += added > 0 && rows == rows_lent(step->numbers);
     cases[FILLED_2048] += added > 0 && rows == MOST_ROWS;
     cases[ROWS_100] += added >= 100;
@@ -166,9 +162,9 @@ void cover_by_rules(void) {
 }
 
 /* All of them together. */
-static unsigned long sum(const unsigned long counts[REFUSALS]) {
+static unsigned long sum(const unsigned long counts[NUMBERS]) {
     unsigned long all = 0;
-    for (unsigned n = 0; n < REFUSALS; n++) all += counts[n];
+    for (unsigned n = 0; n < NUMBERS; n++) all += counts[n];
     return all;
 }
 

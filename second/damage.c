@@ -2,12 +2,13 @@
 #include "damage.h"
 
 /* Adds a step of the caller's, and notes the step that undoes it. */
-static void spoil(Draft *draft, Step undo[2], unsigned *undone, Kind kind, unsigned place, int value, int before) {
+static Step *spoil(Draft *draft, Step undo[2], unsigned *undone, Kind kind, unsigned place, int value, int before) {
     Step *step = add_step(draft, kind);
     step->place = place;
     step->value = value;
     undo[*undone] = *step;
     undo[(*undone)++].value = before;
+    return step;
 }
 
 /* The literals in a row. */
@@ -62,11 +63,13 @@ static void spoil_rows(Draft *draft, const Play *play, const Step *call, Step un
     spoil(draft, undo, undone, SET_ROWS, 0, (int)rows, (int)play->board.rows);
 }
 
-/* Sets a premise of a symbol beyond S; S is below 200. */
+/* Sets a premise of either furnace of a symbol beyond S; S is below 200. */
 static void spoil_premises(Draft *draft, const Play *play, Step undo[2], unsigned *undone) {
-    unsigned from = 2 * play->board.symbols, sort = random_below(&draft->random, 3);
+    unsigned from = 2 * play->board.symbols, sort = random_below(&draft->random, 3), furnace = 1 + random_below(&draft->random, FURNACES);
     unsigned place = sort == 0 ? from : sort == 1 ? PLACES - 1 : random_between(&draft->random, from, PLACES - 1);
-    spoil(draft, undo, undone, SET_HELD, place, (int)random_between(&draft->random, 1, 255), play->board.held[place]);
+    int byte = (int)random_between(&draft->random, 1, 255), before = premises_of(&play->board, furnace)[place];
+    spoil(draft, undo, undone, SET_HELD, place, byte, before)->furnace = furnace;
+    undo[*undone - 1].furnace = furnace;
 }
 
 /* Writes noise into a number that no row in use has: a good board still. */
@@ -111,12 +114,20 @@ void add_damage(Draft *draft, const Play *play, Damage damage, Step *call, Step 
     }
 }
 
-/* Gives held premises bytes other than 1, which mean the same. */
-void add_odd_bytes(Draft *draft, const Play *play) {
+/* Gives a furnace's premises bytes other than 1, which mean the same. */
+static void add_odd_bytes_of(Draft *draft, const Play *play, unsigned furnace) {
     for (unsigned p = 0; p < PLACES; p++) {
-        if (!play->board.held[p]) continue;
+        if (!premises_of(&play->board, furnace)[p]) continue;
         Step *step = add_step(draft, SET_HELD);
+        step->furnace = furnace;
         step->place = p;
         step->value = (int)random_between(&draft->random, 2, 255);
     }
+}
+
+/* Gives premises bytes other than 1: of one furnace, the other, or both. */
+void add_odd_bytes(Draft *draft, const Play *play) {
+    unsigned spared = random_between(&draft->random, 1, 3);
+    for (unsigned f = 1; f <= FURNACES; f++)
+        if (f != spared) add_odd_bytes_of(draft, play, f);
 }

@@ -2,8 +2,9 @@
  * library alike. */
 #include "document.h"
 
-#include <stdio.h>
 #include <string.h>
+
+#include "tries.h"
 
 /* A rule to try: its bytes, the refusal and its place, and the rows. */
 typedef struct Try {
@@ -62,17 +63,14 @@ static const End ends[] = {
     {"the longest formula and a byte too many", 0x10, 1, LONGEST + 1, 6, LONGEST},
 };
 
-/* Says what the documents and the program disagree on. */
-static bool wrong(const Play *play, const char *what) {
-    printf("second: not as the documents say: %s; %s\n", what, play->difference[0] != 0 ? play->difference : "by the model");
-    return false;
+/* Says which board the documents and the program disagree on. */
+static bool wrong(const Play *play, const char *words) {
+    return try_wrong(play, words, "furnace", 1);
 }
 
-/* Plays one call with the whole table and ample tables to write; false where the sides differ or the refusal is another. */
+/* Plays one call for furnace 1; false where the sides differ or the refusal is another. */
 static bool make(Play *play, Kind kind, int value, unsigned refusal) {
-    Step step = {.kind = kind, .value = value, .numbers = TABLE_LENDABLE, .lent = {MOST_SYMBOLS, PLACES, PLACES}};
-    if (kind == GROUND || kind == BLAME) step.lent[0] = PLACES;
-    return play_step(play, &step) && play->last.refusal == refusal;
+    return try_call(play, kind, 1, value, refusal);
 }
 
 /* Plays one rule with so many numbers lent; false where the sides differ, or the refusal or its place is another. */
@@ -153,20 +151,19 @@ static bool try_circle(Play *play) {
 
 /* Both signs held. */
 static bool try_both_signs(Play *play) {
-    static const uint8_t marks[6] = {0, 0, 0, 0, 1, 1};
     play_start(play, 4, true);
     bool good = make(play, OPEN, 3, 0) && make(play, HOLD, 3, 0) && make(play, HOLD, -3, 0) && make(play, SETTLE, 0, 0) &&
                 play->ours.labels[GUARD + 2] == 3 && ask(play, 1, IN_CONFLICT) && make(play, BLAME, 0, 0) &&
-                memcmp(play->ours.marks + GUARD, marks, sizeof marks) == 0;
+                try_marked(play, (int[]){3, -3}, 2);
     return good || wrong(play, "hold 3 and -3");
 }
 
 /* The lowest number, asked and in a row in use; and the counts at the ends. */
 static bool try_counts(Play *play) {
-    Step row = {.kind = APPEND_ROW, .row = {-32768}};
     play_start(play, 5, true);
-    bool good = make(play, OPEN, 0, 2) && make(play, OPEN, 201, 2) && make(play, OPEN, 200, 0) && make(play, ASK, -32768, 2) &&
-                play_step(play, &row) && make(play, ASK, 1, 1) && make(play, ASK, -32768, 1);
+    bool good = make(play, OPEN, 0, 2) && make(play, OPEN, 201, 2) && make(play, OPEN, 200, 0) && make(play, ASK, -32768, 2);
+    try_row(play, (int16_t[WIDTH]){-32768});
+    good = good && make(play, ASK, 1, 1) && make(play, ASK, -32768, 1);
     return good || wrong(play, "-32768, S of 0, 200 and 201");
 }
 

@@ -3,11 +3,12 @@
 
 #include <string.h>
 
-/* Adds an empty step. */
+/* Adds an empty step, for the favoured furnace where it names one. */
 Step *add_step(Draft *draft, Kind kind) {
     Step *step = &draft->steps[draft->count < MOST_STEPS - 1 ? draft->count++ : draft->count];
     memset(step, 0, sizeof *step);
     step->kind = kind;
+    step->furnace = draft->favoured;
     step->numbers = draft->usual;
     step->noise = random_next(&draft->random);
     return step;

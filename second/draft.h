@@ -10,6 +10,7 @@ enum { POOL = 262144 };
 typedef struct Draft {
     Random random;
     unsigned style, symbols, lean, setup, calls;
+    unsigned favoured;                   /* the furnace that is named more often */
     size_t usual;                        /* numbers of the clause table usually lent */
     bool leaning[MOST_SYMBOLS + 1];      /* an assignment that rules and premises lean to, so that boards stay out of conflict */
     Step steps[MOST_STEPS];

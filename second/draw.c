@@ -2,6 +2,7 @@
 #include "draw.h"
 
 #include "damage.h"
+#include "drawfurnace.h"
 #include "drawrows.h"
 #include "drawspelt.h"
 #include "drawtext.h"
@@ -31,9 +32,9 @@ static const unsigned sort_weights[STYLES][SORTS] = {
 
 /* How often each call comes: at first, and later on. */
 static const unsigned call_weights[2][CALLS] = {
-    {[OPEN] = 3, [RULE] = 90, [TEXT_RULE] = 40, [READ] = 30, [HOLD] = 60, [WITHDRAW] = 10, [SETTLE] = 20, [ASK] = 10, [EXPLAIN] = 10, [GROUND] = 10,
+    {[OPEN] = 3, [RULE] = 90, [TEXT_RULE] = 40, [READ] = 30, [HOLD] = 74, [WITHDRAW] = 14, [SETTLE] = 20, [ASK] = 10, [EXPLAIN] = 10, [GROUND] = 10,
      [BLAME] = 5, [WRITE] = 10, [TO_BYTES] = 16, [TO_TEXT] = 14},
-    {[OPEN] = 5, [RULE] = 20, [TEXT_RULE] = 14, [READ] = 20, [HOLD] = 34, [WITHDRAW] = 20, [SETTLE] = 40, [ASK] = 28, [EXPLAIN] = 26, [GROUND] = 26,
+    {[OPEN] = 5, [RULE] = 20, [TEXT_RULE] = 14, [READ] = 20, [HOLD] = 44, [WITHDRAW] = 26, [SETTLE] = 40, [ASK] = 28, [EXPLAIN] = 26, [GROUND] = 26,
      [BLAME] = 16, [WRITE] = 16, [TO_BYTES] = 16, [TO_TEXT] = 14}};
 
 /* A count of symbols that suits the style. */
@@ -81,6 +82,7 @@ void draft_start(Draft *draft, uint64_t seed, uint64_t number) {
     Random *random = &draft->random;
     *random = random_for(seed, number);
     draft->count = draft->pooled = 0;
+    draft->favoured = 1 + random_below(random, FURNACES);
     draft->style = random_weighted(random, style_weights, STYLES);
     draft->symbols = draw_symbols(random, draft->style);
     draft->usual = draw_usual(random, draft->style);
@@ -124,38 +126,43 @@ static int draw_literal(Draft *draft, const Play *play) {
     return random_chance(random, 60) ? leaning_literal(draft, symbol) : literal_at(2 * (symbol - 1) + random_below(random, 2));
 }
 
-/* A literal for explain or ground that is derived, mostly not held, if there is one. */
-static int draw_derived(Draft *draft, const Play *play, bool held_too) {
+/* A literal for explain or ground that is derived for the furnace, mostly not held, if there is one. */
+static int draw_derived(Draft *draft, const Play *play, unsigned furnace, bool held_too) {
     const Board *board = &play->board;
     unsigned places[PLACES], count = 0;
     if (!board_is_good(board, play->ours.table + GUARD, TABLE_LENDABLE)) return draw_literal(draft, play);
-    Findings found = propagate(board, play->ours.table + GUARD);
+    Findings found = propagate(board, furnace, play->ours.table + GUARD);
     for (unsigned p = 0; p < 2 * board->symbols; p++)
-        if (derived(&found, p) && (held_too || !board->held[p])) places[count++] = p;
+        if (derived(&found, p) && (held_too || !premises_of(board, furnace)[p])) places[count++] = p;
     return count == 0 ? draw_literal(draft, play) : literal_at(places[random_below(&draft->random, count)]);
 }
 
-/* A literal for hold or withdraw that mostly passes. */
-static int draw_premise(Draft *draft, const Play *play, bool held) {
+/* A literal for hold or withdraw that mostly passes for the furnace. */
+static int draw_premise(Draft *draft, const Play *play, unsigned furnace, bool held) {
     int literal = draw_literal(draft, play);
     for (unsigned tries = 0; tries < 200 && literal >= -MOST_SYMBOLS && literal <= MOST_SYMBOLS && literal != 0; tries++) {
-        if (play->board.held[place_of(literal)] == held) return literal;
+        if (premises_of(&play->board, furnace)[place_of(literal)] == held) return literal;
         literal = draw_literal(draft, play);
     }
     return literal;
 }
 
-/* The literal that suits a call, or now and then none at all. */
+/* The literal that suits a call, or now and then none at all; often none where the furnace is none either. */
 static void draw_given_literal(Draft *draft, const Play *play, Step *step) {
     Random *random = &draft->random;
-    bool pass = random_chance(random, 75);
-    if (random_chance(random, 6)) {
+    unsigned furnace = furnace_meant(step);
+    bool pass = random_chance(random, 75), telling = random_chance(random, 25);
+    if (random_chance(random, is_furnace(step->furnace) ? 6 : 30)) {
         step->value = draw_bad_literal(random, play->board.symbols);
         step->faults++;
-    } else if ((step->kind == HOLD || step->kind == WITHDRAW) && pass) {
-        step->value = draw_premise(draft, play, step->kind == WITHDRAW);
+        return;
+    }
+    step->value = telling ? draw_telling(draft, play, step, pass) : 0;
+    if (step->value != 0) return;
+    if ((step->kind == HOLD || step->kind == WITHDRAW) && pass) {
+        step->value = draw_premise(draft, play, furnace, step->kind == WITHDRAW);
     } else if ((step->kind == EXPLAIN || step->kind == GROUND) && pass) {
-        step->value = draw_derived(draft, play, step->kind == GROUND && random_chance(random, 20));
+        step->value = draw_derived(draft, play, furnace, step->kind == GROUND && random_chance(random, 20));
     } else {
         step->value = draw_literal(draft, play);
     }
@@ -253,6 +260,7 @@ static int draw_opening(Draft *draft) {
 /* Fills in all that a call is given. */
 static void draw_call(Draft *draft, const Play *play, Step *step) {
     step->numbers = draw_numbers(draft, play);
+    if (names_furnace(step->kind)) name_furnace(draft, step);
     switch (step->kind) {
     case OPEN: step->value = draw_opening(draft); break;
     case RULE: case TEXT_RULE: case TO_BYTES: case TO_TEXT: draw_rule(draft, play, step); break;
@@ -269,6 +277,7 @@ static void add_damaged_call(Draft *draft, const Play *play) {
     unsigned undone = 0;
     draft->count--;
     draw_call(draft, play, &call);
+    if (names_furnace(call.kind) && random_chance(&draft->random, 12)) name_no_furnace(draft, &call);
     call.damage = draw_damage(draft, play);
     call.faults++;
     add_damage(draft, play, (Damage)call.damage, &call, undo, &undone);
@@ -276,9 +285,10 @@ static void add_damaged_call(Draft *draft, const Play *play) {
     while (undone > 0) *add_step(draft, undo[undone - 1].kind) = undo[undone - 1], undone--;
 }
 
-/* Adds one call; after a refused open mostly an open. */
+/* Adds one call: now and then the last one's for the other furnace; after a refused open mostly an open. */
 static void add_call(Draft *draft, const Play *play) {
     Random *random = &draft->random;
+    if (random_chance(random, 20) && add_echo(draft)) return;
     if (random_chance(random, 3)) add_odd_bytes(draft, play);
     if (play->board.symbols == 0 && random_chance(random, 70)) {
         add_step(draft, OPEN)->value = (int)draft->symbols;
@@ -369,8 +379,7 @@ static void add_setup(Draft *draft, const Play *play) {
 static void add_premises(Draft *draft) {
     for (unsigned n = random_below(&draft->random, 6); n > 0; n--) {
         unsigned symbol = draft->style == CHAIN ? 1 : random_between(&draft->random, 1, draft->symbols);
-        Step *step = add_step(draft, HOLD);
-        step->value = draft->style == CHAIN ? 1 : leaning_literal(draft, symbol);
+        add_hold(draft, draft->style == CHAIN ? 1 : leaning_literal(draft, symbol));
     }
 }
 

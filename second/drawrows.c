@@ -6,6 +6,8 @@
 #include <stdlib.h>
 #include <string.h>
 
+#include "drawfurnace.h"
+
 /* The symbols of such rows, the literal that most of them have or 0, and whether each has one + only. */
 typedef struct Knot {
     unsigned low, high;
@@ -59,7 +61,7 @@ static void add_knot_or_filling(Draft *draft, const Knot *knot, unsigned row, un
     }
 }
 
-/* Adds so many rows, and holds up to three literals of them; with a chain its first as well. */
+/* Adds so many rows, and holds up to four literals of them; with a chain its first as well. */
 void add_knot(Draft *draft, unsigned rows) {
     Random *random = &draft->random;
     unsigned symbols = draft->symbols, range = symbols < 3 ? symbols : random_between(random, 2, symbols < 9 ? symbols : 9);
@@ -67,6 +69,6 @@ void add_knot(Draft *draft, unsigned rows) {
     unsigned links = rows == MOST_ROWS && random_chance(random, 60) ? random_between(random, 5, 40) : 0;
     if (random_chance(random, 30)) knot.hub = knot_literal(draft, &knot);
     for (unsigned r = 0; r < rows; r++) add_knot_or_filling(draft, &knot, r, rows, links);
-    if (links != 0) add_step(draft, HOLD)->value = 1;
-    for (unsigned n = random_below(random, 4); n > 0; n--) add_step(draft, HOLD)->value = knot_literal(draft, &knot);
+    if (links != 0) add_hold(draft, 1);
+    for (unsigned n = random_below(random, 5); n > 0; n--) add_hold(draft, knot_literal(draft, &knot));
 }

@@ -1,4 +1,5 @@
-/* The journal program by document 01, its lines with a place by document 02's Ticket 1, over the model; and random journals for it. */
+/* The journal program by document 01, its lines with a place by document 02's Ticket 1, over the model; and random journals for it. By Ticket 6 it
+ * works furnace 1. */
 #include "journal.h"
 
 #include <stdio.h>
@@ -9,13 +10,13 @@
 #include "folder.h"
 #include "formulae.h"
 
-enum { MOST_BYTES = 32768, BUFFER = 40000, HELD = 64, WHOLE_FROM = 200 };
+enum { MOST_BYTES = 32768, BUFFER = 40000, HELD = 64, WHOLE_FROM = 200, FURNACE = 1 };
 enum { C_OPEN = 1, C_RULE, C_HOLD, C_DROP, C_ASK, C_WHY, COMMANDS };
 enum { STOP_END, STOP_KIND, STOP_BODY, STOP_FORMULA, STOP_BOARD, STOP_LONG, STOPS };
 
 static const char *const command_words[COMMANDS] = {"", "open", "rule", "hold", "drop", "ask", "why"};
 static const char *const stop_words[STOPS] = {"end of input", "unknown command", "body cut short", "formula", "refusal 1", "input too long"};
-static unsigned long lines[COMMANDS][15], standings[4], stops[STOPS], cut_bodies[COMMANDS];
+static unsigned long lines[COMMANDS][NUMBERS], standings[4], stops[STOPS], cut_bodies[COMMANDS];
 static unsigned long far_breaks[6], breaks_at_0; /* at places of two digits or more, by refusal; at place 0 */
 
 /* The refusals a command can give, its cut body apart. */
@@ -82,10 +83,10 @@ static Outcome call(Reader *reader, unsigned command, const uint8_t *body) {
     if (command == C_OPEN) return model_open(&reader->board, body[0]);
     int literal = body[0] + 256 * body[1];
     if (literal > 32767) literal -= 65536;
-    if (command == C_HOLD) return model_hold(&reader->board, reader->table, numbers, literal);
-    if (command == C_DROP) return model_withdraw(&reader->board, reader->table, numbers, literal);
-    if (command == C_ASK) return model_ask(&reader->board, reader->table, numbers, literal);
-    return model_explain(&reader->board, reader->table, numbers, literal);
+    if (command == C_HOLD) return model_hold(&reader->board, reader->table, numbers, FURNACE, literal);
+    if (command == C_DROP) return model_withdraw(&reader->board, reader->table, numbers, FURNACE, literal);
+    if (command == C_ASK) return model_ask(&reader->board, reader->table, numbers, FURNACE, literal);
+    return model_explain(&reader->board, reader->table, numbers, FURNACE, literal);
 }
 
 /* Runs a command with a body. Says whether the program stops. */

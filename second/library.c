@@ -57,7 +57,7 @@ static Outcome call_write(const Step *step, const tup_board *board, const int16_
 /* Settles. */
 static Outcome call_settle(const Step *step, const tup_board *board, const int16_t *table, Tables *tables) {
     const size_t *lent = step->lent;
-    return (Outcome){.refusal = tup_settle(*board, table, step->numbers,
+    return (Outcome){.refusal = tup_settle(*board, table, step->numbers, (uint8_t)step->furnace,
                                            LENT(tables->labels + GUARD, lent[0], step), lent[0],
                                            LENT(tables->ranks + GUARD, lent[1], step), lent[1],
                                            LENT(tables->supports + GUARD, lent[2], step), lent[2])};
@@ -65,7 +65,7 @@ static Outcome call_settle(const Step *step, const tup_board *board, const int16
 
 /* Explains. */
 static Outcome call_explain(const Step *step, const tup_board *board, const int16_t *table) {
-    tup_reason reason = tup_explain(*board, table, step->numbers, (int16_t)step->value);
+    tup_reason reason = tup_explain(*board, table, step->numbers, (uint8_t)step->furnace, (int16_t)step->value);
     return (Outcome){.refusal = reason.refusal, .literals = reason.literals, .rank = reason.rank, .row = reason.row};
 }
 
@@ -74,6 +74,7 @@ Outcome library_call(const Step *step, tup_board *board, Tables *tables) {
     int16_t *table = LENT(tables->table + GUARD, step->numbers, step);
     uint8_t *marks = LENT(tables->marks + GUARD, step->lent[0], step), *formula = tables->formula + GUARD, *text = tables->text + GUARD;
     int16_t literal = (int16_t)step->value;
+    uint8_t furnace = (uint8_t)step->furnace;
     tup_answer answer;
     switch (step->kind) {
     case OPEN: return changed(tup_open((uint16_t)step->value), board);
@@ -83,14 +84,14 @@ Outcome library_call(const Step *step, tup_board *board, Tables *tables) {
     case TO_TEXT: return call_to_text(step, board, table, formula, text);
     case READ: return call_read(step, board, table, text);
     case WRITE: return call_write(step, board, table, text);
-    case HOLD: return changed(tup_hold(*board, table, step->numbers, literal), board);
-    case WITHDRAW: return changed(tup_withdraw(*board, table, step->numbers, literal), board);
+    case HOLD: return changed(tup_hold(*board, table, step->numbers, furnace, literal), board);
+    case WITHDRAW: return changed(tup_withdraw(*board, table, step->numbers, furnace, literal), board);
     case SETTLE: return call_settle(step, board, table, tables);
     case ASK:
-        answer = tup_ask(*board, table, step->numbers, literal);
+        answer = tup_ask(*board, table, step->numbers, furnace, literal);
         return (Outcome){.refusal = answer.refusal, .standing = answer.standing};
     case EXPLAIN: return call_explain(step, board, table);
-    case GROUND: return (Outcome){.refusal = tup_ground(*board, table, step->numbers, literal, marks, step->lent[0])};
-    default: return (Outcome){.refusal = tup_blame(*board, table, step->numbers, marks, step->lent[0])};
+    case GROUND: return (Outcome){.refusal = tup_ground(*board, table, step->numbers, furnace, literal, marks, step->lent[0])};
+    default: return (Outcome){.refusal = tup_blame(*board, table, step->numbers, furnace, marks, step->lent[0])};
     }
 }

@@ -1,5 +1,5 @@
-/* The nine calls by document 01, a rule's places and blame's symbol by document 02's Tickets 1 and 4: what each tests, in its order, what it returns
- * and what it writes. */
+/* The nine calls by document 01, a rule's places, blame's symbol and the two furnaces by document 02's Tickets 1, 4 and 6: what each tests, in its
+ * order, what it returns and what it writes. */
 #include "model.h"
 
 #include <string.h>
@@ -7,6 +7,16 @@
 /* Rows lent: length divided by 8, rounded down, never more than 2,048. */
 size_t rows_lent(size_t numbers) {
     return numbers / WIDTH < MOST_ROWS ? numbers / WIDTH : MOST_ROWS;
+}
+
+/* A furnace's number is 1 or 2. */
+bool is_furnace(unsigned number) {
+    return number == 1 || number == 2;
+}
+
+/* The premises of a furnace. */
+const bool *premises_of(const Board *board, unsigned furnace) {
+    return board->held[furnace - 1];
 }
 
 /* True for a number that is a literal of symbols 1 to S. */
@@ -29,15 +39,20 @@ static bool row_is_sound(const int16_t *row, unsigned symbols) {
     return true;
 }
 
-/* The test behind refusal 1. */
+/* True if no premise is of a symbol beyond S. */
+static bool premises_are_good(const bool premises[PLACES], unsigned symbols) {
+    for (unsigned p = 2 * symbols; p < PLACES; p++)
+        if (premises[p]) return false;
+    return true;
+}
+
+/* The test behind refusal 1: of both furnaces' premises, whichever is named, or none. */
 bool board_is_good(const Board *board, const int16_t *table, size_t numbers) {
     if (board->symbols < 1 || board->symbols > MOST_SYMBOLS) return false;
     if (board->rows > rows_lent(numbers)) return false;
     for (unsigned r = 0; r < board->rows; r++)
         if (!row_is_sound(table + WIDTH * r, board->symbols)) return false;
-    for (unsigned p = 2 * board->symbols; p < PLACES; p++)
-        if (board->held[p]) return false;
-    return true;
+    return premises_are_good(premises_of(board, 1), board->symbols) && premises_are_good(premises_of(board, 2), board->symbols);
 }
 
 /* An outcome with a refusal, or with 0 for a call that is done. */
@@ -45,13 +60,20 @@ static Outcome outcome(unsigned refusal) {
     return (Outcome){.refusal = refusal};
 }
 
-/* The tests 1 and 2 of the calls that are given a literal. */
-static unsigned literal_tests(const Board *board, const int16_t *table, size_t numbers, int literal) {
+/* The tests 1 and 16 of the calls that name a furnace. */
+static unsigned furnace_tests(const Board *board, const int16_t *table, size_t numbers, unsigned furnace) {
     if (!board_is_good(board, table, numbers)) return 1;
+    return is_furnace(furnace) ? 0 : 16;
+}
+
+/* The tests 1, 16 and 2 of those that are given a literal besides. */
+static unsigned literal_tests(const Board *board, const int16_t *table, size_t numbers, unsigned furnace, int literal) {
+    unsigned refusal = furnace_tests(board, table, numbers, furnace);
+    if (refusal != 0) return refusal;
     return is_literal(literal, board->symbols) ? 0 : 2;
 }
 
-/* Opens a board; refused, it is the board with S = 0. */
+/* Opens a board, without premises of either furnace; refused, it is the board with S = 0. */
 Outcome model_open(Board *board, unsigned symbols) {
     bool good = symbols >= 1 && symbols <= MOST_SYMBOLS;
     *board = (Board){.symbols = good ? symbols : 0};
@@ -93,31 +115,31 @@ Outcome model_rule(Board *board, int16_t *table, size_t numbers, const uint8_t *
     return (Outcome){.added = count, .place = NO_PLACE};
 }
 
-/* Puts a literal into the premises. */
-Outcome model_hold(Board *board, const int16_t *table, size_t numbers, int literal) {
-    unsigned refusal = literal_tests(board, table, numbers, literal);
+/* Puts a literal into the furnace's premises. */
+Outcome model_hold(Board *board, const int16_t *table, size_t numbers, unsigned furnace, int literal) {
+    unsigned refusal = literal_tests(board, table, numbers, furnace, literal);
     if (refusal != 0) return outcome(refusal);
-    if (board->held[place_of(literal)]) return outcome(10);
-    board->held[place_of(literal)] = true;
+    if (premises_of(board, furnace)[place_of(literal)]) return outcome(10);
+    board->held[furnace - 1][place_of(literal)] = true;
     return outcome(0);
 }
 
-/* Takes a literal out of the premises. */
-Outcome model_withdraw(Board *board, const int16_t *table, size_t numbers, int literal) {
-    unsigned refusal = literal_tests(board, table, numbers, literal);
+/* Takes a literal out of the furnace's premises. */
+Outcome model_withdraw(Board *board, const int16_t *table, size_t numbers, unsigned furnace, int literal) {
+    unsigned refusal = literal_tests(board, table, numbers, furnace, literal);
     if (refusal != 0) return outcome(refusal);
-    if (!board->held[place_of(literal)]) return outcome(11);
-    board->held[place_of(literal)] = false;
+    if (!premises_of(board, furnace)[place_of(literal)]) return outcome(11);
+    board->held[furnace - 1][place_of(literal)] = false;
     return outcome(0);
 }
 
 /* Writes labels, ranks and supports. */
-Outcome model_settle(const Board *board, const int16_t *table, size_t numbers, uint8_t *labels, size_t label_count,
+Outcome model_settle(const Board *board, const int16_t *table, size_t numbers, unsigned furnace, uint8_t *labels, size_t label_count,
                      uint16_t *ranks, size_t rank_count, uint16_t *supports, size_t support_count) {
-    if (!board_is_good(board, table, numbers)) return outcome(1);
-    unsigned symbols = board->symbols;
+    unsigned refusal = furnace_tests(board, table, numbers, furnace), symbols = board->symbols;
+    if (refusal != 0) return outcome(refusal);
     if (label_count < symbols || rank_count < 2 * symbols || support_count < 2 * symbols) return outcome(13);
-    Findings found = propagate(board, table);
+    Findings found = propagate(board, furnace, table);
     for (unsigned s = 1; s <= symbols; s++) labels[s - 1] = (uint8_t)label_of(&found, s);
     for (unsigned p = 0; p < 2 * symbols; p++) {
         ranks[p] = (uint16_t)found.rank[p];
@@ -127,10 +149,10 @@ Outcome model_settle(const Board *board, const int16_t *table, size_t numbers, u
 }
 
 /* How a literal stands. */
-Outcome model_ask(const Board *board, const int16_t *table, size_t numbers, int literal) {
-    unsigned refusal = literal_tests(board, table, numbers, literal);
+Outcome model_ask(const Board *board, const int16_t *table, size_t numbers, unsigned furnace, int literal) {
+    unsigned refusal = literal_tests(board, table, numbers, furnace, literal);
     if (refusal != 0) return outcome(refusal);
-    Findings found = propagate(board, table);
+    Findings found = propagate(board, furnace, table);
     if (first_conflict(board, &found) != 0) return (Outcome){.standing = IN_CONFLICT};
     if (derived(&found, place_of(literal))) return (Outcome){.standing = STANDS};
     if (derived(&found, place_of(-literal))) return (Outcome){.standing = RULED_OUT};
@@ -138,13 +160,13 @@ Outcome model_ask(const Board *board, const int16_t *table, size_t numbers, int 
 }
 
 /* Why a derived literal that is not held stands. */
-Outcome model_explain(const Board *board, const int16_t *table, size_t numbers, int literal) {
+Outcome model_explain(const Board *board, const int16_t *table, size_t numbers, unsigned furnace, int literal) {
     Outcome answer = {.rank = NONE, .row = NONE};
-    answer.refusal = literal_tests(board, table, numbers, literal);
+    answer.refusal = literal_tests(board, table, numbers, furnace, literal);
     if (answer.refusal != 0) return answer;
-    Findings found = propagate(board, table);
+    Findings found = propagate(board, furnace, table);
     unsigned place = place_of(literal);
-    if (!derived(&found, place) || board->held[place]) {
+    if (!derived(&found, place) || premises_of(board, furnace)[place]) {
         answer.refusal = 12;
         return answer;
     }
@@ -156,38 +178,39 @@ Outcome model_explain(const Board *board, const int16_t *table, size_t numbers, 
 }
 
 /* Writes the marks: 1 for each premise among the literals seen. */
-static void write_marks(const Board *board, const bool seen[PLACES], uint8_t *marks) {
-    for (unsigned p = 0; p < 2 * board->symbols; p++) marks[p] = seen[p] && board->held[p];
+static void write_marks(const Board *board, unsigned furnace, const bool seen[PLACES], uint8_t *marks) {
+    for (unsigned p = 0; p < 2 * board->symbols; p++) marks[p] = seen[p] && premises_of(board, furnace)[p];
 }
 
 /* Marks the premises that a literal stands on. */
-Outcome model_ground(const Board *board, const int16_t *table, size_t numbers, int literal, uint8_t *marks, size_t mark_count) {
-    unsigned refusal = literal_tests(board, table, numbers, literal);
+Outcome model_ground(const Board *board, const int16_t *table, size_t numbers, unsigned furnace, int literal, uint8_t *marks, size_t mark_count) {
+    unsigned refusal = literal_tests(board, table, numbers, furnace, literal);
     if (refusal != 0) return outcome(refusal);
     if (mark_count < 2 * board->symbols) return outcome(13);
-    Findings found = propagate(board, table);
+    Findings found = propagate(board, furnace, table);
     bool seen[PLACES] = {false};
     if (!derived(&found, place_of(literal))) return outcome(12);
-    walk_back(board, table, &found, place_of(literal), seen);
-    write_marks(board, seen, marks);
+    walk_back(premises_of(board, furnace), table, &found, place_of(literal), seen);
+    write_marks(board, furnace, seen, marks);
     return outcome(0);
 }
 
 /* Writes the marks of a symbol in conflict: the premises reached by +s or -s. */
-void mark_both(const Board *board, const int16_t *table, const Findings *found, unsigned symbol, uint8_t *marks) {
+void mark_both(const Board *board, unsigned furnace, const int16_t *table, const Findings *found, unsigned symbol, uint8_t *marks) {
     bool seen[PLACES] = {false};
-    walk_back(board, table, found, place_of((int)symbol), seen);
-    walk_back(board, table, found, place_of(-(int)symbol), seen);
-    write_marks(board, seen, marks);
+    walk_back(premises_of(board, furnace), table, found, place_of((int)symbol), seen);
+    walk_back(premises_of(board, furnace), table, found, place_of(-(int)symbol), seen);
+    write_marks(board, furnace, seen, marks);
 }
 
 /* Marks the premises behind a conflict. */
-Outcome model_blame(const Board *board, const int16_t *table, size_t numbers, uint8_t *marks, size_t mark_count) {
-    if (!board_is_good(board, table, numbers)) return outcome(1);
+Outcome model_blame(const Board *board, const int16_t *table, size_t numbers, unsigned furnace, uint8_t *marks, size_t mark_count) {
+    unsigned refusal = furnace_tests(board, table, numbers, furnace);
+    if (refusal != 0) return outcome(refusal);
     if (mark_count < 2 * board->symbols) return outcome(13);
-    Findings found = propagate(board, table);
+    Findings found = propagate(board, furnace, table);
     unsigned symbol = blamed_symbol(board, &found);
     if (symbol == 0) return outcome(12);
-    mark_both(board, table, &found, symbol, marks);
+    mark_both(board, furnace, table, &found, symbol, marks);
     return outcome(0);
 }

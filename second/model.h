@@ -1,4 +1,4 @@
-/* Document 01 with Tickets 1, 2, 4 and 5 of document 02 by brute force, for the independent second program.
+/* Document 01 with Tickets 1, 2, 4, 5 and 6 of document 02 by brute force, for the independent second program.
  *
  * Written from these documents and include/tupahineka.h alone. No other code of the project was read for it: what this
  * program and the library share is the documents and nothing else. Slow and by definition, wherever a definition is there. */
@@ -12,6 +12,7 @@
 enum {
     MOST_SYMBOLS = 200,
     PLACES = 400,        /* +s at 2(s-1), -s at the next */
+    FURNACES = 2,        /* numbered from 1 */
     WIDTH = 8,           /* numbers in a row */
     MOST_ROWS = 2048,
     NONE = 65535,        /* no rank, no support */
@@ -31,9 +32,10 @@ enum {
 /* Answers to ask, by the numbers of the C interface. */
 enum { IS_OPEN, STANDS, RULED_OUT, IN_CONFLICT };
 
+/* One S and one count of rows in use; the premises of furnace 1, then those of furnace 2. */
 typedef struct Board {
     unsigned symbols, rows;
-    bool held[PLACES];
+    bool held[FURNACES][PLACES];
 } Board;
 
 /* What any call returns but its board; what a call does not return is 0. */
@@ -93,29 +95,31 @@ unsigned prime_rows(const Rule *rule, int16_t rows[MOST_CLAUSES][WIDTH]);
 /* rounds.c */
 unsigned place_of(int literal);
 int literal_at(unsigned place);
-Findings propagate(const Board *board, const int16_t *table);
+Findings propagate(const Board *board, unsigned furnace, const int16_t *table);
 bool derived(const Findings *found, unsigned place);
 unsigned label_of(const Findings *found, unsigned symbol);
 unsigned first_conflict(const Board *board, const Findings *found);
 unsigned larger_rank(const Findings *found, unsigned symbol);
 unsigned blamed_symbol(const Board *board, const Findings *found);
-void walk_back(const Board *board, const int16_t *table, const Findings *found, unsigned place, bool seen[PLACES]);
+void walk_back(const bool premises[PLACES], const int16_t *table, const Findings *found, unsigned place, bool seen[PLACES]);
 
-/* model.c: the nine calls. */
-bool board_is_good(const Board *board, const int16_t *table, size_t numbers);
+/* model.c: the nine calls, and what they test. */
 size_t rows_lent(size_t numbers);
+bool is_furnace(unsigned number);
+const bool *premises_of(const Board *board, unsigned furnace);
+bool board_is_good(const Board *board, const int16_t *table, size_t numbers);
 Outcome model_open(Board *board, unsigned symbols);
 Outcome formula_breaks(const uint8_t *formula, size_t bytes, unsigned symbols);
 Outcome model_rule(Board *board, int16_t *table, size_t numbers, const uint8_t *formula, size_t bytes);
-Outcome model_hold(Board *board, const int16_t *table, size_t numbers, int literal);
-Outcome model_withdraw(Board *board, const int16_t *table, size_t numbers, int literal);
-Outcome model_settle(const Board *board, const int16_t *table, size_t numbers, uint8_t *labels, size_t label_count,
+Outcome model_hold(Board *board, const int16_t *table, size_t numbers, unsigned furnace, int literal);
+Outcome model_withdraw(Board *board, const int16_t *table, size_t numbers, unsigned furnace, int literal);
+Outcome model_settle(const Board *board, const int16_t *table, size_t numbers, unsigned furnace, uint8_t *labels, size_t label_count,
                      uint16_t *ranks, size_t rank_count, uint16_t *supports, size_t support_count);
-Outcome model_ask(const Board *board, const int16_t *table, size_t numbers, int literal);
-Outcome model_explain(const Board *board, const int16_t *table, size_t numbers, int literal);
-Outcome model_ground(const Board *board, const int16_t *table, size_t numbers, int literal, uint8_t *marks, size_t mark_count);
-void mark_both(const Board *board, const int16_t *table, const Findings *found, unsigned symbol, uint8_t *marks);
-Outcome model_blame(const Board *board, const int16_t *table, size_t numbers, uint8_t *marks, size_t mark_count);
+Outcome model_ask(const Board *board, const int16_t *table, size_t numbers, unsigned furnace, int literal);
+Outcome model_explain(const Board *board, const int16_t *table, size_t numbers, unsigned furnace, int literal);
+Outcome model_ground(const Board *board, const int16_t *table, size_t numbers, unsigned furnace, int literal, uint8_t *marks, size_t mark_count);
+void mark_both(const Board *board, unsigned furnace, const int16_t *table, const Findings *found, unsigned symbol, uint8_t *marks);
+Outcome model_blame(const Board *board, const int16_t *table, size_t numbers, unsigned furnace, uint8_t *marks, size_t mark_count);
 
 /* dimacs.c: text in and out, two calls more. */
 bool text_has_header(const uint8_t *text, size_t bytes, Form *form);
@@ -142,6 +146,6 @@ bool text_can_go_on(const uint8_t *text, size_t length);
 bool text_leaves_form_at(const uint8_t *text, size_t length, size_t place);
 
 /* byrule.c: demand 3's second way, without clauses. */
-void force_by_rules(const Rule *rules, size_t count, const bool held[PLACES], bool forced[PLACES]);
+void force_by_rules(const Rule *rules, size_t count, const bool premises[PLACES], bool forced[PLACES]);
 
 #endif

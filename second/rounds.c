@@ -22,9 +22,9 @@ static bool gives(const int16_t *row, unsigned i, const Findings *found, unsigne
 }
 
 /* Rank 0 for the premises, none for the others. */
-static void start(const Board *board, Findings *found) {
+static void start(const bool premises[PLACES], Findings *found) {
     for (unsigned p = 0; p < PLACES; p++) {
-        found->rank[p] = board->held[p] ? 0 : NONE;
+        found->rank[p] = premises[p] ? 0 : NONE;
         found->support[p] = NONE;
     }
 }
@@ -44,26 +44,27 @@ static bool find_round(const Board *board, const int16_t *table, const Findings 
 }
 
 /* Gives each derived literal that is not held the lowest-numbered row that gave it its rank. */
-static void find_supports(const Board *board, const int16_t *table, Findings *found) {
+static void find_supports(const Board *board, const bool premises[PLACES], const int16_t *table, Findings *found) {
     for (unsigned r = 0; r < board->rows; r++) {
         const int16_t *row = table + WIDTH * r;
         for (unsigned i = 0; i < WIDTH && row[i] != 0; i++) {
             unsigned p = place_of(row[i]), k = found->rank[p];
-            if (k == NONE || board->held[p] || found->support[p] != NONE) continue;
+            if (k == NONE || premises[p] || found->support[p] != NONE) continue;
             if (gives(row, i, found, k)) found->support[p] = r;
         }
     }
 }
 
-/* Rounds until one adds nothing; the board is good. */
-Findings propagate(const Board *board, const int16_t *table) {
+/* Rounds from a furnace's premises until one adds nothing; the board is good. */
+Findings propagate(const Board *board, unsigned furnace, const int16_t *table) {
+    const bool *premises = premises_of(board, furnace);
     Findings found;
     bool added[PLACES];
-    start(board, &found);
+    start(premises, &found);
     for (unsigned k = 1; find_round(board, table, &found, k, added); k++)
         for (unsigned p = 0; p < PLACES; p++)
             if (added[p]) found.rank[p] = k;
-    find_supports(board, table, &found);
+    find_supports(board, premises, table, &found);
     return found;
 }
 
@@ -78,7 +79,7 @@ unsigned label_of(const Findings *found, unsigned symbol) {
     return (derived(found, plus) ? 1u : 0u) + (derived(found, plus + 1) ? 2u : 0u);
 }
 
-/* The lowest symbol with label 3, or 0 if the board is not in conflict. */
+/* The lowest symbol with label 3, or 0 where there is no conflict among the findings, which are of one furnace's premises. */
 unsigned first_conflict(const Board *board, const Findings *found) {
     for (unsigned s = 1; s <= board->symbols; s++)
         if (label_of(found, s) == 3) return s;
@@ -91,8 +92,8 @@ unsigned larger_rank(const Findings *found, unsigned symbol) {
     return plus > minus ? plus : minus;
 }
 
-/* The symbol that blame takes, or 0 if the board is not in conflict: "among symbols with label 3, the one whose larger rank of its two literals is
- * smallest, and of equals the lowest symbol". */
+/* The symbol that blame takes, or 0 where there is no conflict among the findings: "among symbols with label 3, the one whose larger rank of its two
+ * literals is smallest, and of equals the lowest symbol". */
 unsigned blamed_symbol(const Board *board, const Findings *found) {
     unsigned taken = 0;
     for (unsigned s = 1; s <= board->symbols; s++) {
@@ -103,11 +104,11 @@ unsigned blamed_symbol(const Board *board, const Findings *found) {
 }
 
 /* Marks every derived literal met on the way back from a place along the supports; a held one is an end. */
-void walk_back(const Board *board, const int16_t *table, const Findings *found, unsigned place, bool seen[PLACES]) {
+void walk_back(const bool premises[PLACES], const int16_t *table, const Findings *found, unsigned place, bool seen[PLACES]) {
     if (seen[place]) return;
     seen[place] = true;
-    if (board->held[place]) return;
+    if (premises[place]) return;
     const int16_t *row = table + WIDTH * found->support[place];
     for (unsigned i = 0; i < WIDTH && row[i] != 0; i++)
-        if (place_of(row[i]) != place) walk_back(board, table, found, place_of(-row[i]), seen);
+        if (place_of(row[i]) != place) walk_back(premises, table, found, place_of(-row[i]), seen);
 }

@@ -1,12 +1,9 @@
 /* Boards on which rows are easily found too late, too early, once too often or not at all, and boards on which blame easily takes another symbol. The
  * ranks and supports of each, and the premises to blame, were worked out by hand from documents 01 and 02; they are held against the model and the
- * library alike. */
+ * library alike, for each furnace while the other one holds the opposites. */
 #include "rowtries.h"
 
-#include <stdio.h>
-#include <string.h>
-
-#include "cover.h"
+#include "tries.h"
 
 enum { TRY_ROWS = 6, TRY_HELD = 7, TRY_FOUND = 14 };
 
@@ -75,97 +72,88 @@ static const Try tries[] = {
      {{3, 0, NONE}, {2, 1, 0}, {-2, 1, 1}, {1, 1, 2}, {-1, 2, 3}, {-3, 3, 2}}, {0}},
 };
 
-/* Makes a call with the whole table and ample tables to write, and counts it; false where the sides differ. */
-static bool call(Play *play, Kind kind, int value) {
-    size_t first = kind == SETTLE ? MOST_SYMBOLS : PLACES;
-    Step step = {.kind = kind, .value = value, .numbers = WIDTH * MOST_ROWS, .lent = {first, PLACES, PLACES}};
-    if (!play_step(play, &step)) return false;
-    cover_step(play, &step);
-    return true;
+/* What was worked out for a literal; neither rank nor support for one that is not among those derived. */
+static Found found_for(const Try *try, int literal) {
+    for (unsigned i = 0; i < TRY_FOUND && try->found[i].literal != 0; i++)
+        if (try->found[i].literal == literal) return try->found[i];
+    return (Found){literal, NONE, NONE};
 }
 
-/* Makes a call that has to be done. */
-static bool make(Play *play, Kind kind, int value) {
-    return call(play, kind, value) && play->last.refusal == 0;
-}
-
-/* Adds a row of the caller's. */
-static void append(Play *play, const int16_t *row) {
-    Step step = {.kind = APPEND_ROW};
-    memcpy(step.row, row, sizeof step.row);
-    play_step(play, &step);
-    cover_step(play, &step);
+/* Makes a call for a furnace with 2,048 rows and ample tables to write, and counts it; false where the sides differ or the refusal is another. */
+static bool make(Play *play, Kind kind, unsigned furnace, int value, unsigned refusal) {
+    Step step = try_step(kind, furnace, value);
+    step.numbers = WIDTH * MOST_ROWS;
+    return try_counted(play, &step) && play->last.refusal == refusal;
 }
 
 /* Adds a link of a chain: a symbol implies the next one. */
 static void append_link(Play *play, unsigned from) {
-    append(play, (int16_t[WIDTH]){(int16_t)-(int)from, (int16_t)(from + 1)});
+    try_row(play, (int16_t[WIDTH]){(int16_t)-(int)from, (int16_t)(from + 1)});
+}
+
+/* Holds a premise, and its opposite for the other furnace. */
+static bool hold(Play *play, unsigned furnace, int premise) {
+    return make(play, HOLD, furnace, premise, 0) && make(play, HOLD, 3 - furnace, -premise, 0);
 }
 
 /* Opens the board, with its rows and premises. */
-static bool set_up(Play *play, const Try *try) {
-    bool good = make(play, OPEN, (int)try->symbols);
-    for (unsigned n = 1; n < try->times; n++) append(play, try->row[0]);
-    for (unsigned r = 0; r < TRY_ROWS && try->row[r][0] != 0; r++) append(play, try->row[r]);
-    for (unsigned i = 0; i < TRY_HELD && try->held[i] != 0; i++) good = good && make(play, HOLD, try->held[i]);
+static bool set_up(Play *play, unsigned furnace, const Try *try) {
+    play_start(play, 8, true);
+    bool good = make(play, OPEN, 0, (int)try->symbols, 0);
+    for (unsigned n = 1; n < try->times; n++) try_row(play, try->row[0]);
+    for (unsigned r = 0; r < TRY_ROWS && try->row[r][0] != 0; r++) try_row(play, try->row[r]);
+    for (unsigned i = 0; i < TRY_HELD && try->held[i] != 0; i++) good = good && hold(play, furnace, try->held[i]);
     return good;
 }
 
 /* True if settle gives the ranks and supports that were worked out, and no others. */
-static bool settles(Play *play, const Try *try) {
-    unsigned rank[PLACES], support[PLACES];
-    bool good = make(play, SETTLE, 0);
-    for (unsigned p = 0; p < PLACES; p++) rank[p] = support[p] = NONE;
-    for (unsigned i = 0; i < TRY_FOUND && try->found[i].literal != 0; i++) {
-        rank[place_of(try->found[i].literal)] = try->found[i].rank;
-        support[place_of(try->found[i].literal)] = try->found[i].support;
+static bool settles(Play *play, unsigned furnace, const Try *try) {
+    bool good = make(play, SETTLE, furnace, 0, 0);
+    for (unsigned p = 0; p < 2 * try->symbols && good; p++) {
+        Found found = found_for(try, literal_at(p));
+        good = play->ours.ranks[GUARD + p] == found.rank && play->ours.supports[GUARD + p] == found.support;
     }
-    for (unsigned p = 0; p < 2 * try->symbols; p++)
-        good = good && play->ours.ranks[GUARD + p] == rank[p] && play->ours.supports[GUARD + p] == support[p];
     return good;
 }
 
-/* Asks, explains and grounds every literal of the board; the two sides have to agree. */
-static bool follows(Play *play, const Try *try) {
-    static const Kind kinds[] = {ASK, EXPLAIN, GROUND};
+/* Asks, explains and grounds every literal of the board: an answer for each, a reason for those with a support, a ground for those with a rank. */
+static bool follows(Play *play, unsigned furnace, const Try *try) {
     bool good = true;
-    for (unsigned p = 0; p < 2 * try->symbols && good; p++)
-        for (unsigned k = 0; k < 3 && good; k++) good = call(play, kinds[k], literal_at(p));
+    for (unsigned p = 0; p < 2 * try->symbols && good; p++) {
+        Found found = found_for(try, literal_at(p));
+        good = make(play, ASK, furnace, found.literal, 0) && make(play, EXPLAIN, furnace, found.literal, found.support == NONE ? 12 : 0) &&
+               make(play, GROUND, furnace, found.literal, found.rank == NONE ? 12 : 0);
+    }
     return good;
-}
-
-/* True if the last call was done and marked these premises, so many at most, and no others. */
-static bool marked(const Play *play, const int *premises, unsigned most) {
-    uint8_t marks[PLACES] = {0};
-    for (unsigned i = 0; i < most && premises[i] != 0; i++) marks[place_of(premises[i])] = 1;
-    return play->last.refusal == 0 && memcmp(play->ours.marks + GUARD, marks, 2 * play->board.symbols) == 0;
 }
 
 /* True if some literal and its opposite are among those worked out. */
 static bool in_conflict(const Try *try) {
-    bool found[PLACES] = {false}, both = false;
-    for (unsigned i = 0; i < TRY_FOUND && try->found[i].literal != 0; i++) {
-        found[place_of(try->found[i].literal)] = true;
-        both |= found[place_of(-try->found[i].literal)];
-    }
-    return both;
+    for (unsigned i = 0; i < TRY_FOUND && try->found[i].literal != 0; i++)
+        if (found_for(try, -try->found[i].literal).rank != NONE) return true;
+    return false;
 }
 
 /* True if blame is refused where there is no conflict, and otherwise marks the premises that were worked out. */
-static bool blames(Play *play, const Try *try) {
-    return call(play, BLAME, 0) && (in_conflict(try) ? marked(play, try->blamed, TRY_HELD) : play->last.refusal == 12);
+static bool blames(Play *play, unsigned furnace, const Try *try) {
+    return in_conflict(try) ? make(play, BLAME, furnace, 0, 0) && try_marked(play, try->blamed, TRY_HELD) : make(play, BLAME, furnace, 0, 12);
+}
+
+/* True if a board comes out as it was worked out; literal by literal too, where that is not too long. */
+static bool board_agrees(Play *play, unsigned furnace, const Try *try) {
+    return set_up(play, furnace, try) && settles(play, furnace, try) && (try->times > 1 || follows(play, furnace, try)) && blames(play, furnace, try);
 }
 
 /* A chain over all symbols in a full table, each link many times over, and a last row that leads back along the opposites: s has rank s - 1 and -s
  * rank 399 - s, both by the first row of their link, but -200 by the last row. */
-static bool try_full_chain(Play *play) {
+static bool full_chain_agrees(Play *play, unsigned furnace) {
     const unsigned links = MOST_SYMBOLS - 1, turn = MOST_ROWS - 1;
     const uint16_t *ranks = play->ours.ranks + GUARD, *supports = play->ours.supports + GUARD;
     play_start(play, 8, true);
-    bool good = make(play, OPEN, MOST_SYMBOLS);
+    bool good = make(play, OPEN, 0, MOST_SYMBOLS, 0);
     for (unsigned r = 0; r < turn; r++) append_link(play, r % links + 1);
-    append(play, (int16_t[WIDTH]){-199, -200});
-    good = good && make(play, HOLD, 1) && make(play, SETTLE, 0);
+    try_row(play, (int16_t[WIDTH]){-199, -200});
+    good = good && hold(play, furnace, 1) && make(play, SETTLE, furnace, 0, 0);
     for (unsigned s = 1; s <= MOST_SYMBOLS && good; s++) {
         unsigned plus = place_of((int)s), minus = place_of(-(int)s);
         good = ranks[plus] == s - 1 && supports[plus] == (s == 1 ? NONE : s - 2) && ranks[minus] == 399 - s &&
@@ -176,35 +164,26 @@ static bool try_full_chain(Play *play) {
 
 /* A chain from 2 on and back: s has rank s - 2 and -s rank 398 - s, so that 200 is in conflict first, in round 198. 1 is held, and -1 has rank 256 by
  * -143 and -144: cut to a byte it would be the smallest of all. */
-static bool try_high_ranks(Play *play) {
+static bool high_ranks_agree(Play *play, unsigned furnace) {
     const uint16_t *ranks = play->ours.ranks + GUARD;
     play_start(play, 8, true);
-    bool good = make(play, OPEN, MOST_SYMBOLS);
+    bool good = make(play, OPEN, 0, MOST_SYMBOLS, 0);
     for (unsigned s = 2; s < MOST_SYMBOLS; s++) append_link(play, s);
-    append(play, (int16_t[WIDTH]){-199, -200});
-    append(play, (int16_t[WIDTH]){-1, 143, 144});
-    good = good && make(play, HOLD, 1) && make(play, HOLD, 2) && make(play, SETTLE, 0) && ranks[place_of(1)] == 0 && ranks[place_of(-1)] == 256;
+    try_row(play, (int16_t[WIDTH]){-199, -200});
+    try_row(play, (int16_t[WIDTH]){-1, 143, 144});
+    good = good && hold(play, furnace, 1) && hold(play, furnace, 2) && make(play, SETTLE, furnace, 0, 0) && ranks[place_of(1)] == 0 &&
+           ranks[place_of(-1)] == 256;
     for (unsigned s = 2; s <= MOST_SYMBOLS && good; s++) good = ranks[place_of((int)s)] == s - 2 && ranks[place_of(-(int)s)] == 398 - s;
-    return good && call(play, BLAME, 0) && marked(play, (int[]){2}, 1);
+    return good && make(play, BLAME, furnace, 0, 0) && try_marked(play, (int[]){2}, 1);
 }
 
-/* Says which board went wrong, and how; false, so that the caller can return it. */
-static bool wrong(const Play *play, const char *words) {
-    printf("second: not as worked out by hand: %s; %s\n", words, play->difference[0] != 0 ? play->difference : "by the model");
-    return false;
-}
-
-/* True if a board comes out as it was worked out; literal by literal too, where that is not too long. */
-static bool board_agrees(Play *play, const Try *try) {
-    play_start(play, 8, true);
-    bool good = set_up(play, try) && settles(play, try) && (try->times > 1 || follows(play, try)) && blames(play, try);
-    return good || wrong(play, try->words);
-}
-
-/* True if all boards come out as they were worked out. */
+/* True if all boards come out as they were worked out, for each furnace; says which one does not. */
 bool row_tries_agree(Play *play) {
-    for (size_t i = 0; i < sizeof tries / sizeof tries[0]; i++)
-        if (!board_agrees(play, &tries[i])) return false;
-    return (try_full_chain(play) || wrong(play, "a chain over all symbols and back in a full table")) &&
-           (try_high_ranks(play) || wrong(play, "a chain and back, ranks of more than a byte"));
+    for (unsigned f = 1; f <= FURNACES; f++) {
+        for (size_t i = 0; i < sizeof tries / sizeof tries[0]; i++)
+            if (!board_agrees(play, f, &tries[i])) return try_wrong(play, tries[i].words, "furnace", f);
+        if (!full_chain_agrees(play, f)) return try_wrong(play, "a chain over all symbols and back in a full table", "furnace", f);
+        if (!high_ranks_agree(play, f)) return try_wrong(play, "a chain and back, ranks of more than a byte", "furnace", f);
+    }
+    return true;
 }

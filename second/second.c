@@ -1,7 +1,7 @@
 /* The independent second program of Tupahineka: random sequences of calls, the library against the documents by brute force.
  *
- * Written from document 01, Tickets 1, 2, 4 and 5 of document 02, the project's exact readings of Ticket 5 and include/tupahineka.h alone; no other
- * code of the project was read for it.
+ * Written from document 01, Tickets 1, 2, 4, 5 and 6 of document 02, the project's exact readings of Tickets 5 and 6 and include/tupahineka.h alone.
+ * No proved code was read for it; of the project's other files only those that build and run it: Makefile, tests/panel.sh and tools/kit.sh.
  *
  *   second SEED COUNT               plays COUNT sequences and compares everything after every call
  *   second show SEED NUMBER         prints sequence NUMBER in words, by the model alone
@@ -12,10 +12,12 @@
 #include <stdlib.h>
 #include <string.h>
 
+#include "apart.h"
 #include "cnf.h"
 #include "cover.h"
 #include "document.h"
 #include "draw.h"
+#include "furnacetries.h"
 #include "journal.h"
 #include "rowtries.h"
 #include "spelttrials.h"
@@ -72,16 +74,22 @@ static bool play_sequence(uint64_t seed, uint64_t number, bool with_library) {
     return true;
 }
 
-/* Plays one sequence, and writes the last board of every fourth as text and back; says where it differs. */
+/* Says which sequence it was; false, so that the caller can return it. */
+static bool wrong_sequence(const char *what) {
+    printf("second: %s sequence %llu; print it with: second show %llu %llu\n", what, now_number, now_seed, now_number);
+    return false;
+}
+
+/* Plays one sequence. Where its number is divisible by 4, its last board is written as text and read back; where 2 is left over, the library plays it
+ * again without furnace 1's premises, and without furnace 2's. Says where it differs. */
 static bool sequence_agrees(uint64_t seed, uint64_t number) {
     now_number = number;
     if (!play_sequence(seed, number, true)) {
         report(seed, number);
         return false;
     }
-    if (number % 4 != 0 || trip_back(&play)) return true;
-    printf("second: the last board of sequence %llu; print it with: second show %llu %llu\n", now_number, now_seed, now_number);
-    return false;
+    if (number % 4 == 0) return trip_back(&play) || wrong_sequence("the last board of");
+    return number % 4 != 2 || furnaces_apart(&play, draft.steps, draft.count, noise_for(seed, number)) || wrong_sequence("in");
 }
 
 /* Formula texts: by hand, on the boards to try, damaged, long, there and back, at every room, and by the definition of 15. */
@@ -93,8 +101,8 @@ static bool spelt_agree(uint64_t seed) {
 /* The boards that the documents name, those worked out by hand, then the texts. */
 static bool trials_agree(uint64_t seed) {
     in_trials = true;
-    return document_agrees(&play) && row_tries_agree(&play) && spellings_agree(&play) && torn_texts_agree(&play, seed) && long_texts_agree(&play) &&
-           rooms_agree(&play, seed) && rules_agree(&play, seed) && spelt_agree(seed);
+    return document_agrees(&play) && furnace_tries_agree(&play) && row_tries_agree(&play) && spellings_agree(&play) &&
+           torn_texts_agree(&play, seed) && long_texts_agree(&play) && rooms_agree(&play, seed) && rules_agree(&play, seed) && spelt_agree(seed);
 }
 
 /* Plays all sequences of a seed, then what is to be tried besides. */

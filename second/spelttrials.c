@@ -3,22 +3,20 @@
 
 #include <stdio.h>
 
-#include "cover.h"
+#include "tries.h"
 
 static Kind last_kind;
 
-/* Plays a step and counts it. */
+/* Plays a step, counts it and notes its kind. */
 static bool make(Play *play, const Step *step) {
     last_kind = step->kind;
-    if (!play_step(play, step)) return false;
-    cover_step(play, step);
-    return true;
+    return try_counted(play, step);
 }
 
-/* Opens a board; with 0 symbols there is none. */
+/* Opens a board, which has to be done; with 0 symbols there is none. */
 bool spelt_open(Play *play, unsigned symbols) {
     Step step = {.kind = OPEN, .value = (int)symbols};
-    return make(play, &step);
+    return make(play, &step) && (symbols == 0 || play->last.refusal == 0);
 }
 
 /* Reads a text to bytes: so many of it given, with more standing there, and so much room. */

@@ -6,6 +6,7 @@
 #include "cover.h"
 #include "speller.h"
 #include "spelttrials.h"
+#include "tries.h"
 
 enum { TRIPS = 3000, ROOMS = 40, SOUPS = 25000, LONGEST_SOUP = 80, ADDED_FIRST = 3 };
 
@@ -65,11 +66,12 @@ static bool writes(Play *play, size_t *length) {
     return true;
 }
 
-/* Opens a board with a few rows in use and a premise; the same one every time. */
+/* Opens a board with a few rows in use, a premise of furnace 1 and its opposite of furnace 2; the same one every time. */
 static bool set_up(Play *play, unsigned symbols) {
-    Step hold = {.kind = HOLD, .value = (int)symbols, .numbers = TABLE_LENDABLE};
-    bool good = spelt_open(play, symbols) && play_step(play, &hold);
-    for (unsigned i = 0; i < ADDED_FIRST && good; i++) good = spelt_rule(play, (const uint8_t *)"\x10\x01", 2, TABLE_LENDABLE);
+    int premise = (int)symbols;
+    bool good = spelt_open(play, symbols) && try_call(play, HOLD, 1, premise, 0) && try_call(play, HOLD, 2, -premise, 0);
+    for (unsigned i = 0; i < ADDED_FIRST && good; i++)
+        good = spelt_rule(play, (const uint8_t *)"\x10\x01", 2, TABLE_LENDABLE) && spelt_gave(play, 0, NO_PLACE, 0);
     return good;
 }
 

@@ -11,6 +11,11 @@ static void past_the_last_row(Tables *tables) {
         tables->table[GUARD + place] = place % WIDTH == 0;
 }
 
+/* True if the call names a furnace. */
+bool names_furnace(Kind kind) {
+    return kind >= HOLD && kind <= BLAME;
+}
+
 /* True if the call is given formula bytes. */
 bool gives_formula(Kind kind) {
     return kind == RULE || kind == TO_TEXT;
@@ -60,7 +65,7 @@ static void lend_bytes(const Step *step, bool given, const uint8_t *bytes, size_
 }
 
 /* Fresh noise in the tables that calls write, and the formula or the text with what stands after it, on both sides. */
-static void lend(Play *play, const Step *step) {
+void lend(Play *play, const Step *step) {
     Tables *ours = &play->ours, *theirs = &play->theirs;
     size_t from = offsetof(Tables, ranks), bytes = offsetof(Tables, formula) - from;
     random_fill(step->noise, (char *)ours + from, bytes);
@@ -81,43 +86,39 @@ static Outcome model_call(const Step *step, Board *board, Tables *tables) {
     case TO_TEXT: return model_to_text(board, table, step->numbers, formula, step->bytes, text, step->lent[0]);
     case READ: return model_read(board, table, step->numbers, text, step->bytes);
     case WRITE: return model_write(board, table, step->numbers, text, step->lent[0]);
-    case HOLD: return model_hold(board, table, step->numbers, step->value);
-    case WITHDRAW: return model_withdraw(board, table, step->numbers, step->value);
+    case HOLD: return model_hold(board, table, step->numbers, step->furnace, step->value);
+    case WITHDRAW: return model_withdraw(board, table, step->numbers, step->furnace, step->value);
     case SETTLE:
-        return model_settle(board, table, step->numbers, tables->labels + GUARD, step->lent[0], tables->ranks + GUARD,
+        return model_settle(board, table, step->numbers, step->furnace, tables->labels + GUARD, step->lent[0], tables->ranks + GUARD,
                             step->lent[1], tables->supports + GUARD, step->lent[2]);
-    case ASK: return model_ask(board, table, step->numbers, step->value);
-    case EXPLAIN: return model_explain(board, table, step->numbers, step->value);
-    case GROUND: return model_ground(board, table, step->numbers, step->value, marks, step->lent[0]);
-    default: return model_blame(board, table, step->numbers, marks, step->lent[0]);
+    case ASK: return model_ask(board, table, step->numbers, step->furnace, step->value);
+    case EXPLAIN: return model_explain(board, table, step->numbers, step->furnace, step->value);
+    case GROUND: return model_ground(board, table, step->numbers, step->furnace, step->value, marks, step->lent[0]);
+    default: return model_blame(board, table, step->numbers, step->furnace, marks, step->lent[0]);
     }
 }
 
-/* The caller appends a row of his own, on one side. */
-static void append_row(const Step *step, unsigned rows, Tables *tables) {
+/* What the caller himself writes into the clause table; returns the rows in use after it. */
+static uint16_t caller_writes(const Step *step, unsigned rows, Tables *tables) {
+    if (step->kind == SET_NUMBER) tables->table[GUARD + step->place] = (int16_t)step->value;
+    if (step->kind == SET_ROWS) return (uint16_t)step->value;
+    if (step->kind != APPEND_ROW || rows >= MOST_ROWS) return (uint16_t)rows;
     memcpy(tables->table + GUARD + WIDTH * rows, step->row, sizeof step->row);
+    return (uint16_t)(rows + 1);
 }
 
-/* What the caller does himself, on both sides. */
-static void caller_acts(Play *play, const Step *step) {
-    Board *board = &play->board;
-    tup_board *theirs = &play->library_board;
-    switch (step->kind) {
-    case SET_SYMBOLS: board->symbols = theirs->symbols = (uint16_t)step->value; break;
-    case SET_ROWS: board->rows = theirs->rows = (uint16_t)step->value; break;
-    case SET_HELD:
-        board->held[step->place] = step->value != 0;
-        theirs->held[step->place] = (uint8_t)step->value;
-        break;
-    case SET_NUMBER:
-        play->ours.table[GUARD + step->place] = play->theirs.table[GUARD + step->place] = (int16_t)step->value;
-        break;
-    default:
-        if (board->rows >= MOST_ROWS) break;
-        append_row(step, board->rows, &play->ours);
-        append_row(step, board->rows, &play->theirs);
-        board->rows = theirs->rows = (uint16_t)(board->rows + 1);
-    }
+/* What the caller does himself, on the library's side. */
+void caller_acts(const Step *step, tup_board *board, Tables *tables) {
+    board->rows = caller_writes(step, board->rows, tables);
+    if (step->kind == SET_SYMBOLS) board->symbols = (uint16_t)step->value;
+    if (step->kind == SET_HELD) board->held[step->furnace - 1][step->place] = (uint8_t)step->value;
+}
+
+/* The same on the model's side. */
+static void model_caller_acts(const Step *step, Board *board, Tables *tables) {
+    board->rows = caller_writes(step, board->rows, tables);
+    if (step->kind == SET_SYMBOLS) board->symbols = (uint16_t)step->value;
+    if (step->kind == SET_HELD) board->held[step->furnace - 1][step->place] = step->value != 0;
 }
 
 /* Puts each clause of a text that was read into the book as a rule. */
@@ -172,7 +173,8 @@ bool book_covers(const Play *play) {
 bool play_step(Play *play, const Step *step) {
     play->demand_3 = false;
     if (step->kind >= CALLS) {
-        caller_acts(play, step);
+        model_caller_acts(step, &play->board, &play->ours);
+        caller_acts(step, &play->library_board, &play->theirs);
         return true;
     }
     lend(play, step);
@@ -185,5 +187,5 @@ bool play_step(Play *play, const Step *step) {
     }
     keep_book(play, step, &play->last);
     play->demand_3 = step->kind == SETTLE && play->last.refusal == 0 && book_covers(play);
-    return !play->demand_3 || same_by_rules(play);
+    return !play->demand_3 || same_by_rules(play, step);
 }

@@ -24,7 +24,7 @@ typedef enum Kind {
     CALLS,
     SET_SYMBOLS = CALLS, /* the caller writes S = value into the board */
     SET_ROWS,            /* the caller writes rows in use = value */
-    SET_HELD,            /* the caller writes the byte value at place */
+    SET_HELD,            /* the caller writes the byte value at place of a furnace's premises */
     SET_NUMBER,          /* the caller writes the number value at a place of the clause table */
     APPEND_ROW,          /* the caller writes a row of his own after the rows in use, and counts it in */
     KINDS
@@ -33,6 +33,7 @@ typedef enum Kind {
 typedef struct Step {
     Kind kind;
     int value;
+    unsigned furnace;        /* that the call names, any byte; 1 or 2 where the caller writes into its premises */
     unsigned place;
     int16_t row[WIDTH];
     size_t numbers;          /* numbers of the clause table lent */
@@ -77,12 +78,15 @@ typedef struct Play {
 } Play;
 
 /* steps.c */
+bool names_furnace(Kind kind);
 bool gives_formula(Kind kind);
 bool gives_text(Kind kind);
 bool spells(Kind kind);
 size_t text_window(const Step *step);
 size_t formula_window(const Step *step);
 void play_start(Play *play, uint64_t seed, bool with_library);
+void lend(Play *play, const Step *step);
+void caller_acts(const Step *step, tup_board *board, Tables *tables);
 bool play_step(Play *play, const Step *step);
 bool book_covers(const Play *play);
 
@@ -90,8 +94,11 @@ bool book_covers(const Play *play);
 Outcome library_call(const Step *step, tup_board *board, Tables *tables);
 
 /* compare.c */
+bool same(Play *play, const char *what, long place, unsigned theirs, unsigned ours);
+bool same_outcome(Play *play, const Outcome *ours, const Outcome *theirs);
+bool same_tables(Play *play, const Step *step);
 bool same_everywhere(Play *play, const Step *step, const Outcome *ours, const Outcome *theirs);
-bool same_by_rules(Play *play);
+bool same_by_rules(Play *play, const Step *step);
 bool marks_are_enough(Play *play, const Step *step);
 
 /* words.c */

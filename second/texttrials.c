@@ -4,31 +4,24 @@
 #include <stdio.h>
 #include <string.h>
 
-#include "cover.h"
+#include "tries.h"
 
-/* Plays a step and counts it. */
-static bool make(Play *play, const Step *step) {
-    if (!play_step(play, step)) return false;
-    cover_step(play, step);
-    return true;
-}
-
-/* Opens a board; with 0 symbols there is none. */
+/* Opens a board, which has to be done; with 0 symbols there is none. */
 bool text_open(Play *play, unsigned symbols) {
     Step step = {.kind = OPEN, .value = (int)symbols};
-    return make(play, &step);
+    return try_counted(play, &step) && (symbols == 0 || play->last.refusal == 0);
 }
 
 /* Reads a text of so many bytes, with more of them standing there. */
 bool text_read(Play *play, const uint8_t *text, size_t bytes, size_t standing, size_t numbers, bool torn) {
     Step step = {.kind = READ, .text = text, .bytes = bytes, .standing = standing, .numbers = numbers, .noise = 1, .torn = torn};
-    return make(play, &step);
+    return try_counted(play, &step);
 }
 
 /* Writes the rows in use to so much room. */
 bool text_write(Play *play, size_t numbers, size_t room) {
     Step step = {.kind = WRITE, .numbers = numbers, .lent = {room}, .noise = 2 * room + 1};
-    return make(play, &step);
+    return try_counted(play, &step);
 }
 
 /* Says which text went wrong, and how; false, so that the caller can return it. */

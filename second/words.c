@@ -71,9 +71,9 @@ static void print_row(const int16_t *row) {
     if (last == 0) printf(" (nothing but zeros)");
 }
 
-/* Prints what a call is lent. */
+/* Prints what a call other than open is lent. */
 static void print_lent(const Step *step) {
-    if (step->kind != OPEN) printf("; table of %zu numbers (%zu rows)", step->numbers, rows_lent(step->numbers));
+    printf("; table of %zu numbers (%zu rows)", step->numbers, rows_lent(step->numbers));
     if (step->kind == SETTLE) printf("; %zu labels, %zu ranks, %zu supports lent", step->lent[0], step->lent[1], step->lent[2]);
     if (step->kind == GROUND || step->kind == BLAME) printf("; %zu marks lent", step->lent[0]);
     if (step->kind == WRITE || step->kind == TO_BYTES || step->kind == TO_TEXT) printf("; %zu bytes lent", step->lent[0]);
@@ -86,13 +86,15 @@ void print_step(const Step *step, size_t ordinal) {
     switch (step->kind) {
     case SET_SYMBOLS: printf("the caller sets S to %d", step->value); break;
     case SET_ROWS: printf("the caller sets rows in use to %d", step->value); break;
-    case SET_HELD: printf("the caller sets the held byte of %d to %d", literal_at(step->place), step->value); break;
+    case SET_HELD: printf("the caller sets furnace %u's held byte of %d to %d", step->furnace, literal_at(step->place), step->value); break;
     case SET_NUMBER: printf("the caller sets row %u, place %u of it, to %d", step->place / WIDTH, step->place % WIDTH, step->value); break;
     case APPEND_ROW: printf("the caller appends the row"), print_row(step->row); break;
     case RULE: case TO_TEXT: printf("%s ", words[step->kind]), print_formula(step), print_lent(step); break;
     case READ: case TEXT_RULE: case TO_BYTES: printf("%s ", words[step->kind]), print_text(step->text, step->bytes), print_lent(step); break;
-    case SETTLE: case BLAME: case WRITE: printf("%s", words[step->kind]), print_lent(step); break;
-    default: printf("%s %d", words[step->kind], step->value), print_lent(step);
+    case OPEN: printf("open %d", step->value); break;
+    case WRITE: printf("write"), print_lent(step); break;
+    case SETTLE: case BLAME: printf("%s for furnace %u", words[step->kind], step->furnace), print_lent(step); break;
+    default: printf("%s %d for furnace %u", words[step->kind], step->value, step->furnace), print_lent(step);
     }
     printf("\n");
 }
@@ -115,9 +117,12 @@ void print_outcome(const char *who, Kind kind, const Outcome *outcome) {
 /* Prints the model's board and rows in use. */
 void print_board(const Play *play, size_t numbers) {
     const Board *board = &play->board;
-    printf("  board by the model: S %u, rows in use %u, held", board->symbols, board->rows);
-    for (unsigned p = 0; p < PLACES; p++)
-        if (board->held[p]) printf(" %d", literal_at(p));
+    printf("  board by the model: S %u, rows in use %u", board->symbols, board->rows);
+    for (unsigned f = 1; f <= FURNACES; f++) {
+        printf("; held for furnace %u:", f);
+        for (unsigned p = 0; p < PLACES; p++)
+            if (premises_of(board, f)[p]) printf(" %d", literal_at(p));
+    }
     printf("\n");
     for (unsigned r = 0; r < board->rows && r < rows_lent(numbers) && r < 40; r++) {
         printf("    row %u:", r);

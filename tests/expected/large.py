@@ -68,27 +68,31 @@ def fill():
 def numbers(row):
     return "[" + "".join(f" {n}" for n in row) + " ]"
 
+def board(rows, held):
+    """The board as it is printed: the premises of furnace 1, and of furnace 2, which holds none here."""
+    return f"S 200 rows {rows} held {numbers(sorted(held, key=place))} and {numbers([])}"
+
 def on(rows, held):
-    return f"on S 200 rows {rows} held {numbers(sorted(held, key=place))} lent 16392"
+    return f"on {board(rows, held)} lent 16392"
 
 def line(rows, held, ask):
     rank, support = rounds(200, rows, held)
     high = max(rank.values())
     by_rank = [sum(1 for v in rank.values() if v == k) for k in range(high + 1)]
     by_label = [sum(1 for s in range(1, 201) if (s in rank) + 2 * (-s in rank) == v) for v in range(4)]
-    words = [on(len(rows), held) + "; settle 200 400 400 labels", *by_label, "sums", sum(rank.values()), sum(support.values()), "by rank", *by_rank]
+    words = [on(len(rows), held) + "; settle 200 400 400 for 1 labels", *by_label, "sums", sum(rank.values()), sum(support.values()), "by rank", *by_rank]
     r = support[ask]
     memo = {}
     ground = reached(ask, rows, rank, support, held, memo)
     c = conflict(200, rank)
     text = " ".join(str(w) for w in words)
-    text += f"; why {ask} ok rank {rank[ask]} row {r} {numbers(rows[r])}; ground {ask} in 400 marked {len(ground)}"
+    text += f"; why {ask} for 1 ok rank {rank[ask]} row {r} {numbers(rows[r])}; ground {ask} in 400 for 1 marked {len(ground)}"
     if c:
         s = blamed(c, rank)
         blame = reached(s, rows, rank, support, held, memo) | reached(-s, rows, rank, support, held, memo)
-        text += f"; blame in 400 marked {len(blame)}"
+        text += f"; blame in 400 for 1 marked {len(blame)}"
     else:
-        text += "; blame in 400 no 12, as given"
+        text += "; blame in 400 for 1 no 12, as given"
     print(text)
 
 if __name__ == "__main__":
@@ -102,6 +106,6 @@ if __name__ == "__main__":
     print(on(2049, held) + rule + " no 1, as given")
     old, new = rows[2047] + [0] * 5, [-1, 200] + [0] * 6          # 1 implies 200
     changed = sum(1 for x, y in zip(old, new) if x != y)
-    print(on(2047, held) + rule + f" rows 2047 1 {numbers(new)}, changed {changed} S 200 rows 2048 held {numbers(held)}")
+    print(on(2047, held) + rule + f" rows 2047 1 {numbers(new)}, changed {changed} {board(2048, held)}")
     rows[2047] = [-1, 200]
     line(rows, held, 200)

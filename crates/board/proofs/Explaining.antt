@@ -18,6 +18,7 @@ use Rattle.literals.specs.Row.{width, numbersAt, decode}
 use Rattle.literals.specs.declared.refusal.Refusal.{Refusal}
 use Rattle.literals.proofs.Decoding.{length-rows}
 use Rattle.board.specs.Faults.{goodBoard, Fault, firstFault}
+use Rattle.board.specs.Furnaces.{heldBy}
 use Rattle.board.specs.Ranking.{rowsOn}
 use Rattle.board.specs.Asking.{derivedOn, rankOn, supportOn, explainFaults, reasoned, explained}
 use Rattle.board.specs.declared.Board.{Board}
@@ -39,37 +40,37 @@ none-given (f ∷ faults) e i = go (f .given) refl e i (λ h j. none-given fault
     go false g e zero rest = g
     go false g e (suc i) rest = rest e i
 
-module _ (table : List ℤ) (b : Board) (l : ℤ) where
+module _ (table : List ℤ) (b : Board) (furnace : ℕ) (l : ℤ) where
   -- the numbers have the call's outcome
-  outcome-is : reasoned table b l .outcome ≡ firstFault (explainFaults table b l)
+  outcome-is : reasoned table b furnace l .outcome ≡ firstFault (explainFaults table b furnace l)
   unfolding reasoned
-  outcome-is = go (firstFault (explainFaults table b l)) refl
+  outcome-is = go (firstFault (explainFaults table b furnace l)) refl
     where
-      go : (o : Outcome) → firstFault (explainFaults table b l) ≡ o → reasoned table b l .outcome ≡ firstFault (explainFaults table b l)
+      go : (o : Outcome) → firstFault (explainFaults table b furnace l) ≡ o → reasoned table b furnace l .outcome ≡ firstFault (explainFaults table b furnace l)
       go Done e = rw e
       go (Refused why) e = rw e
 
-  pub nothing-shown : {why : Refusal} → reasoned table b l .outcome ≡ Refused why → explained table b l ≡ record { start = 0; stop = 0 }
+  pub nothing-shown : {why : Refusal} → reasoned table b furnace l .outcome ≡ Refused why → explained table b furnace l ≡ record { start = 0; stop = 0 }
   unfolding explained
   nothing-shown e = rw (sym outcome-is ∙ e)
 
-  module _ (e : reasoned table b l .outcome ≡ Done) where
-    done : firstFault (explainFaults table b l) ≡ Done
+  module _ (e : reasoned table b furnace l .outcome ≡ Done) where
+    done : firstFault (explainFaults table b furnace l) ≡ Done
     done = sym outcome-is ∙ e
 
-    row-is : reasoned table b l .row ≡ supportOn table b (placeOf l)
+    row-is : reasoned table b furnace l .row ≡ supportOn table b furnace (placeOf l)
     unfolding reasoned
     row-is = rw done
 
     -- every test has passed
-    tests : Good table b × (inRange (b .symbols) l ≡ true) × ((not (has (derivedOn table b) (placeOf l)) || has (b .held) (placeOf l)) ≡ false)
+    tests : Good table b × (inRange (b .symbols) l ≡ true) × ((not (has (derivedOn table b furnace) (placeOf l)) || has (heldBy b furnace) (placeOf l)) ≡ false)
     unfolding explainFaults
     tests =
-        let given = none-given (explainFaults table b l) done in
-        (good-is table b (not-false (goodBoard table b) (given 0)), not-false (inRange (b .symbols) l) (given 1), given 3)
+        let given = none-given (explainFaults table b furnace l) done in
+        (good-is table b (not-false (goodBoard table b) (given 0)), not-false (inRange (b .symbols) l) (given 2), given 4)
 
     -- the row is one of those in use
-    pub row-used : (reasoned table b l .row < b .rows) × (b .rows ≤ 2048) × (width * b .rows ≤ length table)
+    pub row-used : (reasoned table b furnace l .row < b .rows) × (b .rows ≤ 2048) × (width * b .rows ≤ length table)
     row-used =
         let good = tests .0 in
         let n = 2 * b .symbols in
@@ -77,14 +78,14 @@ module _ (table : List ℤ) (b : Board) (l : ℤ) where
         let p = placeOf l in
         let low : p < n = place-fits (b .symbols) l (tests .1) in
         let small : n < none = omega (arith, good .sound .symbols) in
-        let some : rankOn table b p ≢ 0 = λ e. clash (hidden n rows (b .held) small p low (inl e)) (tests .2) in
-        let below : rankOn table b p < none =
-        ⊎-elim (λ f. omega (arith, f .0)) (λ f. clash (hidden n rows (b .held) small p low (inr (f .0))) (tests .2)) (rankOf-is n rows (b .held) p small) in
+        let some : rankOn table b furnace p ≢ 0 = λ e. clash (hidden n rows (heldBy b furnace) small p low (inl e)) (tests .2) in
+        let below : rankOn table b furnace p < none =
+        ⊎-elim (λ f. omega (arith, f .0)) (λ f. clash (hidden n rows (heldBy b furnace) small p low (inr (f .0))) (tests .2)) (rankOf-is n rows (heldBy b furnace) p small) in
         let used = length-rows (b .rows) table in
-        let given = supportOf-is n rows (b .held) (rankOn table b p - 1) p low small (omega (arith, used, good .sound .rows)) (omega arith) (omega arith) .0 in
+        let given = supportOf-is n rows (heldBy b furnace) (rankOn table b furnace p - 1) p low small (omega (arith, used, good .sound .rows)) (omega arith) (omega arith) .0 in
         (omega (arith, row-is, used, given), good .sound .rows, good .sound .room)
 
-    pub row-shown : explained table b l
-        ≡ record { start = width * reasoned table b l .row; stop = width * reasoned table b l .row + length (decode (numbersAt table (reasoned table b l .row))) }
+    pub row-shown : explained table b furnace l
+        ≡ record { start = width * reasoned table b furnace l .row; stop = width * reasoned table b furnace l .row + length (decode (numbersAt table (reasoned table b furnace l .row))) }
     unfolding explained reasoned
     row-shown = rw done

@@ -1,21 +1,24 @@
 -- `goodBoard`, a test at a time, and what a good board is known to be.
-use mathlib.Core.Path.{_≡_, refl, ap, _∙_}
-use mathlib.Core.Bool.{Bool, true, false, not, _&&_}
+use mathlib.Core.Path.{_≡_, refl, ap, ap₂, _∙_}
+use mathlib.Core.Bool.{Bool, true, false, cond, not, _&&_, _||_}
 use mathlib.Core.List.{List, [], _∷_}
 use Prim.Native.Nat.{ℕ, zero, suc, _+_, _*_, _≤_, _<_, zero-le}
 use native.Mathlib.Numerals.{add-one}
 use native.Mathlib.Omega.{arith}
-use borrow.Author.Tests.{le-leb, lt-leb, leb-true}
-use lib.Dec.{leb}
+use borrow.Author.Tests.{le-leb, lt-leb, leb-true, eqb-true}
+use lib.Dec.{leb, eqb}
 use lib.IntN.{ℤ}
-use lib.ListN.{length, drop, getD, replicate}
-use lib.Seq.{drop-cons}
+use lib.ListN.{length, drop, getD, set, replicate}
+use lib.Seq.{drop-cons, drop-set-lt}
 use Rattle.meaning.specs.Tests.{any}
 use Rattle.meaning.proofs.Tests.{both-true}
+use Rattle.literals.specs.Literal.{inRange, placeOf}
 use Rattle.literals.specs.Row.{rowsLent, rowsSound, Sound}
-use Rattle.board.specs.Faults.{goodBoard}
-use Rattle.board.specs.Changes.{emptyBoard}
+use Rattle.board.specs.Furnaces.{heldBy, withHeld}
+use Rattle.board.specs.Faults.{premisesFit, goodBoard}
+use Rattle.board.specs.Changes.{emptyBoard, withFlag}
 use Rattle.board.specs.declared.Board.{Board}
+use Rattle.board.proofs.Arguments.{place-fits}
 
 -- ---- the scan for a premise beyond the symbols
 
@@ -23,11 +26,8 @@ use Rattle.board.specs.declared.Board.{Board}
 abbrev pub flagFrom : List Bool → ℕ → Bool
 flagFrom flags k = any (λ h. h) (drop k flags)
 
-pub flag-here : (flags : List Bool) (k : ℕ) → k < length flags → getD flags k false ≡ true → flagFrom flags k ≡ true
-flag-here flags k h e = rw (drop-cons flags k false, e)
-
-pub flag-later : (flags : List Bool) (k : ℕ) → k < length flags → getD flags k false ≡ false → flagFrom flags k ≡ flagFrom flags (k + 1)
-flag-later flags k h e = rw (drop-cons flags k false, e, add-one)
+pub flag-next : (flags : List Bool) (k : ℕ) → k < length flags → flagFrom flags k ≡ (getD flags k false || flagFrom flags (k + 1))
+flag-next flags k h = rw (drop-cons flags k false, add-one)
 
 pub flag-nowhere : (flags : List Bool) (k : ℕ) → length flags ≤ k → flagFrom flags k ≡ false
 flag-nowhere [] zero h = refl
@@ -56,9 +56,9 @@ module _ (table : List ℤ) (b : Board) where
       unfolding goodBoard
       no-sound e = rw (le-leb 1 (b .symbols) low, le-leb (b .symbols) 200 high, le-leb (b .rows) (rowsLent table) lent, e)
 
-      pub by-flags : rowsSound (b .symbols) (b .rows) table ≡ true → goodBoard table b ≡ not (flagFrom (b .held) (2 * b .symbols))
+      pub by-premises : rowsSound (b .symbols) (b .rows) table ≡ true → goodBoard table b ≡ premisesFit b
       unfolding goodBoard
-      by-flags e = rw (le-leb 1 (b .symbols) low, le-leb (b .symbols) 200 high, le-leb (b .rows) (rowsLent table) lent, e)
+      by-premises e = rw (le-leb 1 (b .symbols) low, le-leb (b .symbols) 200 high, le-leb (b .rows) (rowsLent table) lent, e)
 
 -- ---- a good board
 
@@ -66,20 +66,45 @@ pub record Good (table : List ℤ) (b : Board) : Type 0 where
   pub some : 1 ≤ b .symbols
   pub lent : b .rows ≤ rowsLent table
   pub sound : Sound (b .symbols) (b .rows) table
+  pub fit : premisesFit b ≡ true
 
 pub good-is : (table : List ℤ) (b : Board) → goodBoard table b ≡ true → Good table b
 unfolding goodBoard
 good-is table b e =
-    let rest = both-true (leb 1 (b .symbols) && leb (b .symbols) 200 && leb (b .rows) (rowsLent table) && rowsSound (b .symbols) (b .rows) table) _ e in
-    let rows = both-true (leb 1 (b .symbols) && leb (b .symbols) 200 && leb (b .rows) (rowsLent table)) (rowsSound (b .symbols) (b .rows) table) (rest .0) in
-    let used = both-true (leb 1 (b .symbols) && leb (b .symbols) 200) (leb (b .rows) (rowsLent table)) (rows .0) in
+    let range = leb 1 (b .symbols) && leb (b .symbols) 200 in
+    let room = leb (b .rows) (rowsLent table) in
+    let rest = both-true (range && room && rowsSound (b .symbols) (b .rows) table) (premisesFit b) e in
+    let rows = both-true (range && room) (rowsSound (b .symbols) (b .rows) table) (rest .0) in
+    let used = both-true range room (rows .0) in
     let count = both-true (leb 1 (b .symbols)) (leb (b .symbols) 200) (used .0) in
     let fits = leb-true (b .rows) (rowsLent table) (used .1) in
     record {
       some = leb-true 1 (b .symbols) (count .0);
       lent = fits;
       sound = record { symbols = leb-true (b .symbols) 200 (count .1); rows = omega arith; room = omega arith; sound = rows .1 };
+      fit = rest .1;
     }
+
+-- ---- a board with a premise more or less
+
+-- a set of premises, be it the one that a flag is put into or not, has the same flags beyond
+same-beyond : (held : List Bool) (n p : ℕ) (flag : Bool) → p < n → (its : Bool) (premises : List Bool) → (its ≡ true → held ≡ premises)
+    → flagFrom (cond its (set held p flag) premises) n ≡ flagFrom premises n
+same-beyond held n p flag h true premises is = ap (any (λ h. h)) (drop-set-lt n held p flag h ∙ ap (drop n) (is refl))
+same-beyond held n p flag h false premises is = refl
+
+module _ (b : Board) (furnace : ℕ) (l : ℤ) (flag : Bool) (e : inRange (b .symbols) l ≡ true) where
+  pub flag-fits : premisesFit (withFlag b furnace l flag) ≡ premisesFit b
+  unfolding premisesFit heldBy withHeld
+  flag-fits =
+      let same = same-beyond (heldBy b furnace) (2 * b .symbols) (placeOf l) flag (place-fits (b .symbols) l e) in
+      ap₂ (λ (one two : Bool). not one && not two)
+      (same (eqb furnace 1) (b .first) (λ is. rw (eqb-true furnace 1 is)))
+      (same (eqb furnace 2) (b .second) (λ is. rw (eqb-true furnace 2 is)))
+
+  pub flag-good : (table : List ℤ) → goodBoard table (withFlag b furnace l flag) ≡ goodBoard table b
+  unfolding goodBoard withHeld
+  flag-good table = rw flag-fits
 
 -- ---- a board just opened
 
@@ -91,7 +116,7 @@ unset (suc n) zero = unset n zero
 unset (suc n) (suc k) = unset n k
 
 pub empty-good : (table : List ℤ) (S : ℕ) → leb 1 S && leb S 200 ≡ true → goodBoard table (emptyBoard S) ≡ true
-unfolding rowsSound
+unfolding rowsSound premisesFit
 empty-good table S e =
     let count = both-true (leb 1 S) (leb S 200) e in
-    by-flags table (emptyBoard S) (leb-true 1 S (count .0)) (leb-true S 200 (count .1)) zero-le refl ∙ ap not (unset 400 (2 * S))
+    by-premises table (emptyBoard S) (leb-true 1 S (count .0)) (leb-true S 200 (count .1)) zero-le refl ∙ rw (unset 400 (2 * S))

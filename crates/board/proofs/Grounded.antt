@@ -16,6 +16,7 @@ use Rattle.literals.specs.declared.refusal.Refusal.{Refusal}
 use Rattle.findings.specs.Ranks.{clashIn, earliestIn}
 use Rattle.findings.specs.Reach.{reachedFrom, reachedAsked}
 use Rattle.findings.proofs.Clashes.{earliest-is-blamed, earliest-some}
+use Rattle.board.specs.Furnaces.{heldBy}
 use Rattle.board.specs.Ranking.{rowsOn}
 use Rattle.board.specs.Grounds.{byteOf, groundOutcome, groundMarks, blameOutcome, blameMarks}
 use Rattle.board.specs.declared.Board.{Board}
@@ -43,7 +44,7 @@ asked-blame symbols rows held p small high some =
     let pair : 2 * (suc s - 1) ≡ 2 * s = omega arith in
     rw (le-ltb p (2 * symbols) high, lt-ltb s none (omega arith), ← earliest-is-blamed symbols rows held small, pair)
 
-module _ (table : List ℤ) (b : Board) (marks : List ℕ) where
+module _ (table : List ℤ) (b : Board) (furnace : ℕ) (marks : List ℕ) where
   abbrev rows : List (List ℕ)
   rows = rowsOn table b
 
@@ -55,27 +56,27 @@ module _ (table : List ℤ) (b : Board) (marks : List ℕ) where
   -- ---- ground
 
   module _ (l : ℤ) where
-    pub ground-refused : (why : Refusal) → groundOutcome table b l marks ≡ Refused why
-        → (Refused why ≡ groundOutcome table b l marks) × (marks ≡ groundMarks table b l marks)
+    pub ground-refused : (why : Refusal) → groundOutcome table b furnace l marks ≡ Refused why
+        → (Refused why ≡ groundOutcome table b furnace l marks) × (marks ≡ groundMarks table b furnace l marks)
     unfolding groundMarks
     ground-refused why e = (sym e, rw e)
 
-    pub ground-done : (p : ℕ) {marked : List Bool} {after : List ℕ} → p ≡ placeOf l → p < 2 * b .symbols → groundOutcome table b l marks ≡ Done
-        → marked ≡ reachedAsked (2 * b .symbols) (rowsOn table b) (b .held) p → after ≡ map byteOf marked ++ drop (length marked) marks
-        → (Done ≡ groundOutcome table b l marks) × (after ≡ groundMarks table b l marks)
+    pub ground-done : (p : ℕ) {marked : List Bool} {after : List ℕ} → p ≡ placeOf l → p < 2 * b .symbols → groundOutcome table b furnace l marks ≡ Done
+        → marked ≡ reachedAsked (2 * b .symbols) (rowsOn table b) (heldBy b furnace) p → after ≡ map byteOf marked ++ drop (length marked) marks
+        → (Done ≡ groundOutcome table b furnace l marks) × (after ≡ groundMarks table b furnace l marks)
     unfolding groundMarks
-    ground-done p at low e reached is = (sym e, rw (e, ← at) (written (reached ∙ asked-ground (2 * b .symbols) rows (b .held) p low) is))
+    ground-done p at low e reached is = (sym e, rw (e, ← at) (written (reached ∙ asked-ground (2 * b .symbols) rows (heldBy b furnace) p low) is))
 
   -- ---- blame
 
-  pub blame-refused : (why : Refusal) → blameOutcome table b marks ≡ Refused why
-      → (Refused why ≡ blameOutcome table b marks) × (marks ≡ blameMarks table b marks)
+  pub blame-refused : (why : Refusal) → blameOutcome table b furnace marks ≡ Refused why
+      → (Refused why ≡ blameOutcome table b furnace marks) × (marks ≡ blameMarks table b furnace marks)
   unfolding blameMarks
   blame-refused why e = (sym e, rw e)
 
   pub blame-done : (p : ℕ) {marked : List Bool} {after : List ℕ} → 2 * b .symbols < none → 2 * b .symbols ≤ p
-      → (first (clashIn (ranksOf (2 * b .symbols) (rowsOn table b) (b .held))) (b .symbols) ≡ none → ⊥) → blameOutcome table b marks ≡ Done
-      → marked ≡ reachedAsked (2 * b .symbols) (rowsOn table b) (b .held) p → after ≡ map byteOf marked ++ drop (length marked) marks
-      → (Done ≡ blameOutcome table b marks) × (after ≡ blameMarks table b marks)
+      → (first (clashIn (ranksOf (2 * b .symbols) (rowsOn table b) (heldBy b furnace))) (b .symbols) ≡ none → ⊥) → blameOutcome table b furnace marks ≡ Done
+      → marked ≡ reachedAsked (2 * b .symbols) (rowsOn table b) (heldBy b furnace) p → after ≡ map byteOf marked ++ drop (length marked) marks
+      → (Done ≡ blameOutcome table b furnace marks) × (after ≡ blameMarks table b furnace marks)
   unfolding blameMarks
-  blame-done p small high some e reached is = (sym e, rw e (written (reached ∙ asked-blame (b .symbols) rows (b .held) p small high some) is))
+  blame-done p small high some e reached is = (sym e, rw e (written (reached ∙ asked-blame (b .symbols) rows (heldBy b furnace) p small high some) is))

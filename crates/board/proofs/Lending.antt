@@ -1,20 +1,20 @@
 -- The board's ranks and supports at the front of an array: lent to be filled, and lent again to be read.
-use mathlib.Core.Path.{_≡_, sym, ap, _∙_}
+use mathlib.Core.Path.{_≡_, sym, ap, ap₂, _∙_}
 use mathlib.Core.Bool.{Bool}
 use mathlib.Core.List.{List, _++_}
 use Prim.Native.Nat.{ℕ, _+_, _*_, _≤_, _<_}
 use native.Mathlib.Nat.{zero-add, add-zero}
 use native.Mathlib.Omega.{arith}
 use lib.IntN.{ℤ}
-use lib.ListN.{length, take, getD, length-append}
+use lib.ListN.{length, take, drop, getD, replicate, length-append, length-replicate}
 use lib.Seq.{length-take-le, take-at, getD-take}
-use Rattle.meaning.specs.Tests.{tabulate}
+use Rattle.meaning.specs.Tests.{none, tabulate}
 use Rattle.meaning.specs.Rounds.{rankOf, ranksOf, rankAbove, supportOf, supportsOf}
 use Rattle.meaning.proofs.Tables.{length-tabulate, tabulate-same}
 use Rattle.literals.specs.Row.{Fit}
-use Rattle.board.specs.Ranking.{rowsOn, tooHigh, ranked}
+use Rattle.board.specs.Furnaces.{heldBy}
+use Rattle.board.specs.Ranking.{rowsOn, tooHigh}
 use Rattle.board.specs.declared.Board.{Board}
-use Rattle.board.specs.declared.ranking.Ranks.{Ranks}
 use Rattle.board.proofs.Goodness.{Good}
 use Rattle.findings.proofs.RankTables.{length-ranksOf, getD-ranksOf}
 
@@ -27,18 +27,19 @@ module _ (table : List ℤ) (b : Board) (big : List ℕ) (room : 2 * b .symbols 
   pub rows-fit : Good table b → Fit (length (take (2 * b .symbols) big)) (b .rows) table
   rows-fit g = (b .symbols, part-long, g .sound)
 
-  -- and so filled
-  pub filled-is : {filled : List ℕ} → filled ≡ ranksOf (length (take (2 * b .symbols) big)) (rowsOn table b) (b .held)
-      → filled ≡ ranksOf (2 * b .symbols) (rowsOn table b) (b .held)
-  filled-is e = e ∙ ap (λ n. ranksOf n (rowsOn table b) (b .held)) part-long
+  -- and so filled, by what `premises` handed over
+  module _ (furnace : ℕ) {held : List Bool} (same : held ≡ heldBy b furnace) where
+    pub filled-is : {filled : List ℕ} → filled ≡ ranksOf (length (take (2 * b .symbols) big)) (rowsOn table b) held
+        → filled ≡ ranksOf (2 * b .symbols) (rowsOn table b) (heldBy b furnace)
+    filled-is e = e ∙ ap₂ (λ n h. ranksOf n (rowsOn table b) h) part-long same
 
-  pub high-is : {high : Bool} → high ≡ rankAbove (length (take (2 * b .symbols) big)) (rowsOn table b) (b .held) → high ≡ tooHigh table b
-  high-is e = e ∙ ap (λ n. rankAbove n (rowsOn table b) (b .held)) part-long
+    pub high-is : {high : Bool} → high ≡ rankAbove (length (take (2 * b .symbols) big)) (rowsOn table b) held → high ≡ tooHigh table b furnace
+    high-is e = e ∙ ap₂ (λ n h. rankAbove n (rowsOn table b) h) part-long same
 
-  pub supports-are : (count from : ℕ) {filled : List ℕ}
-      → filled ≡ tabulate count (λ i. supportOf (length (take (2 * b .symbols) big)) (rowsOn table b) (b .held) (from + i))
-      → filled ≡ tabulate count (λ i. supportOf (2 * b .symbols) (rowsOn table b) (b .held) (from + i))
-  supports-are count from e = e ∙ ap (λ n. tabulate count (λ i. supportOf n (rowsOn table b) (b .held) (from + i))) part-long
+    pub supports-are : (count from : ℕ) {filled : List ℕ}
+        → filled ≡ tabulate count (λ i. supportOf (length (take (2 * b .symbols) big)) (rowsOn table b) held (from + i))
+        → filled ≡ tabulate count (λ i. supportOf (2 * b .symbols) (rowsOn table b) (heldBy b furnace) (from + i))
+    supports-are count from e = e ∙ ap₂ (λ n h. tabulate count (λ i. supportOf n (rowsOn table b) h (from + i))) part-long same
 
 module _ (places : ℕ) (rows : List (List ℕ)) (held : List Bool) where
   -- the supports of all the places
@@ -73,21 +74,29 @@ front-of n table rest e =
     record { room = omega (arith, e, length-append table rest); long = ap length is ∙ e; is = is }
 
 -- the ranks are the first 2S of a list
-abbrev pub RanksIn : List ℤ → Board → List ℕ → Type 0
-RanksIn table b list = Front (2 * b .symbols) (ranksOf (2 * b .symbols) (rowsOn table b) (b .held)) list
+abbrev pub RanksIn : List ℤ → Board → (furnace : ℕ) → List ℕ → Type 0
+RanksIn table b furnace list = Front (2 * b .symbols) (ranksOf (2 * b .symbols) (rowsOn table b) (heldBy b furnace)) list
 
-module _ (table : List ℤ) (b : Board) where
-  pub ranks-front : {r : Ranks} → r ≡ ranked table b → RanksIn table b (r .list)
-  unfolding ranked
-  ranks-front e = rw e (front-of (2 * b .symbols) _ _ (length-ranksOf (2 * b .symbols) (rowsOn table b) (b .held)))
-
-  pub ranks-high : {r : Ranks} → r ≡ ranked table b → tooHigh table b ≡ r .high
-  unfolding ranked
-  ranks-high e = sym (ap (λ (r : Ranks). r .high) e)
-
-  pub rank-at : {list : List ℕ} → RanksIn table b list → (p : ℕ) → p < 2 * b .symbols
-      → getD list p 0 ≡ rankOf (2 * b .symbols) (rowsOn table b) (b .held) p
+module _ (table : List ℤ) (b : Board) (furnace : ℕ) where
+  pub rank-at : {list : List ℕ} → RanksIn table b furnace list → (p : ℕ) → p < 2 * b .symbols
+      → getD list p 0 ≡ rankOf (2 * b .symbols) (rowsOn table b) (heldBy b furnace) p
   rank-at {list} front p h =
       sym (getD-take (2 * b .symbols) list p 0 h)
       ∙ ap (λ (l : List ℕ). getD l p 0) (front .is)
-      ∙ getD-ranksOf (2 * b .symbols) (rowsOn table b) (b .held) p h
+      ∙ getD-ranksOf (2 * b .symbols) (rowsOn table b) (heldBy b furnace) p h
+
+-- ---- an array of as many ranks as a board can have, its front lent
+
+module _ (table : List ℤ) (b : Board) (g : Good table b) where
+  pub ranks-room : 2 * b .symbols ≤ length (replicate 400 none)
+  ranks-room = rw length-replicate (omega (arith, g .sound .symbols))
+
+  pub ranks-long : length (take (2 * b .symbols) (replicate 400 none)) ≡ 2 * b .symbols
+  ranks-long = part-long table b (replicate 400 none) ranks-room
+
+  pub ranks-back : (furnace : ℕ) {held : List Bool} {ranks : List ℕ} → held ≡ heldBy b furnace
+      → ranks ≡ ranksOf (length (take (2 * b .symbols) (replicate 400 none))) (rowsOn table b) held
+      → RanksIn table b furnace (ranks ++ drop (2 * b .symbols) (replicate 400 none))
+  ranks-back furnace same are =
+      rw (filled-is table b (replicate 400 none) ranks-room furnace same are)
+      (front-of (2 * b .symbols) _ _ (length-ranksOf (2 * b .symbols) (rowsOn table b) (heldBy b furnace)))

@@ -1,4 +1,5 @@
 -- Laws of the board's tests, and of what its ranks tell.
+pub mod TwoSets
 pub mod Goodness
 pub mod Arguments
 pub mod Placing

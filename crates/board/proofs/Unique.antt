@@ -28,10 +28,10 @@ one-withdraw : One board.changes.withdraw.ended board.changes.withdraw.Reads.Pos
 one-withdraw κs a x y = (cc, refl)
 
 one-ground : One board.grounds.ground.ended board.grounds.ground.Reads.Post
-one-ground κs a x y = (cc, refl & refl & refl & (cc) & refl)
+one-ground κs a x y = (cc, refl & refl & refl & refl & (cc) & refl)
 
 one-blame : One board.grounds.blame.ended board.grounds.blame.Reads.Post
-one-blame κs a x y = (cc, refl & refl & (cc) & refl)
+one-blame κs a x y = (cc, refl & refl & refl & (cc) & refl)
 
 one-refused : One board.rules.refused.ended board.rules.refused.Reads.Post
 one-refused κs a x y = (cc, refl)
@@ -40,7 +40,7 @@ one-add-rule : One board.rules.add_rule.ended board.rules.add_rule.Reads.Post
 one-add-rule κs a x y = (cc, refl & (cc) & refl)
 
 one-settle : One board.settling.settle.ended board.settling.settle.Reads.Post
-one-settle κs a x y = (cc, refl & refl & (cc) & (cc) & (cc) & refl)
+one-settle κs a x y = (cc, refl & refl & refl & (cc) & (cc) & (cc) & refl)
 
 one-good : One board.testing.good.ended board.testing.good.Reads.Post
 one-good κs a x y = (cc, refl)

@@ -11,7 +11,8 @@ use Rattle.meaning.specs.Literals.{opp, has, conflict}
 use Rattle.meaning.specs.Rounds.{derived, rankOf, supportOf}
 use Rattle.literals.specs.Literal.{inRange, placeOf}
 use Rattle.literals.specs.Row.{width, numbersAt, decode}
-use Rattle.literals.specs.declared.refusal.Refusal.the-variants.{BadBoard, BadLiteral, RankTooHigh, NothingToShow}
+use Rattle.literals.specs.declared.refusal.Refusal.the-variants.{BadBoard, BadLiteral, RankTooHigh, NothingToShow, BadFurnace}
+use Rattle.board.specs.Furnaces.{isFurnace, heldBy}
 use Rattle.board.specs.Faults.{goodBoard, Fault, firstFault, ifDone}
 use Rattle.board.specs.Ranking.{rowsOn, tooHigh}
 use Rattle.board.specs.declared.Board.{Board}
@@ -19,48 +20,50 @@ use Rattle.board.specs.declared.asking.Standing.{Standing}
 use Rattle.board.specs.declared.asking.Standing.the-variants.{Conflict, Stands, RuledOut, Open, Refused}
 use Rattle.board.specs.declared.asking.Reason.{Reason}
 
--- the derived literals, the rank and the support on a board
-abbrev pub derivedOn : List ℤ → Board → List Bool
-derivedOn table b = derived (2 * b .symbols) (rowsOn table b) (b .held)
+-- the derived literals, the rank and the support on a board, for a furnace
+abbrev pub derivedOn : List ℤ → Board → (furnace : ℕ) → List Bool
+derivedOn table b furnace = derived (2 * b .symbols) (rowsOn table b) (heldBy b furnace)
 
-abbrev pub rankOn : List ℤ → Board → ℕ → ℕ
-rankOn table b p = rankOf (2 * b .symbols) (rowsOn table b) (b .held) p
+abbrev pub rankOn : List ℤ → Board → (furnace : ℕ) → ℕ → ℕ
+rankOn table b furnace p = rankOf (2 * b .symbols) (rowsOn table b) (heldBy b furnace) p
 
-abbrev pub supportOn : List ℤ → Board → ℕ → ℕ
-supportOn table b p = supportOf (2 * b .symbols) (rowsOn table b) (b .held) p
+abbrev pub supportOn : List ℤ → Board → (furnace : ℕ) → ℕ → ℕ
+supportOn table b furnace p = supportOf (2 * b .symbols) (rowsOn table b) (heldBy b furnace) p
 
 -- ---- "Ask answers for one literal: conflict, if the board is in conflict; else stands, if derived; ruled out, if the opposite is
--- derived; else open."
+-- derived; else open." Here and in what follows, what is derived is so for the furnace that is named (02, Ticket 6).
 
-unfoldable pub askFaults : List ℤ → Board → ℤ → List Fault
-askFaults table b l =
+unfoldable pub askFaults : List ℤ → Board → (furnace : ℕ) → ℤ → List Fault
+askFaults table b furnace l =
     record { given = not (goodBoard table b); refusal = BadBoard }
+    ∷ record { given = not (isFurnace furnace); refusal = BadFurnace }
     ∷ record { given = not (inRange (b .symbols) l); refusal = BadLiteral }
-    ∷ record { given = tooHigh table b; refusal = RankTooHigh }
+    ∷ record { given = tooHigh table b furnace; refusal = RankTooHigh }
     ∷ []
 
 abbrev pub standing : List Bool → ℕ → Standing
 standing known p = cond (conflict known) Conflict (cond (has known p) Stands (cond (has known (opp p)) RuledOut Open))
 
-unfoldable pub asked : List ℤ → Board → ℤ → Standing
-asked table b l = ifDone (firstFault (askFaults table b l)) (standing (derivedOn table b) (placeOf l)) Refused
+unfoldable pub asked : List ℤ → Board → (furnace : ℕ) → ℤ → Standing
+asked table b furnace l = ifDone (firstFault (askFaults table b furnace l)) (standing (derivedOn table b furnace) (placeOf l)) Refused
 
 -- ---- "Explain returns the supporting row as that part of the caller's table, its literals without the zeros, with rank and row number."
 
 -- 12: "explain: not derived, or held"
-unfoldable pub explainFaults : List ℤ → Board → ℤ → List Fault
-explainFaults table b l =
+unfoldable pub explainFaults : List ℤ → Board → (furnace : ℕ) → ℤ → List Fault
+explainFaults table b furnace l =
     record { given = not (goodBoard table b); refusal = BadBoard }
+    ∷ record { given = not (isFurnace furnace); refusal = BadFurnace }
     ∷ record { given = not (inRange (b .symbols) l); refusal = BadLiteral }
-    ∷ record { given = tooHigh table b; refusal = RankTooHigh }
-    ∷ record { given = not (has (derivedOn table b) (placeOf l)) || has (b .held) (placeOf l); refusal = NothingToShow }
+    ∷ record { given = tooHigh table b furnace; refusal = RankTooHigh }
+    ∷ record { given = not (has (derivedOn table b furnace) (placeOf l)) || has (heldBy b furnace) (placeOf l); refusal = NothingToShow }
     ∷ []
 
 -- the two numbers: "65535 for rank and row number" where refused
-unfoldable pub reasoned : List ℤ → Board → ℤ → Reason
-reasoned table b l =
-    let outcome = firstFault (explainFaults table b l) in
-    ifDone outcome (record { outcome = outcome; rank = rankOn table b (placeOf l); row = supportOn table b (placeOf l) })
+unfoldable pub reasoned : List ℤ → Board → (furnace : ℕ) → ℤ → Reason
+reasoned table b furnace l =
+    let outcome = firstFault (explainFaults table b furnace l) in
+    ifDone outcome (record { outcome = outcome; rank = rankOn table b furnace (placeOf l); row = supportOn table b furnace (placeOf l) })
     (λ _. record { outcome = outcome; rank = none; row = none })
 
 -- from the place `start` up to the place `stop`
@@ -69,10 +72,10 @@ pub record Span : Type 0 where
   pub stop : ℕ
 
 -- the part: the row's literals, or "the empty part at the table's front" where refused
-unfoldable pub explained : List ℤ → Board → ℤ → Span
-explained table b l =
-    let row = supportOn table b (placeOf l) in
-    ifDone (firstFault (explainFaults table b l))
+unfoldable pub explained : List ℤ → Board → (furnace : ℕ) → ℤ → Span
+explained table b furnace l =
+    let row = supportOn table b furnace (placeOf l) in
+    ifDone (firstFault (explainFaults table b furnace l))
     (record { start = width * row; stop = width * row + length (decode (numbersAt table row)) })
     (λ _. record { start = 0; stop = 0 })
 

@@ -13,13 +13,21 @@ use Rattle.board.specs.declared.Board.{Board}
 use Rattle.board.specs.declared.Outcome.{Outcome}
 use Rattle.board.specs.declared.Outcome.the-variants.{Done, Refused}
 
+-- "a held premise is of a symbol beyond S"
+abbrev pub beyond : ℕ → List Bool → Bool
+beyond S held = any (λ h. h) (drop (2 * S) held)
+
+-- none is, of either furnace's
+unfoldable pub premisesFit : Board → Bool
+premisesFit b = not (beyond (b .symbols) (b .first)) && not (beyond (b .symbols) (b .second))
+
 -- 1: "S is outside 1 to 200, rows in use exceed rows lent, a row in use isn't sound, or a held premise is of a symbol beyond S"
 unfoldable pub goodBoard : List ℤ → Board → Bool
 goodBoard table b =
     leb 1 (b .symbols) && leb (b .symbols) 200
     && leb (b .rows) (rowsLent table)
     && rowsSound (b .symbols) (b .rows) table
-    && not (any (λ h. h) (drop (2 * b .symbols) (b .held)))
+    && premisesFit b
 
 -- a case of the table: when it is given, and which it is
 pub record Fault : Type 0 where

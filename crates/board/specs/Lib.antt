@@ -1,4 +1,5 @@
--- The nine calls: the tests that refuse each, in document 01's order, and what a good one answers and writes.
+-- The nine calls: the tests that refuse each, in the documents' order, and what a good one answers and writes.
+pub mod Furnaces
 pub mod Faults
 pub mod Placing
 pub mod Changes

@@ -64,9 +64,9 @@ placeTold outcome read = cond (hasPlace (numberIn outcome)) (breaksAt read) noPl
 abbrev pub rowsOfBytes : ℕ → List ℕ → List (List ℕ)
 rowsOfBytes S bytes = rowsOf (ruleOf S (formulaOf (wholeOf S bytes)))
 
--- "adding a rule changes neither S nor the premises"
+-- "adding a rule changes neither S nor the premises", those of both furnaces
 abbrev pub withRows : Board → ℕ → Board
-withRows b added = record { symbols = b .symbols; rows = b .rows + added; held = b .held }
+withRows b added = record { symbols = b .symbols; rows = b .rows + added; first = b .first; second = b .second }
 
 -- the answer, and the table after it
 unfoldable pub ruled : List ℤ → Board → List ℕ → Addition

@@ -10,7 +10,7 @@ ghost use Rattle.findings.specs.Ranks.{below};
 ghost use Rattle.board.specs.Asking.{standing, asked, reasoned, explained, IsPart};
 use crate::Board;
 use crate::Outcome;
-use crate::ranking::ranks_on;
+use crate::furnaces::premises;
 use crate::testing::Placed;
 use crate::testing::place_on;
 use findings::NONE;
@@ -50,20 +50,28 @@ fn standing_by(ranks: &[u16], l: i16) -> Standing
     Standing::Open
 }
 
-// Answers for one literal.
-pub fn ask(board: Board, table: &[i16], l: i16) -> Standing
-    ensures { λ r. ⌜ r ≡ asked (now (table .entry)) board l ⌝ }
+// Answers for one literal, by a furnace's premises.
+pub fn ask(board: Board, table: &[i16], furnace: u8, l: i16) -> Standing
+    ensures { λ r. ⌜ r ≡ asked (now (table .entry)) board furnace l ⌝ }
 {
-    match place_on(board, table, l) {
+    match place_on(board, table, furnace, l) {
         Placed::Refused(why) => Standing::Refused(why),
         Placed::At(_) => {
             let places = 2 * board.symbols;
+            let held = premises(&board.first, &board.second, furnace);
+            let mut ranks = [NONE; 400];
             let mut none = [NONE; 1];
-            let ranked = ranks_on(board, table, 0, &mut none[..0]);
-            if ranked.high {
+            let high = rounds::propagation::propagate(
+                table,
+                board.rows,
+                held,
+                &mut ranks[..places],
+                0,
+                &mut none[..0],
+            );
+            if high {
                 return Standing::Refused(Refusal::RankTooHigh);
             }
-            let ranks = ranked.list;
             standing_by(&ranks[..places], l)
         }
     }
@@ -79,19 +87,28 @@ fn unexplained(why: Refusal) -> Reason
     }
 }
 
-// The rank of a literal and the number of its supporting row.
-pub fn explain_numbers(board: Board, table: &[i16], l: i16) -> Reason
-    ensures { λ r. ⌜ r ≡ reasoned (now (table .entry)) board l ⌝ }
+// The rank of a literal for a furnace, and the number of its supporting row.
+pub fn explain_numbers(board: Board, table: &[i16], furnace: u8, l: i16) -> Reason
+    ensures { λ r. ⌜ r ≡ reasoned (now (table .entry)) board furnace l ⌝ }
 {
-    match place_on(board, table, l) {
+    match place_on(board, table, furnace, l) {
         Placed::Refused(why) => unexplained(why),
         Placed::At(p) => {
+            let places = 2 * board.symbols;
+            let held = premises(&board.first, &board.second, furnace);
+            let mut ranks = [NONE; 400];
             let mut row = [NONE; 1];
-            let ranked = ranks_on(board, table, p, &mut row[..1]);
-            if ranked.high {
+            let high = rounds::propagation::propagate(
+                table,
+                board.rows,
+                held,
+                &mut ranks[..places],
+                p,
+                &mut row[..1],
+            );
+            if high {
                 return unexplained(Refusal::RankTooHigh);
             }
-            let ranks = ranked.list;
             let rank = ranks[p];
             if rank == 0 {
                 return unexplained(Refusal::NothingToShow);
@@ -109,10 +126,10 @@ pub fn explain_numbers(board: Board, table: &[i16], l: i16) -> Reason
 }
 
 // The supporting row's literals, where they lie in the caller's table.
-pub fn explain(board: Board, table: &[i16], l: i16) -> &[i16]
-    ensures { λ r. ⌜ IsPart (table .entry) r (explained (now (table .entry)) board l) ⌝ }
+pub fn explain(board: Board, table: &[i16], furnace: u8, l: i16) -> &[i16]
+    ensures { λ r. ⌜ IsPart (table .entry) r (explained (now (table .entry)) board furnace l) ⌝ }
 {
-    let reason = explain_numbers(board, table, l);
+    let reason = explain_numbers(board, table, furnace, l);
     let outcome = reason.outcome;
     match outcome {
         Outcome::Refused(_) => &table[0..0],

@@ -5,6 +5,8 @@ ghost use Rattle.board.specs.Changes.{emptyBoard, opened, flagChanged, h
 use crate::Board;
 use crate::Change;
 use crate::Outcome;
+use crate::furnaces::premises;
+use crate::furnaces::with_flag;
 use crate::testing::Placed;
 use crate::testing::place_on;
 use literals::refusal::Refusal;
@@ -16,7 +18,8 @@ fn empty(symbols: usize) -> Board
     Board {
         symbols,
         rows: 0,
-        held: [false; 400],
+        first: [false; 400],
+        second: [false; 400],
     }
 }
 
@@ -45,36 +48,42 @@ pub fn open(symbols: usize) -> Change
     }
 }
 
-// Sets the flag of a literal's premise so; refused with `already` where it is so.
-fn change_flag(board: Board, table: &[i16], l: i16, flag: bool, already: Refusal) -> Change
-    ensures { λ r. ⌜ r ≡ flagChanged (now (table .entry)) board l flag already ⌝ }
+// Sets the flag of a furnace's premise so; refused with `already` where it is so.
+fn change_flag(
+    board: Board,
+    table: &[i16],
+    furnace: u8,
+    l: i16,
+    flag: bool,
+    already: Refusal,
+) -> Change
+    ensures { λ r. ⌜ r ≡ flagChanged (now (table .entry)) board furnace l flag already ⌝ }
 {
-    match place_on(board, table, l) {
+    match place_on(board, table, furnace, l) {
         Placed::Refused(why) => refused(board, why),
         Placed::At(p) => {
-            if board.held[p] == flag {
+            let held = premises(&board.first, &board.second, furnace);
+            if held[p] == flag {
                 return refused(board, already);
             }
-            let mut next = board;
-            next.held[p] = flag;
             Change {
                 outcome: Outcome::Done,
-                board: next,
+                board: with_flag(board, furnace, p, flag),
             }
         }
     }
 }
 
-// Puts a literal into the premises.
-pub fn hold(board: Board, table: &[i16], l: i16) -> Change
-    ensures { λ r. ⌜ r ≡ held (now (table .entry)) board l ⌝ }
+// Puts a literal into a furnace's premises.
+pub fn hold(board: Board, table: &[i16], furnace: u8, l: i16) -> Change
+    ensures { λ r. ⌜ r ≡ held (now (table .entry)) board furnace l ⌝ }
 {
-    change_flag(board, table, l, true, Refusal::AlreadyHeld)
+    change_flag(board, table, furnace, l, true, Refusal::AlreadyHeld)
 }
 
-// Takes a literal out of the premises.
-pub fn withdraw(board: Board, table: &[i16], l: i16) -> Change
-    ensures { λ r. ⌜ r ≡ withdrawn (now (table .entry)) board l ⌝ }
+// Takes a literal out of a furnace's premises.
+pub fn withdraw(board: Board, table: &[i16], furnace: u8, l: i16) -> Change
+    ensures { λ r. ⌜ r ≡ withdrawn (now (table .entry)) board furnace l ⌝ }
 {
-    change_flag(board, table, l, false, Refusal::NotHeld)
+    change_flag(board, table, furnace, l, false, Refusal::NotHeld)
 }

@@ -7,6 +7,8 @@ ghost use lib.ListN.{length, drop};
 ghost use Rattle.board.specs.Grounds.{byteOf, groundOutcome, groundMarks, blameOutcome, blameMarks};
 use crate::Board;
 use crate::Outcome;
+use crate::furnaces::is_furnace;
+use crate::furnaces::premises;
 use crate::testing::Placed;
 use crate::testing::good;
 use crate::testing::place_on;
@@ -26,25 +28,25 @@ fn write_marks(reached: &[bool], marks: &mut [u8])
     }
 }
 
-// Marks the premises that a literal stands on.
-pub fn ground(board: Board, table: &[i16], l: i16, marks: &mut [u8]) -> Outcome
-    ensures { λ r. ⌜ r ≡ groundOutcome (now (table .entry)) board l (now (marks .entry)) ⌝ }
-    ensures { λ _. ⌜ now (marks .exit) ≡ groundMarks (now (table .entry)) board l (now (marks .entry)) ⌝ }
+// Marks the premises of a furnace that a literal stands on.
+pub fn ground(board: Board, table: &[i16], furnace: u8, l: i16, marks: &mut [u8]) -> Outcome
+    ensures { λ r. ⌜ r ≡ groundOutcome (now (table .entry)) board furnace l (now (marks .entry)) ⌝ }
+    ensures { λ _. ⌜ now (marks .exit) ≡ groundMarks (now (table .entry)) board furnace l (now (marks .entry)) ⌝ }
 {
-    match place_on(board, table, l) {
+    match place_on(board, table, furnace, l) {
         Placed::Refused(why) => Outcome::Refused(why),
         Placed::At(p) => {
             let places = 2 * board.symbols;
             if marks.len() < places {
                 return Outcome::Refused(Refusal::TableTooShort);
             }
-            let held = board.held;
+            let held = premises(&board.first, &board.second, furnace);
             let mut ranks = [NONE; 400];
             let mut reached = [false; 400];
             let high = rounds::propagation::trace(
                 table,
                 board.rows,
-                &held,
+                held,
                 &mut ranks[..places],
                 p,
                 &mut reached[..places],
@@ -61,25 +63,28 @@ pub fn ground(board: Board, table: &[i16], l: i16, marks: &mut [u8]) -> Outcome
     }
 }
 
-// Marks the premises that the symbol that blame takes stands on, by either of its literals: `trace`, given no place, finds it.
-pub fn blame(board: Board, table: &[i16], marks: &mut [u8]) -> Outcome
-    ensures { λ r. ⌜ r ≡ blameOutcome (now (table .entry)) board (now (marks .entry)) ⌝ }
-    ensures { λ _. ⌜ now (marks .exit) ≡ blameMarks (now (table .entry)) board (now (marks .entry)) ⌝ }
+// Marks the premises of a furnace that the symbol that blame takes stands on, by either of its literals: `trace`, given no place, finds it.
+pub fn blame(board: Board, table: &[i16], furnace: u8, marks: &mut [u8]) -> Outcome
+    ensures { λ r. ⌜ r ≡ blameOutcome (now (table .entry)) board furnace (now (marks .entry)) ⌝ }
+    ensures { λ _. ⌜ now (marks .exit) ≡ blameMarks (now (table .entry)) board furnace (now (marks .entry)) ⌝ }
 {
     if !good(board, table) {
         return Outcome::Refused(Refusal::BadBoard);
+    }
+    if !is_furnace(furnace) {
+        return Outcome::Refused(Refusal::BadFurnace);
     }
     let places = 2 * board.symbols;
     if marks.len() < places {
         return Outcome::Refused(Refusal::TableTooShort);
     }
-    let held = board.held;
+    let held = premises(&board.first, &board.second, furnace);
     let mut ranks = [NONE; 400];
     let mut reached = [false; 400];
     let high = rounds::propagation::trace(
         table,
         board.rows,
-        &held,
+        held,
         &mut ranks[..places],
         NONE as usize,
         &mut reached[..places],

@@ -1,23 +1,24 @@
-// The board: nine calls, each total. A call tests its own input, refuses in document 01's order and then leaves everything as it
+// The board: nine calls, each total. A call tests its own input, refuses in the documents' order and then leaves everything as it
 // was, or is done and writes only the places named for it.
 
 pub mod asking;
 pub mod changes;
+mod furnaces;
 pub mod grounds;
-mod ranking;
 pub mod rules;
 pub mod settling;
 pub mod testing;
 
 use literals::refusal::Refusal;
 
-// S symbols, the rows of the caller's table in use, and a flag for each literal's place. Each field may hold anything: the calls
-// test it.
+// S symbols, the rows of the caller's table in use, and the premises, a flag for each literal's place: those of furnace 1 first, then those
+// of furnace 2. Each field may hold anything: the calls test it.
 #[repr(C)]
 pub struct Board {
     pub symbols: usize,
     pub rows: usize,
-    pub held: [bool; 400],
+    pub first: [bool; 400],
+    pub second: [bool; 400],
 }
 
 // What a call comes to.

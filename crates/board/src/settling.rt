@@ -4,36 +4,42 @@ ghost use mathlib.Core.Path.{_≡_};
 ghost use Rattle.board.specs.Settling.{settleOutcome, settledLabels, settledRanks, settledSupports};
 use crate::Board;
 use crate::Outcome;
+use crate::furnaces::is_furnace;
+use crate::furnaces::premises;
 use crate::testing::good;
 use literals::refusal::Refusal;
 
-// Writes the labels, ranks and supports of a board. The ranks and supports go straight into the lent tables: refusal 14, the one that only
+// Writes the labels, ranks and supports of a furnace. The ranks and supports go straight into the lent tables: refusal 14, the one that only
 // they could bring, is never given, as `meaning` proves.
 pub fn settle(
     board: Board,
     table: &[i16],
+    furnace: u8,
     labels: &mut [u8],
     ranks: &mut [u16],
     supports: &mut [u16],
 ) -> Outcome
-    ensures { λ r. ⌜ r ≡ settleOutcome (now (table .entry)) board (now (labels .entry)) (now (ranks .entry)) (now (supports .entry)) ⌝ }
-    ensures { λ _. ⌜ now (labels .exit) ≡ settledLabels (now (table .entry)) board (now (labels .entry)) (now (ranks .entry)) (now (supports .entry)) ⌝ }
-    ensures { λ _. ⌜ now (ranks .exit) ≡ settledRanks (now (table .entry)) board (now (labels .entry)) (now (ranks .entry)) (now (supports .entry)) ⌝ }
-    ensures { λ _. ⌜ now (supports .exit) ≡ settledSupports (now (table .entry)) board (now (labels .entry)) (now (ranks .entry)) (now (supports .entry)) ⌝ }
+    ensures { λ r. ⌜ r ≡ settleOutcome (now (table .entry)) board furnace (now (labels .entry)) (now (ranks .entry)) (now (supports .entry)) ⌝ }
+    ensures { λ _. ⌜ now (labels .exit) ≡ settledLabels (now (table .entry)) board furnace (now (labels .entry)) (now (ranks .entry)) (now (supports .entry)) ⌝ }
+    ensures { λ _. ⌜ now (ranks .exit) ≡ settledRanks (now (table .entry)) board furnace (now (labels .entry)) (now (ranks .entry)) (now (supports .entry)) ⌝ }
+    ensures { λ _. ⌜ now (supports .exit) ≡ settledSupports (now (table .entry)) board furnace (now (labels .entry)) (now (ranks .entry)) (now (supports .entry)) ⌝ }
 {
     if !good(board, table) {
         return Outcome::Refused(Refusal::BadBoard);
+    }
+    if !is_furnace(furnace) {
+        return Outcome::Refused(Refusal::BadFurnace);
     }
     let symbols = board.symbols;
     let places = 2 * symbols;
     if labels.len() < symbols || ranks.len() < places || supports.len() < places {
         return Outcome::Refused(Refusal::TableTooShort);
     }
-    let held = board.held;
+    let held = premises(&board.first, &board.second, furnace);
     let high = rounds::propagation::propagate(
         table,
         board.rows,
-        &held,
+        held,
         &mut ranks[..places],
         0,
         &mut supports[..places],

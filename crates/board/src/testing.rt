@@ -1,4 +1,4 @@
-// The tests that come first: refusal 1 for a board, and then 2 for a literal.
+// The tests that come first: refusal 1 for a board, then 16 for a furnace and 2 for a literal.
 
 ghost use mathlib.Core.Path.{_≡_};
 ghost use lib.ListN.{drop};
@@ -6,6 +6,7 @@ ghost use Rattle.meaning.specs.Tests.{any};
 ghost use Rattle.board.specs.Faults.{goodBoard};
 ghost use Rattle.board.specs.Placing.{placed};
 use crate::Board;
+use crate::furnaces::is_furnace;
 use literals::refusal::Refusal;
 
 // The place of a literal that a call is given, or why the call is refused.
@@ -18,17 +19,16 @@ pub enum Placed {
 fn held_beyond(held: &[bool], places: usize) -> bool
     ensures { λ r. ⌜ r ≡ any (λ h. h) (drop places (now (held .entry))) ⌝ }
 {
+    let mut found = false;
     let mut k = places;
     while k < held.len() {
-        if held[k] {
-            return true;
-        }
+        found = found | held[k];
         k += 1;
     }
-    false
+    found
 }
 
-// Whether S is from 1 to 200, the rows in use are lent and sound, and no premise is of a symbol beyond S.
+// Whether S is from 1 to 200, the rows in use are lent and sound, and no premise of either furnace is of a symbol beyond S.
 pub fn good(board: Board, table: &[i16]) -> bool
     ensures { λ r. ⌜ r ≡ goodBoard (now (table .entry)) board ⌝ }
 {
@@ -44,15 +44,21 @@ pub fn good(board: Board, table: &[i16]) -> bool
     if !literals::rows_sound(table, board.rows, board.symbols) {
         return false;
     }
-    !held_beyond(&board.held, 2 * board.symbols)
+    if held_beyond(&board.first, 2 * board.symbols) {
+        return false;
+    }
+    !held_beyond(&board.second, 2 * board.symbols)
 }
 
-// The place of a literal of a good board.
-pub fn place_on(board: Board, table: &[i16], l: i16) -> Placed
-    ensures { λ r. ⌜ r ≡ placed (now (table .entry)) board l ⌝ }
+// The place of a literal of a good board, for a furnace.
+pub fn place_on(board: Board, table: &[i16], furnace: u8, l: i16) -> Placed
+    ensures { λ r. ⌜ r ≡ placed (now (table .entry)) board furnace l ⌝ }
 {
     if !good(board, table) {
         return Placed::Refused(Refusal::BadBoard);
+    }
+    if !is_furnace(furnace) {
+        return Placed::Refused(Refusal::BadFurnace);
     }
     if !literals::in_range(l, board.symbols) {
         return Placed::Refused(Refusal::BadLiteral);

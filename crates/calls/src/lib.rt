@@ -28,6 +28,11 @@ fn named(name: &[u8], l: i16) {
     printing::literal(l);
 }
 
+// The furnace that a call names, after all else that it is given.
+fn for_furnace(furnace: u8) {
+    counted(b" for", furnace as usize);
+}
+
 // What adding a rule came to: the rows in use before it, those that it added, and at how many places the table changed.
 pub fn added(before: Board, told: Addition, places: usize, table: &[i16]) {
     let outcome = told.outcome;
@@ -72,16 +77,18 @@ fn change(before: Board, told: Change) {
     }
 }
 
-pub fn hold(before: Board, table: &[i16], l: i16) -> Board {
-    let told = board::changes::hold(before, table, l);
+pub fn hold(before: Board, table: &[i16], furnace: u8, l: i16) -> Board {
+    let told = board::changes::hold(before, table, furnace, l);
     named(b"; hold", l);
+    for_furnace(furnace);
     change(before, told);
     told.board
 }
 
-pub fn withdraw(before: Board, table: &[i16], l: i16) -> Board {
-    let told = board::changes::withdraw(before, table, l);
+pub fn withdraw(before: Board, table: &[i16], furnace: u8, l: i16) -> Board {
+    let told = board::changes::withdraw(before, table, furnace, l);
     named(b"; drop", l);
+    for_furnace(furnace);
     change(before, told);
     told.board
 }
@@ -142,6 +149,7 @@ fn settled(told: Outcome, labels: &[u8], ranks: &[u16], supports: &[u16]) {
 fn settle_in(
     before: Board,
     table: &[i16],
+    furnace: u8,
     labels: &mut [u8],
     a: usize,
     ranks: &mut [u16],
@@ -154,6 +162,7 @@ fn settle_in(
     board::settling::settle(
         before,
         table,
+        furnace,
         &mut labels[..a],
         &mut ranks[..b],
         &mut supports[..c],
@@ -161,7 +170,7 @@ fn settle_in(
 }
 
 // Settles with so many places of each table lent.
-pub fn settle(before: Board, table: &[i16], a: usize, b: usize, c: usize)
+pub fn settle(before: Board, table: &[i16], furnace: u8, a: usize, b: usize, c: usize)
     requires { ⌜ (a ≤ 410) × (b ≤ 410) × (c ≤ 410) ⌝ }
 {
     let mut labels = [BYTE; 410];
@@ -170,6 +179,7 @@ pub fn settle(before: Board, table: &[i16], a: usize, b: usize, c: usize)
     let told = settle_in(
         before,
         table,
+        furnace,
         &mut labels,
         a,
         &mut ranks,
@@ -180,6 +190,7 @@ pub fn settle(before: Board, table: &[i16], a: usize, b: usize, c: usize)
     counted(b"; settle", a);
     number(b);
     number(c);
+    for_furnace(furnace);
     settled(told, &labels, &ranks, &supports);
 }
 
@@ -193,9 +204,10 @@ fn standing(s: Standing) {
     }
 }
 
-pub fn ask(before: Board, table: &[i16], l: i16) {
+pub fn ask(before: Board, table: &[i16], furnace: u8, l: i16) {
     named(b"; ask", l);
-    standing(board::asking::ask(before, table, l));
+    for_furnace(furnace);
+    standing(board::asking::ask(before, table, furnace, l));
 }
 
 fn reason(r: Reason) {
@@ -206,10 +218,11 @@ fn reason(r: Reason) {
 }
 
 // Both of the calls that explain.
-pub fn explain(before: Board, table: &[i16], l: i16) {
+pub fn explain(before: Board, table: &[i16], furnace: u8, l: i16) {
     named(b"; why", l);
-    reason(board::asking::explain_numbers(before, table, l));
-    printing::numbers(board::asking::explain(before, table, l));
+    for_furnace(furnace);
+    reason(board::asking::explain_numbers(before, table, furnace, l));
+    printing::numbers(board::asking::explain(before, table, furnace, l));
 }
 
 // What ground or blame wrote at the front of the table: the marks, or of many how many are set.
@@ -228,36 +241,38 @@ fn marked(told: Outcome, marks: &[u8]) {
 }
 
 // Grounds a literal with the first so many marks lent.
-fn ground_in(before: Board, table: &[i16], l: i16, marks: &mut [u8], lent: usize)
+fn ground_in(before: Board, table: &[i16], furnace: u8, l: i16, marks: &mut [u8], lent: usize)
     requires { ⌜ lent ≤ length (now marks) ⌝ }
 {
-    let told = board::grounds::ground(before, table, l, &mut marks[..lent]);
+    let told = board::grounds::ground(before, table, furnace, l, &mut marks[..lent]);
     marked(told, marks);
 }
 
 // Grounds a literal with so many marks lent.
-pub fn ground(before: Board, table: &[i16], l: i16, lent: usize)
+pub fn ground(before: Board, table: &[i16], furnace: u8, l: i16, lent: usize)
     requires { ⌜ lent ≤ 410 ⌝ }
 {
     let mut marks = [BYTE; 410];
     named(b"; ground", l);
     counted(b" in", lent);
-    ground_in(before, table, l, &mut marks, lent);
+    for_furnace(furnace);
+    ground_in(before, table, furnace, l, &mut marks, lent);
 }
 
 // Blames with the first so many marks lent.
-fn blame_in(before: Board, table: &[i16], marks: &mut [u8], lent: usize)
+fn blame_in(before: Board, table: &[i16], furnace: u8, marks: &mut [u8], lent: usize)
     requires { ⌜ lent ≤ length (now marks) ⌝ }
 {
-    let told = board::grounds::blame(before, table, &mut marks[..lent]);
+    let told = board::grounds::blame(before, table, furnace, &mut marks[..lent]);
     marked(told, marks);
 }
 
 // Blames with so many marks lent.
-pub fn blame(before: Board, table: &[i16], lent: usize)
+pub fn blame(before: Board, table: &[i16], furnace: u8, lent: usize)
     requires { ⌜ lent ≤ 410 ⌝ }
 {
     let mut marks = [BYTE; 410];
     counted(b"; blame in", lent);
-    blame_in(before, table, &mut marks, lent);
+    for_furnace(furnace);
+    blame_in(before, table, furnace, &mut marks, lent);
 }

@@ -1,28 +1,13 @@
 // Each cause of refusal 1, at each call that can give it.
 
 ghost use Prim.Native.Nat.{_≤_};
+use crate::named;
 use board::Board;
 use report::boards;
 use report::boards::blank;
 use report::printing;
 
-fn changing(b: Board, table: &[i16], l: i16) {
-    calls::hold(b, table, l);
-    calls::withdraw(b, table, l);
-}
-
-// The calls that read the board, with so many places lent where one writes.
-fn reading(b: Board, table: &[i16], l: i16, places: usize)
-    requires { ⌜ places ≤ 410 ⌝ }
-{
-    calls::settle(b, table, places, places, places);
-    calls::ask(b, table, l);
-    calls::explain(b, table, l);
-    calls::ground(b, table, l, places);
-    calls::blame(b, table, places);
-}
-
-// Every call but open, with the second row of the table shown.
+// Every call but open, by furnace 1, with the second row of the table shown.
 fn every(b: Board, table: [i16; 40], lent: usize, bytes: &[u8], l: i16, places: usize)
     requires { ⌜ (lent ≤ 40) × (places ≤ 410) ⌝ }
 {
@@ -30,8 +15,8 @@ fn every(b: Board, table: [i16; 40], lent: usize, bytes: &[u8], l: i16, places: 
     printing::numbers(&table[8..16]);
     calls::rule(b, table, lent, bytes);
     let part = &table[..lent];
-    changing(b, part, l);
-    reading(b, part, l, places);
+    named::changing(b, part, 1, l);
+    named::reading(b, part, 1, l, places);
     printing::end();
 }
 
@@ -78,10 +63,12 @@ fn rows() {
     row(-32768, 0, 0);
 }
 
-// Premises of symbols 5 and 200 of 4.
+// Premises of symbols 5 and 200 of 4, held by furnace 1, and then by furnace 2.
 fn held() {
     good_call(boards::with(boards::both(), 8), boards::rows(), 40);
     good_call(boards::with(boards::both(), 399), boards::rows(), 40);
+    good_call(boards::with_second(boards::both(), 8), boards::rows(), 40);
+    good_call(boards::with_second(boards::both(), 399), boards::rows(), 40);
 }
 
 pub fn run() {

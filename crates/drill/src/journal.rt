@@ -6,15 +6,15 @@ use report::printing;
 
 // What its fifth board gives for literal 4, and its tenth, where 1 was withdrawn and -3 is held.
 fn answers(fifth: Board, table: &[i16]) {
-    calls::settle(fifth, table, 4, 8, 8);
-    calls::ask(fifth, table, 4);
-    calls::explain(fifth, table, 4);
-    calls::ground(fifth, table, 4, 8);
-    let eighth = calls::withdraw(fifth, table, 1);
-    calls::ask(eighth, table, 4);
-    let tenth = calls::hold(eighth, table, -3);
-    calls::ask(tenth, table, 4);
-    calls::blame(tenth, table, 8);
+    calls::settle(fifth, table, 1, 4, 8, 8);
+    calls::ask(fifth, table, 1, 4);
+    calls::explain(fifth, table, 1, 4);
+    calls::ground(fifth, table, 1, 4, 8);
+    let eighth = calls::withdraw(fifth, table, 1, 1);
+    calls::ask(eighth, table, 1, 4);
+    let tenth = calls::hold(eighth, table, 1, -3);
+    calls::ask(tenth, table, 1, 4);
+    calls::blame(tenth, table, 1, 8);
 }
 
 pub fn run() {
@@ -32,8 +32,8 @@ pub fn run() {
         40,
         b"\x14\x12\x10\x02\x10\x03\x10\x04",
     );
-    let fourth = calls::hold(third, &table, 1);
-    let fifth = calls::hold(fourth, &table, 3);
+    let fourth = calls::hold(third, &table, 1, 1);
+    let fifth = calls::hold(fourth, &table, 1, 3);
     answers(fifth, &table);
     printing::end();
 }

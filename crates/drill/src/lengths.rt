@@ -11,7 +11,7 @@ fn settle(b: Board, labels: usize, ranks: usize, supports: usize)
 {
     let table = boards::rows();
     printing::on(b, 40);
-    calls::settle(b, &table, labels, ranks, supports);
+    calls::settle(b, &table, 1, labels, ranks, supports);
     printing::end();
 }
 
@@ -21,8 +21,8 @@ fn mark(b: Board, l: i16, places: usize)
 {
     let table = boards::rows();
     printing::on(b, 40);
-    calls::ground(b, &table, l, places);
-    calls::blame(b, &table, places);
+    calls::ground(b, &table, 1, l, places);
+    calls::blame(b, &table, 1, places);
     printing::end();
 }
 
@@ -86,8 +86,8 @@ fn supports() {
     );
     let b = with(boards::blank(3, 3), 0);
     printing::on(b, 40);
-    calls::settle(b, &table, 3, 6, 6);
-    calls::settle(with(b, 2), &table, 3, 6, 6);
+    calls::settle(b, &table, 1, 3, 6, 6);
+    calls::settle(with(b, 2), &table, 1, 3, 6, 6);
     printing::end();
 }
 

@@ -8,24 +8,23 @@ use report::printing;
 fn show(b: Board, l: i16) {
     let table = boards::rows();
     printing::on(b, 40);
-    calls::hold(b, &table, l);
-    calls::withdraw(b, &table, l);
-    calls::ask(b, &table, l);
-    calls::explain(b, &table, l);
-    calls::ground(b, &table, l, 8);
+    calls::hold(b, &table, 1, l);
+    calls::withdraw(b, &table, 1, l);
+    calls::ask(b, &table, 1, l);
+    calls::explain(b, &table, 1, l);
+    calls::ground(b, &table, 1, l, 8);
     printing::end();
 }
 
 // Hold twice, hold the opposite, withdraw twice: each is given the board that the one before handed back.
-fn one_after_another() {
-    let table = boards::rows();
+fn one_after_another(table: &[i16]) {
     let a = boards::none();
     printing::on(a, 40);
-    let b = calls::hold(a, &table, 4);
-    let c = calls::hold(b, &table, 4);
-    let d = calls::hold(c, &table, -4);
-    let e = calls::withdraw(d, &table, 4);
-    calls::withdraw(e, &table, 4);
+    let b = calls::hold(a, table, 1, 4);
+    let c = calls::hold(b, table, 1, 4);
+    let d = calls::hold(c, table, 1, -4);
+    let e = calls::withdraw(d, table, 1, 4);
+    calls::withdraw(e, table, 1, 4);
     printing::end();
 }
 
@@ -42,5 +41,5 @@ pub fn run() {
     show(boards::none(), 4);
     show(boards::clash(), 3);
     show(boards::with(boards::clash(), 0), 4);
-    one_after_another();
+    one_after_another(&boards::rows());
 }

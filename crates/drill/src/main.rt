@@ -1,9 +1,12 @@
-// Runs the calls of `board` over the boards that document 01 lists and over every refusal, and prints what each call answers.
+// Runs the calls of `board` over the boards that document 01 lists and over every refusal, for furnace 1, and in `furnaces` for both, and prints what
+// each call answers.
 
 mod faults;
+mod furnaces;
 mod journal;
 mod lengths;
 mod literals_given;
+mod named;
 mod opening;
 mod rules;
 
@@ -12,6 +15,7 @@ fn main() {
     rules::run();
     faults::run();
     literals_given::run();
+    furnaces::run();
     lengths::run();
     journal::run();
 }

@@ -49,13 +49,19 @@ fn read_wide_full(list: &[u8]) {
     each(blank(200, 2), 16, list);
 }
 
-// 1: S of 0 and 201, fewer rows lent than are in use, a row that is not sound, a premise of symbol 5 of 4. And 1 is ahead of 15, 2 and 8.
+// 1: S of 0 and 201, fewer rows lent than are in use, a row that is not sound, a premise of symbol 5 of 4, held by furnace 1, and by furnace 2.
+// And 1 is ahead of 15, 2 and 8.
 fn spoilt() {
     show(blank(0, 2), 40, b"p cnf 4 1\n1 0\n");
     show(blank(201, 2), 40, b"p cnf 4 1\n1 0\n");
     show(boards::none(), 15, b"p cnf 4 1\n1 0\n");
     show(blank(4, 3), 40, b"p cnf 4 1\n1 0\n");
     show(boards::with(boards::both(), 8), 40, b"p cnf 4 1\n1 0\n");
+    show(
+        boards::with_second(boards::both(), 8),
+        40,
+        b"p cnf 4 1\n1 0\n",
+    );
     show(blank(0, 2), 40, b"");
     show(blank(4, 3), 40, b"p cnf 4 2\n1 0\n");
     show(blank(4, 3), 40, b"p cnf 5 2\n5 0\n0\n");
@@ -96,7 +102,7 @@ fn taken() {
 }
 
 // The rows of three clauses fill the table; those of two fill a shorter one, whose last seven numbers are no row. An always true clause has no
-// row: it is taken behind them, and where no row is free.
+// row: it is taken behind them, and where no row is free. A reading keeps the premises of both furnaces.
 fn rows() {
     read(b"p cnf 4 3\n1 0\n2 4 0\n-3 0\n/");
     show(boards::both(), 39, b"p cnf 4 2\n1 0\n2 4 0\n");
@@ -104,6 +110,11 @@ fn rows() {
     read_full(
         b"p cnf 4 1\n1 -2 -1 0\n/\
           p cnf 4 0\n/",
+    );
+    show(
+        boards::with_second(boards::both(), 2),
+        40,
+        b"p cnf 4 1\n1 0\n",
     );
 }
 
@@ -179,9 +190,11 @@ fn write(b: Board, room: usize)
     printing::end();
 }
 
-// 1, also ahead of 13; 13 with no room and with one byte too few; exactly enough, and more. Then boards with no row in use.
+// 1, also by furnace 2's premise of symbol 5 of 4, and ahead of 13; 13 with no room and with one byte too few; exactly enough, and more. Then boards
+// with no row in use.
 fn writing() {
     write(blank(0, 2), 100);
+    write(boards::with_second(boards::both(), 8), 100);
     write(blank(4, 3), 0);
     write(boards::both(), 0);
     write(boards::both(), 26);

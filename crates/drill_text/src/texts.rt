@@ -40,12 +40,14 @@ fn tried(list: &[u8]) {
     each(boards::both(), 40, 50, list);
 }
 
-// 1: S of 0 and 201, fewer rows lent than are in use, a premise of symbol 5 of 4, a row that is not sound. And 1 is ahead of 15, 2, 5, 8 and 13.
+// 1: S of 0 and 201, fewer rows lent than are in use, a premise of symbol 5 of 4, held by furnace 1, and by furnace 2, a row that is not sound. And
+// 1 is ahead of 15, 2, 5, 8 and 13.
 fn spoilt() {
     each(blank(0, 2), 40, 50, b"1/");
     each(blank(201, 2), 40, 50, b"1/");
     each(boards::none(), 15, 50, b"1/");
     each(boards::with(boards::both(), 8), 40, 50, b"1/");
+    each(boards::with_second(boards::both(), 8), 40, 50, b"1/");
     each(blank(4, 3), 40, 0, b"1//1&/5/----------------1/1&-1/");
 }
 
@@ -121,7 +123,7 @@ fn symbols() {
 }
 
 // 8 by a rule that no assignment satisfies, also where no row is free; 9 with no row free and with one too few; the last free row; an always true
-// rule has no row. 2 and 5 are ahead of 9, and 2 of 8.
+// rule has no row. 2 and 5 are ahead of 9, and 2 of 8. A rule keeps the premises of both furnaces.
 fn rows() {
     tried(b"1&-1/1|-1/(1|2)&(-1|3)/");
     each(boards::both(), 39, 50, b"(1|2)&(-1|3)/");
@@ -132,6 +134,7 @@ fn rows() {
         50,
         b"1/1&-1/1|-1/5&-5/----------------1/",
     );
+    each(boards::with_second(boards::both(), 2), 40, 50, b"1/");
 }
 
 // 13 with no byte lent and with one too few, and not with exactly enough; 2 and 5 are ahead of it. Adding a rule needs no bytes lent.

@@ -32,11 +32,12 @@ fn each(b: Board, room: usize, list: &[u8])
     }
 }
 
-// 1: S of 0 and 201, a premise of symbol 5 of 4, a row that is not sound. And 1 is ahead of 3, 4 and 13.
+// 1: S of 0 and 201, a premise of symbol 5 of 4, held by furnace 1, and by furnace 2, a row that is not sound. And 1 is ahead of 3, 4 and 13.
 fn spoilt() {
     each(blank(0, 2), 100, b"\x10\x01/");
     each(blank(201, 2), 100, b"\x10\x01/");
     each(boards::with(boards::both(), 8), 100, b"\x10\x01/");
+    each(boards::with_second(boards::both(), 8), 100, b"\x10\x01/");
     each(blank(4, 3), 0, b"\x10\x01//\x16/");
 }
 

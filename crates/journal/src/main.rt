@@ -32,7 +32,8 @@ fn start() -> Run
     let board = Board {
         symbols: 0,
         rows: 0,
-        held: [false; 400],
+        first: [false; 400],
+        second: [false; 400],
     };
     Run {
         board,

@@ -19,13 +19,13 @@ fn chain(table: &mut [i16]) -> Board {
     b
 }
 
-// Settle, and explain and ground for one literal, and blame.
+// Settle, and explain and ground for one literal, and blame, for furnace 1.
 fn show(b: Board, table: &[i16], l: i16) {
     printing::on(b, table.len());
-    calls::settle(b, table, 200, 400, 400);
-    calls::explain(b, table, l);
-    calls::ground(b, table, l, 400);
-    calls::blame(b, table, 400);
+    calls::settle(b, table, 1, 200, 400, 400);
+    calls::explain(b, table, 1, l);
+    calls::ground(b, table, 1, l, 400);
+    calls::blame(b, table, 1, 400);
     printing::end();
 }
 
@@ -65,7 +65,7 @@ fn fill(table: &mut [i16])
     }
 }
 
-// 200 symbols and so many rows, with 1, 2, 3 and 4 held.
+// 200 symbols and so many rows, with 1, 2, 3 and 4 held by furnace 1.
 fn held(rows: usize) -> Board {
     let one = boards::with(boards::blank(200, rows), 0);
     let two = boards::with(one, 2);

@@ -21,7 +21,7 @@ use Rattle.board.specs.declared.Outcome.the-variants.{Done, Refused}
 use Rattle.board.specs.declared.asking.Standing.{Standing}
 use Rattle.board.specs.declared.asking.Standing.the-variants.{Conflict, Stands, RuledOut, Open as Unsettled, Refused as Unasked}
 use Rattle.lines.specs.Words.{okWord}
-use Rattle.lines.specs.Commands.{accepted, askSaid, bodyLength, bodySaid, changeSaid, commandAt, commandSaid, commandTable, formulaBytes, formulaLength, literalIn, ofBytes, ofCall, reasonText, refused, refusedAt, rowsText, Said, said, wordOf}
+use Rattle.lines.specs.Commands.{accepted, askSaid, bodyLength, bodySaid, changeSaid, commandAt, commandSaid, commandTable, formulaBytes, formulaLength, literalIn, ofBytes, ofCall, journalFurnace, reasonText, refused, refusedAt, rowsText, Said, said, wordOf}
 use Rattle.lines.specs.declared.commands.Command.{Command}
 use Rattle.lines.specs.declared.commands.Command.the-variants.{Open, Rule, Hold, Drop, Ask, Why, Other}
 use Rattle.lines.proofs.Reading.{formula-most}
@@ -86,12 +86,12 @@ module _ (b : Board) (table : List ℤ) (body : List ℕ) where
       let rows = rowsText (b .rows) (a .added) in
       rw (ending-used (a .outcome) (a .board) (1 + size) rows (refusedAt (a .board) (1 + size) (a .place)) (λ why. refl))
       (omega arith, omega (arith, formula-most (b .symbols) body))
-  body-used Hold h = rw (change-used 3 (held table b (literalIn body))) (omega arith, omega arith)
-  body-used Drop h = rw (change-used 3 (withdrawn table b (literalIn body))) (omega arith, omega arith)
-  body-used Ask h = rw (standing-used b (asked table b (literalIn body))) (omega arith, omega arith)
+  body-used Hold h = rw (change-used 3 (held table b journalFurnace (literalIn body))) (omega arith, omega arith)
+  body-used Drop h = rw (change-used 3 (withdrawn table b journalFurnace (literalIn body))) (omega arith, omega arith)
+  body-used Ask h = rw (standing-used b (asked table b journalFurnace (literalIn body))) (omega arith, omega arith)
   body-used Why h =
-      let r = reasoned table b (literalIn body) in
-      let s = explained table b (literalIn body) in
+      let r = reasoned table b journalFurnace (literalIn body) in
+      let s = explained table b journalFurnace (literalIn body) in
       let reason = reasonText (r .rank) (r .row) (take (s .stop - s .start) (drop (s .start) table)) in
       rw (ending-used (r .outcome) b 3 reason (refused b 3 ofCall) (λ why. refl)) (omega arith, omega arith)
   body-used Other h = (omega arith, omega arith)

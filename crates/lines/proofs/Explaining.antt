@@ -18,11 +18,11 @@ unfolding numbersAt
 row-most table r = count-few table (width * r)
 
 -- the part that explain hands back
-pub part-most : (table : List ℤ) (b : Board) (l : ℤ) → explained table b l .stop - explained table b l .start ≤ 8
+pub part-most : (table : List ℤ) (b : Board) (furnace : ℕ) (l : ℤ) → explained table b furnace l .stop - explained table b furnace l .start ≤ 8
 unfolding explained
-part-most table b l =
-    let row = supportOn table b (placeOf l) in
-    go (firstFault (explainFaults table b l)) (width * row) (length (decode (numbersAt table row))) (row-most table row)
+part-most table b furnace l =
+    let row = supportOn table b furnace (placeOf l) in
+    go (firstFault (explainFaults table b furnace l)) (width * row) (length (decode (numbersAt table row))) (row-most table row)
   where
     go : (o : Outcome) (start count : ℕ) → count ≤ 8
         → ifDone {A = Span} o (record { start = start; stop = start + count }) (λ _. record { start = 0; stop = 0 }) .stop

@@ -14,7 +14,8 @@ use Rattle.literals.specs.Literal.{placeOf, literalAt}
 use Rattle.literals.specs.Row.{numbersAt, zeros, rising, rowSound, rowsSound, decode, rowsIn, encode}
 use Rattle.formula.specs.Parse.{symbolAt, secondOf, bodyOf, parse, wholeOf}
 use Rattle.implicates.specs.Appending.{appended}
-use Rattle.board.specs.Faults.{goodBoard}
+use Rattle.board.specs.Furnaces.{isFurnace, heldBy, withHeld}
+use Rattle.board.specs.Faults.{premisesFit, goodBoard}
 use Rattle.board.specs.Changes.{openFaults, opened, flagFaults, flagChanged}
 use Rattle.board.specs.Rules.{ruleFaults, ruled, ruledTable}
 use Rattle.board.specs.Asking.{askFaults, asked, explainFaults, reasoned, explained}
@@ -23,7 +24,7 @@ use Rattle.spelling.specs.Text.{digitsOf, literalList}
 use Rattle.lines.specs.Commands.{literalIn, formulaLength, commandSaid, commandTable, said, saidTable, linesOf}
 
 abbrev start : Board
-start = record { symbols = 0; rows = 0; held = replicate 400 false }
+start = record { symbols = 0; rows = 0; first = replicate 400 false; second = replicate 400 false }
 
 record Case : Type 0 where
   input : List ℕ
@@ -57,5 +58,5 @@ cases =
     ∷ []
 
 printed : map (λ (c : Case). linesOf (length (c .input)) 1 start (replicate 16384 (pos 0)) (c .input)) cases ≡ map (λ (c : Case). c .lines) cases
-unfolding hit implicate prime ofSize value occurs symbolsOf opp gives next reached rankBy firstGiver supportAt supportOf rankAbove placeOf literalAt numbersAt zeros rising rowSound rowsSound decode rowsIn encode symbolAt secondOf bodyOf parse wholeOf appended goodBoard openFaults opened flagFaults flagChanged ruleFaults ruled ruledTable askFaults asked explainFaults reasoned explained digitsOf literalList literalIn formulaLength commandSaid commandTable said saidTable linesOf
+unfolding hit implicate prime ofSize value occurs symbolsOf opp gives next reached rankBy firstGiver supportAt supportOf rankAbove placeOf literalAt numbersAt zeros rising rowSound rowsSound decode rowsIn encode symbolAt secondOf bodyOf parse wholeOf appended isFurnace heldBy withHeld premisesFit goodBoard openFaults opened flagFaults flagChanged ruleFaults ruled ruledTable askFaults asked explainFaults reasoned explained digitsOf literalList literalIn formulaLength commandSaid commandTable said saidTable linesOf
 printed = refl

@@ -88,6 +88,10 @@ ofCall = 1
 abbrev pub ofBytes : ℕ
 ofBytes = 5
 
+-- 02, Ticket 6: "the journal works furnace 1"
+abbrev pub journalFurnace : ℕ
+journalFurnace = 1
+
 -- "`ok` for open, hold and withdraw"
 abbrev pub changeSaid : (used : ℕ) → Change → Said
 changeSaid used c = ifDone (c .outcome) (accepted (c .board) used okWord) (refused (c .board) used ofCall)
@@ -106,8 +110,8 @@ reasonText rank row literals = (rankWord ++ natural rank) ++ (rowWord ++ natural
 
 abbrev pub whySaid : Board → List ℤ → ℤ → Said
 whySaid b table l =
-    let reason = reasoned table b l in
-    let span = explained table b l in
+    let reason = reasoned table b journalFurnace l in
+    let span = explained table b journalFurnace l in
     ifDone (reason .outcome)
     (accepted b 3 (reasonText (reason .rank) (reason .row) (take (span .stop - span .start) (drop (span .start) table))))
     (refused b 3 ofCall)
@@ -144,9 +148,9 @@ ruleSaid before used a =
 abbrev pub bodySaid : Board → List ℤ → List ℕ → Command → Said
 bodySaid b table body Open = changeSaid 2 (opened (getD body 0 0))
 bodySaid b table body Rule = ruleSaid (b .rows) (1 + formulaLength (b .symbols) body) (ruled table b (formulaBytes b body))
-bodySaid b table body Hold = changeSaid 3 (held table b (literalIn body))
-bodySaid b table body Drop = changeSaid 3 (withdrawn table b (literalIn body))
-bodySaid b table body Ask = askSaid b (asked table b (literalIn body))
+bodySaid b table body Hold = changeSaid 3 (held table b journalFurnace (literalIn body))
+bodySaid b table body Drop = changeSaid 3 (withdrawn table b journalFurnace (literalIn body))
+bodySaid b table body Ask = askSaid b (asked table b journalFurnace (literalIn body))
 bodySaid b table body Why = whySaid b table (literalIn body)
 bodySaid b table body Other = refused b 1 ofBytes UnknownKind
 

@@ -32,6 +32,9 @@ pub struct Progress {
     pub stops: bool,
 }
 
+// The furnace that the journal works.
+const FURNACE: u8 = 1;
+
 // The refusals up to this one stop the program: of a call, and of the bytes of a command or a formula.
 const OF_CALL: u8 = 1;
 
@@ -140,12 +143,12 @@ fn say_why(board: Board, table: &[i16], l: i16, out: &mut [u8], at: usize) -> Pr
     ensures { λ r. ⌜ Did (whySaid board (now (table .entry)) l) r (now (out .entry)) (now (out .exit)) at ⌝ }
     ensures { λ r. ⌜ r .written ≤ at + 128 ⌝ }
 {
-    let reason = asking::explain_numbers(board, table, l);
+    let reason = asking::explain_numbers(board, table, FURNACE, l);
     let outcome = reason.outcome;
     match outcome {
         Outcome::Refused(why) => refuse(board, 3, OF_CALL, why, out, at),
         Outcome::Done => {
-            let literals = asking::explain(board, table, l);
+            let literals = asking::explain(board, table, FURNACE, l);
             let written = put_reason(out, at, reason.rank, reason.row, literals);
             Progress {
                 board,
@@ -248,14 +251,24 @@ fn say_body(
     match command {
         Command::Open => say_change(changes::open(body[0] as usize), 2, out, at),
         Command::Rule => say_rule(board, table, body, out, at),
-        Command::Hold => say_change(changes::hold(board, table, literal_in(body)), 3, out, at),
-        Command::Drop => say_change(
-            changes::withdraw(board, table, literal_in(body)),
+        Command::Hold => say_change(
+            changes::hold(board, table, FURNACE, literal_in(body)),
             3,
             out,
             at,
         ),
-        Command::Ask => say_standing(board, asking::ask(board, table, literal_in(body)), out, at),
+        Command::Drop => say_change(
+            changes::withdraw(board, table, FURNACE, literal_in(body)),
+            3,
+            out,
+            at,
+        ),
+        Command::Ask => say_standing(
+            board,
+            asking::ask(board, table, FURNACE, literal_in(body)),
+            out,
+            at,
+        ),
         Command::Why => say_why(board, table, literal_in(body), out, at),
         Command::Other => refuse(board, 1, OF_BYTES, Refusal::UnknownKind, out, at),
     }

@@ -1,7 +1,7 @@
 -- 01, "Numbers of the refusals", and 02's.
 use Prim.Native.Nat.{ℕ}
 use Rattle.literals.specs.declared.refusal.Refusal.{Refusal}
-use Rattle.literals.specs.declared.refusal.Refusal.the-variants.{BadBoard, BadLiteral, CutShort, UnknownKind, TooDeep, BytesLeftOver, TooManySymbols, NoAssignment, TableFull, AlreadyHeld, NotHeld, NothingToShow, TableTooShort, RankTooHigh, BadText}
+use Rattle.literals.specs.declared.refusal.Refusal.the-variants.{BadBoard, BadLiteral, CutShort, UnknownKind, TooDeep, BytesLeftOver, TooManySymbols, NoAssignment, TableFull, AlreadyHeld, NotHeld, NothingToShow, TableTooShort, RankTooHigh, BadText, BadFurnace}
 
 abbrev pub numberOf : Refusal → ℕ
 numberOf BadBoard = 1
@@ -19,3 +19,4 @@ numberOf NothingToShow = 12
 numberOf TableTooShort = 13
 numberOf RankTooHigh = 14
 numberOf BadText = 15
+numberOf BadFurnace = 16

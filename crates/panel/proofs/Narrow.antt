@@ -9,6 +9,7 @@ use lib.IntN.{ℤ}
 use lib.ListN.{length}
 use Rattle.literals.specs.Row.{rowsLent}
 use Rattle.literals.specs.declared.refusal.Refusal.the-variants.{BadText}
+use Rattle.board.specs.Furnaces.{withHeld}
 use Rattle.board.specs.Faults.{firstFault}
 use Rattle.board.specs.Changes.{changed, emptyBoard, openFaults, opened, withFlag, holdFaults, held, withdrawFaults, withdrawn, flagChanged}
 use Rattle.board.specs.Rules.{breaksAt, ruleFaults, rowsOfBytes, ruled}
@@ -33,16 +34,17 @@ narrow-opened S h =
     narrow-changed (firstFault (openFaults S)) (emptyBoard 0) (emptyBoard S) (record { symbols = omega arith; rows = omega arith }) (record { symbols = h; rows = omega arith })
 
 module _ (table : List ℤ) (b : Board) (n : Narrow b) where
-  narrow-flagged : (o : Outcome) (l : ℤ) (flag : Bool) → Narrow (changed o b (withFlag b l flag) .board)
-  narrow-flagged o l flag = narrow-changed o b (withFlag b l flag) n (record { symbols = n .symbols; rows = n .rows })
+  narrow-flagged : (o : Outcome) (furnace : ℕ) (l : ℤ) (flag : Bool) → Narrow (changed o b (withFlag b furnace l flag) .board)
+  unfolding withHeld
+  narrow-flagged o furnace l flag = narrow-changed o b (withFlag b furnace l flag) n (record { symbols = n .symbols; rows = n .rows })
 
-  pub narrow-held : (l : ℤ) → Narrow (held table b l .board)
+  pub narrow-held : (furnace : ℕ) (l : ℤ) → Narrow (held table b furnace l .board)
   unfolding flagChanged
-  narrow-held l = narrow-flagged (firstFault (holdFaults table b l)) l true
+  narrow-held furnace l = narrow-flagged (firstFault (holdFaults table b furnace l)) furnace l true
 
-  pub narrow-withdrawn : (l : ℤ) → Narrow (withdrawn table b l .board)
+  pub narrow-withdrawn : (furnace : ℕ) (l : ℤ) → Narrow (withdrawn table b furnace l .board)
   unfolding flagChanged
-  narrow-withdrawn l = narrow-flagged (firstFault (withdrawFaults table b l)) l false
+  narrow-withdrawn furnace l = narrow-flagged (firstFault (withdrawFaults table b furnace l)) furnace l false
 
   -- "rows in use plus its prime implicates" are at most the rows lent
   few-rows : (bytes : List ℕ) → firstFault (ruleFaults table b bytes) ≡ Done → b .rows + length (rowsOfBytes (b .symbols) bytes) ≤ 2048

@@ -16,7 +16,7 @@ one-withdraw : One panel.tup_withdraw.ended panel.tup_withdraw.Reads.Post
 one-withdraw κs a x y = (cc, refl)
 
 one-settle : One panel.tup_settle.ended panel.tup_settle.Reads.Post
-one-settle κs a x y = (cc, refl & refl & (cc) & (cc) & (cc) & refl)
+one-settle κs a x y = (cc, refl & refl & refl & (cc) & (cc) & (cc) & refl)
 
 one-ask : One panel.tup_ask.ended panel.tup_ask.Reads.Post
 one-ask κs a x y = (cc, refl)
@@ -25,10 +25,10 @@ one-explain : One panel.tup_explain.ended panel.tup_explain.Reads.Post
 one-explain κs a x y = (cc, refl)
 
 one-ground : One panel.tup_ground.ended panel.tup_ground.Reads.Post
-one-ground κs a x y = (cc, refl & refl & refl & (cc) & refl)
+one-ground κs a x y = (cc, refl & refl & refl & refl & (cc) & refl)
 
 one-blame : One panel.tup_blame.ended panel.tup_blame.Reads.Post
-one-blame κs a x y = (cc, refl & refl & (cc) & refl)
+one-blame κs a x y = (cc, refl & refl & refl & (cc) & refl)
 
 one-read-dimacs : One panel.tup_read_dimacs.ended panel.tup_read_dimacs.Reads.Post
 one-read-dimacs κs a x y = (cc, refl & (cc) & refl)

@@ -31,10 +31,10 @@ flagOf byte = not (eqb byte 0)
 
 -- a board from C, and a board to C
 abbrev pub boardIn : PanelBoard → Board
-boardIn b = record { symbols = b .symbols; rows = b .rows; held = map flagOf (b .held) }
+boardIn b = record { symbols = b .symbols; rows = b .rows; first = map flagOf (b .first); second = map flagOf (b .second) }
 
 abbrev pub boardOut : Board → PanelBoard
-boardOut b = record { symbols = b .symbols; rows = b .rows; held = map byteOf (b .held) }
+boardOut b = record { symbols = b .symbols; rows = b .rows; first = map byteOf (b .first); second = map byteOf (b .second) }
 
 -- both numbers of a board fit C's sixteen bits
 pub record Narrow (b : Board) : Type 0 where

@@ -3,6 +3,7 @@
 ghost use mathlib.Core.Path.{_≡_};
 ghost use mathlib.Core.List.{map};
 ghost use Prim.Native.Nat.{_<_};
+ghost use lib.ListN.{length};
 ghost use Rattle.board.specs.Faults.{numberIn};
 ghost use Rattle.board.specs.Grounds.{byteOf};
 ghost use Rattle.panel.specs.Crossing.{flagOf, boardIn, boardOut, Narrow, nextOut, changeOut, additionOut, answerOut, readingOut, writingOut, spellingOut};
@@ -23,42 +24,56 @@ use dimacs::writing::Writing;
 use literals::refusal::number;
 use text::Spelling;
 
-// The premises that the bytes of a board hold.
-fn flags_in(bytes: [u8; 400]) -> [bool; 400]
-    ensures { λ r. ⌜ r ≡ map flagOf bytes ⌝ }
+// A board on which each furnace holds what its bytes say: both sets in one pass.
+fn board_of<'a>(symbols: usize, rows: usize, first: &'a [u8], second: &'a [u8]) -> Board
+    requires { ⌜ (length (now first) ≡ 400) × (length (now second) ≡ 400) ⌝ }
+    ensures { λ r. ⌜ r ≡ record { symbols = symbols; rows = rows; first = map flagOf (now (first .entry)); second = map flagOf (now (second .entry)) } ⌝ }
 {
-    let mut held = [false; 400];
+    let mut board = Board {
+        symbols,
+        rows,
+        first: [false; 400],
+        second: [false; 400],
+    };
     let mut k = 0;
     while k < 400 {
-        held[k] = bytes[k] != 0;
+        board.first[k] = first[k] != 0;
+        board.second[k] = second[k] != 0;
         k += 1;
     }
-    held
+    board
 }
 
-// The bytes of a board that holds these premises.
-fn flags_out(held: [bool; 400]) -> [u8; 400]
-    ensures { λ r. ⌜ r ≡ map byteOf held ⌝ }
+// The same for C, by the flags of each furnace.
+fn panel_of<'a>(symbols: u16, rows: u16, first: &'a [bool], second: &'a [bool]) -> PanelBoard
+    requires { ⌜ (length (now first) ≡ 400) × (length (now second) ≡ 400) ⌝ }
+    ensures { λ r. ⌜ r ≡ record { symbols = symbols; rows = rows; first = map byteOf (now (first .entry)); second = map byteOf (now (second .entry)) } ⌝ }
 {
-    let mut bytes = [0; 400];
+    let mut out = PanelBoard {
+        symbols,
+        rows,
+        first: [0; 400],
+        second: [0; 400],
+    };
     let mut k = 0;
     while k < 400 {
-        bytes[k] = held[k] as u8;
+        out.first[k] = first[k] as u8;
+        out.second[k] = second[k] as u8;
         k += 1;
     }
-    bytes
+    out
 }
 
 // A board from C.
 pub fn board_in(given: PanelBoard) -> Board
     ensures { λ r. ⌜ r ≡ boardIn given ⌝ }
 {
-    let bytes = given.held;
-    Board {
-        symbols: given.symbols as usize,
-        rows: given.rows as usize,
-        held: flags_in(bytes),
-    }
+    board_of(
+        given.symbols as usize,
+        given.rows as usize,
+        &given.first,
+        &given.second,
+    )
 }
 
 // A board to C.
@@ -66,12 +81,12 @@ pub fn board_out(board: Board) -> PanelBoard
     requires { ⌜ Narrow board ⌝ }
     ensures { λ r. ⌜ r ≡ boardOut board ⌝ }
 {
-    let held = board.held;
-    PanelBoard {
-        symbols: board.symbols as u16,
-        rows: board.rows as u16,
-        held: flags_out(held),
-    }
+    panel_of(
+        board.symbols as u16,
+        board.rows as u16,
+        &board.first,
+        &board.second,
+    )
 }
 
 // 0 for a call that is done, or the number of its refusal.

@@ -28,12 +28,13 @@ use crate::crossing::writing_out;
 use board::Outcome;
 use literals::WIDTH;
 
-// A board as C has it: any byte other than 0 is a premise held.
+// A board as C has it: any byte other than 0 is a premise held. `first` and `second`, the premises of furnaces 1 and 2, are the header's `held`.
 #[repr(C)]
 pub struct PanelBoard {
     pub symbols: u16,
     pub rows: u16,
-    pub held: [u8; 400],
+    pub first: [u8; 400],
+    pub second: [u8; 400],
 }
 
 #[repr(C)]
@@ -163,18 +164,18 @@ pub extern "C" fn tup_write_text(
 }
 
 #[no_mangle]
-pub extern "C" fn tup_hold(given: PanelBoard, table: &[i16], l: i16) -> PanelChange
-    ensures { λ r. ⌜ r ≡ changeOut given (held (now (table .entry)) (boardIn given) l) ⌝ }
+pub extern "C" fn tup_hold(given: PanelBoard, table: &[i16], furnace: u8, l: i16) -> PanelChange
+    ensures { λ r. ⌜ r ≡ changeOut given (held (now (table .entry)) (boardIn given) furnace l) ⌝ }
 {
-    let change = board::changes::hold(board_in(given), table, l);
+    let change = board::changes::hold(board_in(given), table, furnace, l);
     change_out(given, change)
 }
 
 #[no_mangle]
-pub extern "C" fn tup_withdraw(given: PanelBoard, table: &[i16], l: i16) -> PanelChange
-    ensures { λ r. ⌜ r ≡ changeOut given (withdrawn (now (table .entry)) (boardIn given) l) ⌝ }
+pub extern "C" fn tup_withdraw(given: PanelBoard, table: &[i16], furnace: u8, l: i16) -> PanelChange
+    ensures { λ r. ⌜ r ≡ changeOut given (withdrawn (now (table .entry)) (boardIn given) furnace l) ⌝ }
 {
-    let change = board::changes::withdraw(board_in(given), table, l);
+    let change = board::changes::withdraw(board_in(given), table, furnace, l);
     change_out(given, change)
 }
 
@@ -182,32 +183,33 @@ pub extern "C" fn tup_withdraw(given: PanelBoard, table: &[i16], l: i16) -> Pane
 pub extern "C" fn tup_settle(
     given: PanelBoard,
     table: &[i16],
+    furnace: u8,
     labels: &mut [u8],
     ranks: &mut [u16],
     supports: &mut [u16],
 ) -> u8
-    ensures { λ r. ⌜ r ≡ numberIn (settleOutcome (now (table .entry)) (boardIn given) (now (labels .entry)) (now (ranks .entry)) (now (supports .entry))) ⌝ }
-    ensures { λ _. ⌜ now (labels .exit) ≡ settledLabels (now (table .entry)) (boardIn given) (now (labels .entry)) (now (ranks .entry)) (now (supports .entry)) ⌝ }
-    ensures { λ _. ⌜ now (ranks .exit) ≡ settledRanks (now (table .entry)) (boardIn given) (now (labels .entry)) (now (ranks .entry)) (now (supports .entry)) ⌝ }
-    ensures { λ _. ⌜ now (supports .exit) ≡ settledSupports (now (table .entry)) (boardIn given) (now (labels .entry)) (now (ranks .entry)) (now (supports .entry)) ⌝ }
+    ensures { λ r. ⌜ r ≡ numberIn (settleOutcome (now (table .entry)) (boardIn given) furnace (now (labels .entry)) (now (ranks .entry)) (now (supports .entry))) ⌝ }
+    ensures { λ _. ⌜ now (labels .exit) ≡ settledLabels (now (table .entry)) (boardIn given) furnace (now (labels .entry)) (now (ranks .entry)) (now (supports .entry)) ⌝ }
+    ensures { λ _. ⌜ now (ranks .exit) ≡ settledRanks (now (table .entry)) (boardIn given) furnace (now (labels .entry)) (now (ranks .entry)) (now (supports .entry)) ⌝ }
+    ensures { λ _. ⌜ now (supports .exit) ≡ settledSupports (now (table .entry)) (boardIn given) furnace (now (labels .entry)) (now (ranks .entry)) (now (supports .entry)) ⌝ }
 {
-    let outcome = board::settling::settle(board_in(given), table, labels, ranks, supports);
+    let outcome = board::settling::settle(board_in(given), table, furnace, labels, ranks, supports);
     number_of(outcome)
 }
 
 #[no_mangle]
-pub extern "C" fn tup_ask(given: PanelBoard, table: &[i16], l: i16) -> PanelAnswer
-    ensures { λ r. ⌜ r ≡ answerOut (asked (now (table .entry)) (boardIn given) l) ⌝ }
+pub extern "C" fn tup_ask(given: PanelBoard, table: &[i16], furnace: u8, l: i16) -> PanelAnswer
+    ensures { λ r. ⌜ r ≡ answerOut (asked (now (table .entry)) (boardIn given) furnace l) ⌝ }
 {
-    let answer = board::asking::ask(board_in(given), table, l);
+    let answer = board::asking::ask(board_in(given), table, furnace, l);
     answer_out(answer)
 }
 
 #[no_mangle]
-pub extern "C" fn tup_explain(given: PanelBoard, table: &[i16], l: i16) -> PanelReason
-    ensures { λ r. ⌜ r ≡ reasonOut (reasoned (now (table .entry)) (boardIn given) l) (explained (now (table .entry)) (boardIn given) l .stop - explained (now (table .entry)) (boardIn given) l .start) ⌝ }
+pub extern "C" fn tup_explain(given: PanelBoard, table: &[i16], furnace: u8, l: i16) -> PanelReason
+    ensures { λ r. ⌜ r ≡ reasonOut (reasoned (now (table .entry)) (boardIn given) furnace l) (explained (now (table .entry)) (boardIn given) furnace l .stop - explained (now (table .entry)) (boardIn given) furnace l .start) ⌝ }
 {
-    let reason = board::asking::explain_numbers(board_in(given), table, l);
+    let reason = board::asking::explain_numbers(board_in(given), table, furnace, l);
     let outcome = reason.outcome;
     let literals = match outcome {
         Outcome::Done => literals::literal_count(table, WIDTH * (reason.row as usize)) as u8,
@@ -222,19 +224,25 @@ pub extern "C" fn tup_explain(given: PanelBoard, table: &[i16], l: i16) -> Panel
 }
 
 #[no_mangle]
-pub extern "C" fn tup_ground(given: PanelBoard, table: &[i16], l: i16, marks: &mut [u8]) -> u8
-    ensures { λ r. ⌜ r ≡ numberIn (groundOutcome (now (table .entry)) (boardIn given) l (now (marks .entry))) ⌝ }
-    ensures { λ _. ⌜ now (marks .exit) ≡ groundMarks (now (table .entry)) (boardIn given) l (now (marks .entry)) ⌝ }
+pub extern "C" fn tup_ground(
+    given: PanelBoard,
+    table: &[i16],
+    furnace: u8,
+    l: i16,
+    marks: &mut [u8],
+) -> u8
+    ensures { λ r. ⌜ r ≡ numberIn (groundOutcome (now (table .entry)) (boardIn given) furnace l (now (marks .entry))) ⌝ }
+    ensures { λ _. ⌜ now (marks .exit) ≡ groundMarks (now (table .entry)) (boardIn given) furnace l (now (marks .entry)) ⌝ }
 {
-    let outcome = board::grounds::ground(board_in(given), table, l, marks);
+    let outcome = board::grounds::ground(board_in(given), table, furnace, l, marks);
     number_of(outcome)
 }
 
 #[no_mangle]
-pub extern "C" fn tup_blame(given: PanelBoard, table: &[i16], marks: &mut [u8]) -> u8
-    ensures { λ r. ⌜ r ≡ numberIn (blameOutcome (now (table .entry)) (boardIn given) (now (marks .entry))) ⌝ }
-    ensures { λ _. ⌜ now (marks .exit) ≡ blameMarks (now (table .entry)) (boardIn given) (now (marks .entry)) ⌝ }
+pub extern "C" fn tup_blame(given: PanelBoard, table: &[i16], furnace: u8, marks: &mut [u8]) -> u8
+    ensures { λ r. ⌜ r ≡ numberIn (blameOutcome (now (table .entry)) (boardIn given) furnace (now (marks .entry))) ⌝ }
+    ensures { λ _. ⌜ now (marks .exit) ≡ blameMarks (now (table .entry)) (boardIn given) furnace (now (marks .entry)) ⌝ }
 {
-    let outcome = board::grounds::blame(board_in(given), table, marks);
+    let outcome = board::grounds::blame(board_in(given), table, furnace, marks);
     number_of(outcome)
 }

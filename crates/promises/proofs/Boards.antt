@@ -1,5 +1,5 @@
 -- 01's boards "Marked P: to be proved", together: what 01 says of each, and that the calls come to the same; and those of 02's Tickets 1, 2, 4
--- and 5. Rules are given as 01's bytes or as text, and each board is opened over a table of 8 rows of zeros.
+-- and 5. Rules are given as 01's bytes or as text, each board is opened over a table of 8 rows of zeros, and the premises are furnace 1's.
 use mathlib.Core.Path.{_≡_, refl}
 use mathlib.Core.Bool.{true, false}
 use mathlib.Core.List.{List, [], _∷_, _++_, map}
@@ -16,7 +16,8 @@ use Rattle.literals.specs.Row.{numbersAt, zeros, rising, rowSound, rowsSound, d
 use Rattle.formula.specs.Parse.{symbolAt, secondOf, bodyOf, parse, wholeOf}
 use Rattle.formula.specs.Bytes.{bytesOf}
 use Rattle.implicates.specs.Appending.{appended}
-use Rattle.board.specs.Faults.{goodBoard, numberIn}
+use Rattle.board.specs.Furnaces.{isFurnace, heldBy, withHeld}
+use Rattle.board.specs.Faults.{premisesFit, goodBoard, numberIn}
 use Rattle.board.specs.Changes.{openFaults, opened, emptyBoard, flagFaults, flagChanged}
 use Rattle.board.specs.Rules.{noPlace, ruleFaults, ruled, ruledTable}
 use Rattle.board.specs.Settling.{settleFaults, settleOutcome, settledLabels}
@@ -36,7 +37,7 @@ use Rattle.chains.specs.Spelling.{unitText, spelled}
 use Rattle.text.specs.Reading.{readTextFaults, readTextOutcome, readTextAnswer, readTextBytes}
 use Rattle.text.specs.Adding.{ruledText, ruledTextTable}
 use Rattle.text.specs.Writing.{writeTextFaults, writeTextOutcome, writeTextAnswer, writeTextBytes}
-use Rattle.promises.specs.Calls.{Call, opens, adds, holds, withdraws, reads, addsText, World, outcome, after, run}
+use Rattle.promises.specs.Calls.{Call, opens, adds, holds, withdraws, reads, addsText, World, answer, outcome, after, run}
 use Rattle.promises.specs.Demands.{rowsOfWorld}
 
 -- ---- what is asked of the board that some calls leave, and what the answers are
@@ -75,15 +76,19 @@ data Answer : Type 0 where
 -- ---- the answers by the calls
 
 -- how many numbers the table has, and how many are lent to each call: 8 rows
-abbrev lent : ℕ
+abbrev pub lent : ℕ
 lent = 64
 
+-- whose premises are held and asked for
+abbrev furnace : ℕ
+furnace = 1
+
 -- before every call: no board yet, and a table of zeros
-abbrev fresh : World
+abbrev pub fresh : World
 fresh = record { board = emptyBoard 0; table = replicate lent (pos 0) }
 
 -- a table to be written
-abbrev blank : ℕ → List ℕ
+abbrev pub blank : ℕ → List ℕ
 blank n = replicate n 9
 
 tell : World → Question → Answer
@@ -92,10 +97,10 @@ tell w (breaks formula) = let a = ruled (w .table) (w .board) formula in refused
 tell w (breaks-text text) = let a = ruledText (w .table) (w .board) text in refused-at (numberIn (a .outcome)) (a .place)
 tell w rows = appended-rows (rowsOfWorld w)
 tell w labels =
-    let S = w .board .symbols in bytes (settledLabels (w .table) (w .board) (blank S) (blank (2 * S)) (blank (2 * S)))
-tell w (ask l) = standing (asked (w .table) (w .board) l)
-tell w (rank l) = number (reasoned (w .table) (w .board) l .rank)
-tell w marks = bytes (blameMarks (w .table) (w .board) (blank (2 * w .board .symbols)))
+    let S = w .board .symbols in bytes (settledLabels (w .table) (w .board) furnace (blank S) (blank (2 * S)) (blank (2 * S)))
+tell w (ask l) = standing (asked (w .table) (w .board) furnace l)
+tell w (rank l) = number (reasoned (w .table) (w .board) furnace l .rank)
+tell w marks = bytes (blameMarks (w .table) (w .board) furnace (blank (2 * w .board .symbols)))
 tell w (stops text) = let a = readAnswer (w .table) (w .board) text in stopped (numberIn (a .outcome)) (a .clauses)
 tell w written = bytes (take (writeAnswer (w .table) (w .board) (blank 100) .bytes) (writeBytes (w .table) (w .board) (blank 100)))
 tell w (read text) =
@@ -110,10 +115,10 @@ abbrev rule : List ℕ → Call
 rule formula = adds lent formula
 
 abbrev hold : ℤ → Call
-hold l = holds lent l
+hold l = holds lent furnace l
 
 abbrev withdraw : ℤ → Call
-withdraw l = withdraws lent l
+withdraw l = withdraws lent furnace l
 
 -- the literals +s and −s in a row
 abbrev plus : ℕ → ℕ
@@ -123,7 +128,7 @@ abbrev minus : ℕ → ℕ
 minus s = place s false
 
 -- the rules that more than one board has: 1 implies 2, not 1 implies 2, 2 implies 1
-abbrev forth : Call
+abbrev pub forth : Call
 forth = rule (0x14 ∷ 0x10 ∷ 1 ∷ 0x10 ∷ 2 ∷ [])
 
 abbrev otherwise : Call
@@ -256,7 +261,7 @@ boards =
     ∷ []
 
 -- what the calls answer, one after the other: 0 for each that is done
-abbrev answers : World → List Call → List ℕ
+abbrev pub answers : World → List Call → List ℕ
 answers w [] = []
 answers w (c ∷ calls) = numberIn (outcome w c) ∷ answers (after w c) calls
 
@@ -269,5 +274,5 @@ abbrev due : List Call × List (Question × Answer) → List ℕ × List Answer
 due b = (map (λ c. 0) (b .0), map (λ q. q .1) (b .1))
 
 boards-hold : map found boards ≡ map due boards
-unfolding tell outcome after opp value occurs symbolsOf hit implicate prime ofSize gives next reached rankBy firstGiver supportAt supportOf labelsOf rankAbove reachesIn reaches largerRank blamed blame placeOf literalAt numbersAt zeros rising rowSound rowsSound decode rowsIn encode symbolAt secondOf bodyOf parse wholeOf appended goodBoard openFaults opened flagFaults flagChanged ruleFaults ruled ruledTable settleFaults settleOutcome settledLabels askFaults asked explainFaults reasoned blameFaults blameOutcome blameMarks digitsOf upTo since wordsIn decimal numberOf literalOf pastComments startsWith countsIn headerIn clausesIn parseText oneOf clauseFaults clausesFaults passed textFaults readFaults readAnswer readTable spaced clauseLines textOf literalsOf clausesAt textOn writeFaults writeOutcome writeAnswer writeBytes bytesOf lead unitOf fromMark goOn more atClose closed bracketAt wholeText unitText spelled readTextFaults readTextOutcome readTextAnswer readTextBytes ruledText ruledTextTable writeTextFaults writeTextOutcome writeTextAnswer writeTextBytes
+unfolding tell answer outcome after opp value occurs symbolsOf hit implicate prime ofSize gives next reached rankBy firstGiver supportAt supportOf labelsOf rankAbove reachesIn reaches largerRank blamed blame placeOf literalAt numbersAt zeros rising rowSound rowsSound decode rowsIn encode symbolAt secondOf bodyOf parse wholeOf appended isFurnace heldBy withHeld premisesFit goodBoard openFaults opened flagFaults flagChanged ruleFaults ruled ruledTable settleFaults settleOutcome settledLabels askFaults asked explainFaults reasoned blameFaults blameOutcome blameMarks digitsOf upTo since wordsIn decimal numberOf literalOf pastComments startsWith countsIn headerIn clausesIn parseText oneOf clauseFaults clausesFaults passed textFaults readFaults readAnswer readTable spaced clauseLines textOf literalsOf clausesAt textOn writeFaults writeOutcome writeAnswer writeBytes bytesOf lead unitOf fromMark goOn more atClose closed bracketAt wholeText unitText spelled readTextFaults readTextOutcome readTextAnswer readTextBytes ruledText ruledTextTable writeTextFaults writeTextOutcome writeTextAnswer writeTextBytes
 boards-hold = refl

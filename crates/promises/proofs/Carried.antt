@@ -45,33 +45,35 @@ module _ (w : World) where
     unfolding after with-part
     rule-text-carried text r t e f = ap₂ (λ (a : Addition). with-part (a .board)) e f
 
-    hold-carried : (l : ℤ) (r : Change) → r ≡ held (front w lent) (w .board) l → with-board r ≡ after w (holds lent l)
+    hold-carried : (furnace : ℕ) (l : ℤ) (r : Change) → r ≡ held (front w lent) (w .board) furnace l
+        → with-board r ≡ after w (holds lent furnace l)
     unfolding after with-board
-    hold-carried l r e = ap with-board e
+    hold-carried furnace l r e = ap with-board e
 
-    withdraw-carried : (l : ℤ) (r : Change) → r ≡ withdrawn (front w lent) (w .board) l → with-board r ≡ after w (withdraws lent l)
+    withdraw-carried : (furnace : ℕ) (l : ℤ) (r : Change) → r ≡ withdrawn (front w lent) (w .board) furnace l
+        → with-board r ≡ after w (withdraws lent furnace l)
     unfolding after with-board
-    withdraw-carried l r e = ap with-board e
+    withdraw-carried furnace l r e = ap with-board e
 
-    ask-changes-nothing : (l : ℤ) → after w (asks lent l) ≡ w
+    ask-changes-nothing : (furnace : ℕ) (l : ℤ) → after w (asks lent furnace l) ≡ w
     unfolding after
-    ask-changes-nothing l = refl
+    ask-changes-nothing furnace l = refl
 
-    explain-changes-nothing : (l : ℤ) → after w (explains lent l) ≡ w
+    explain-changes-nothing : (furnace : ℕ) (l : ℤ) → after w (explains lent furnace l) ≡ w
     unfolding after
-    explain-changes-nothing l = refl
+    explain-changes-nothing furnace l = refl
 
-    settle-changes-nothing : (labels ranks supports : List ℕ) → after w (settles lent labels ranks supports) ≡ w
+    settle-changes-nothing : (furnace : ℕ) (labels ranks supports : List ℕ) → after w (settles lent furnace labels ranks supports) ≡ w
     unfolding after
-    settle-changes-nothing labels ranks supports = refl
+    settle-changes-nothing furnace labels ranks supports = refl
 
-    ground-changes-nothing : (l : ℤ) (marks : List ℕ) → after w (grounds lent l marks) ≡ w
+    ground-changes-nothing : (furnace : ℕ) (l : ℤ) (marks : List ℕ) → after w (grounds lent furnace l marks) ≡ w
     unfolding after
-    ground-changes-nothing l marks = refl
+    ground-changes-nothing furnace l marks = refl
 
-    blame-changes-nothing : (marks : List ℕ) → after w (blames lent marks) ≡ w
+    blame-changes-nothing : (furnace : ℕ) (marks : List ℕ) → after w (blames lent furnace marks) ≡ w
     unfolding after
-    blame-changes-nothing marks = refl
+    blame-changes-nothing furnace marks = refl
 
     write-changes-nothing : (out : List ℕ) → after w (writes lent out) ≡ w
     unfolding after

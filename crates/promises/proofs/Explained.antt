@@ -40,31 +40,34 @@ decode-span table r =
     let long : width * r + count - width * r ≡ count = omega arith in
     rw long (decode-part width (drop (width * r) table))
 
-module _ (w : World) (lent : ℕ) (l : ℤ) (e : outcome w (explains lent l) ≡ Done) where
-  done : firstFault (faults w (explains lent l)) ≡ Done
-  done = cases w (explains lent l) e
+module _ (w : World) (lent furnace : ℕ) (l : ℤ) (e : outcome w (explains lent furnace l) ≡ Done) where
+  done : firstFault (faults w (explains lent furnace l)) ≡ Done
+  done = cases w (explains lent furnace l) e
 
   rows : rowsOn (front w lent) (w .board) ≡ rowsOfWorld w
   unfolding faults explainFaults
-  rows = rows-read w lent (none-given (explainFaults (front w lent) (w .board) l) done 0)
+  rows = rows-read w lent (none-given (explainFaults (front w lent) (w .board) furnace l) done 0)
 
-  rank-is : reasoned (front w lent) (w .board) l .rank ≡ rankIn w (placeOf l)
+  rank-is : reasoned (front w lent) (w .board) furnace l .rank ≡ rankIn w furnace (placeOf l)
   unfolding faults reasoned
   rank-is = rw (done, rows)
 
-  row-is : reasoned (front w lent) (w .board) l .row ≡ supportIn w (placeOf l)
+  row-is : reasoned (front w lent) (w .board) furnace l .row ≡ supportIn w furnace (placeOf l)
   unfolding faults reasoned
   row-is = rw (done, rows)
 
-  used : (supportIn w (placeOf l) < w .board .rows) × (width * w .board .rows ≤ length (front w lent))
+  used : (supportIn w furnace (placeOf l) < w .board .rows) × (width * w .board .rows ≤ length (front w lent))
   unfolding faults reasoned
-  used = let r = row-used (front w lent) (w .board) l (rw done) in (omega (arith, r .0, row-is), r .2)
+  used = let r = row-used (front w lent) (w .board) furnace l (rw done) in (omega (arith, r .0, row-is), r .2)
 
-  part-is : let span = explained (front w lent) (w .board) l in decode (take (span .stop - span .start) (drop (span .start) (w .table))) ≡ getD (rowsOfWorld w) (supportIn w (placeOf l)) []
+  part-is : let span = explained (front w lent) (w .board) furnace l in
+      decode (take (span .stop - span .start) (drop (span .start) (w .table))) ≡ getD (rowsOfWorld w) (supportIn w furnace (placeOf l)) []
   unfolding faults explained
   part-is =
-      rw (done, rows, numbers-lent lent (w .board .rows) (w .table) (used .1) (supportIn w (placeOf l)) (used .0))
-      (decode-span (w .table) (supportIn w (placeOf l)) ∙ sym (rows-at (w .board .rows) (w .table) (supportIn w (placeOf l)) (used .0)))
+      rw (done, rows, numbers-lent lent (w .board .rows) (w .table) (used .1) (supportIn w furnace (placeOf l)) (used .0))
+      (decode-span (w .table) (supportIn w furnace (placeOf l))
+      ∙ sym (rows-at (w .board .rows) (w .table) (supportIn w furnace (placeOf l)) (used .0)))
 
 pub explain-tells : ExplainTells
-explain-tells w lent l e = record { rank = rank-is w lent l e; row = row-is w lent l e; part = part-is w lent l e }
+explain-tells w lent furnace l e =
+    record { rank = rank-is w lent furnace l e; row = row-is w lent furnace l e; part = part-is w lent furnace l e }

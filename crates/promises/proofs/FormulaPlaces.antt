@@ -32,7 +32,7 @@ use Rattle.text.specs.Adding.{textRefused, ruledText, ruleTextFaults}
 use Rattle.text.specs.Writing.{writeTextFaults, writeTextOutcome, writeTextAnswer}
 use Rattle.text.proofs.ReadText.{bytes-place}
 use Rattle.text.proofs.Back.{two-or-five}
-use Rattle.promises.specs.Calls.{front, outcome}
+use Rattle.promises.specs.Calls.{front, answer, outcome}
 use Rattle.promises.specs.Demands.{TextPlaced, TextPlaces, WriteTextPlaces}
 use Rattle.promises.proofs.RuleTexts.{rule-text-told}
 use Rattle.promises.proofs.Places.{none-told}
@@ -134,7 +134,7 @@ rule-text-place table b text = go (textRefused table b text) refl
         rw (r, told, ne-eqb (numberIn (firstFault (ruleFaults table b bytes))) 15 other) (rule-place table b bytes ∙ rw told)
 
 pub text-places : TextPlaces
-unfolding outcome readTextAnswer readTextOutcome readTextFaults ruleTextFaults
+unfolding answer outcome readTextAnswer readTextOutcome readTextFaults ruleTextFaults
 text-places w lent text out =
     let table = front w lent in
     let b = w .board in (
@@ -163,7 +163,7 @@ module _ (table : List ℤ) (b : Board) (bytes : List ℕ) (room : ℕ) where
           absurd (never-answered (numberIn (firstFault writing)) (drop 2 writing) (omega arith) (λ g e. omega arith, tt) (ap numberIn (sym late)))
 
 pub write-text-places : WriteTextPlaces
-unfolding outcome writeTextAnswer writeTextOutcome
+unfolding answer outcome writeTextAnswer writeTextOutcome
 write-text-places w lent bytes out =
     let table = front w lent in
     let b = w .board in

@@ -16,23 +16,23 @@ use Rattle.text.specs.Reading.{readTextFaults, readTextOutcome, readTextAnswer,
 use Rattle.text.specs.Writing.{textIn, writeTextFaults, writeTextOutcome, writeTextAnswer, writeTextBytes}
 use Rattle.text.specs.Promises.{ReadsAs}
 use Rattle.text.proofs.Back.{same-bytes}
-use Rattle.promises.specs.Calls.{writesText, World, front, outcome}
+use Rattle.promises.specs.Calls.{writesText, World, front, answer, outcome}
 use Rattle.promises.specs.Demands.{ReadTextTells, WriteTextTells, textWritten, WrittenBack, TextRoundTrip}
 use Rattle.promises.proofs.RuleTexts.{text-is-bytes}
 
 pub read-text-tells : ReadTextTells
-unfolding outcome readTextAnswer readTextBytes
+unfolding answer outcome readTextAnswer readTextBytes
 read-text-tells w lent text out e = (rw e, rw e)
 
 pub write-text-tells : WriteTextTells
-unfolding outcome writeTextAnswer writeTextBytes
+unfolding answer outcome writeTextAnswer writeTextBytes
 write-text-tells w lent bytes out e = (rw e, rw e)
 
 -- ---- a text that reads as bytes which are a formula
 
 module _ (S : ℕ) (text bytes : List ℕ) (r : ReadsAs text bytes) (fine : isGood (wholeOf S bytes) ≡ true) where
   back : WrittenBack text bytes S
-  unfolding outcome readTextAnswer readTextBytes readTextOutcome readTextFaults
+  unfolding answer outcome readTextAnswer readTextBytes readTextOutcome readTextFaults
   back =
       record {
         reads = λ v lent out same good room.
@@ -49,7 +49,7 @@ written w lent bytes out e =
     rw (told .0, told .1) (take-at text (drop (length text) out) (length text) refl)
 
 pub text-round-trip : TextRoundTrip
-unfolding outcome writeTextAnswer writeTextOutcome writeTextFaults
+unfolding answer outcome writeTextAnswer writeTextOutcome writeTextFaults
 text-round-trip w lent bytes out e =
     let table = front w lent in
     let S = w .board .symbols in

@@ -15,6 +15,7 @@ use Rattle.literals.specs.declared.refusal.Refusal.the-variants.{RankTooHigh}
 use Rattle.formula.specs.Parse.{Parsed, good, bad, wholeOf}
 use Rattle.formula.specs.Answers.{isGood}
 use Rattle.formula.proofs.Faults.{UpTo, whole-faults}
+use Rattle.board.specs.Furnaces.{heldBy}
 use Rattle.board.specs.Faults.{Fault, numberIn}
 use Rattle.board.specs.Changes.{openFaults, flagFaults}
 use Rattle.board.specs.Rules.{ruleFaults, whyOf, bytesFaults}
@@ -48,8 +49,8 @@ module _ (number : ℕ) (h : 9 < number) where
   bytes-not S used lent bytes = (read-not S bytes, (λ g e. omega arith, (λ g e. omega arith, (λ g e. omega arith, tt))))
 
 -- and its own case is never given
-high-not : (w : World) (lent : ℕ) → tooHigh (front w lent) (w .board) ≡ true → numberOf RankTooHigh ≢ 14
-high-not w lent g = clash g (rank-above-never (2 * w .board .symbols) (rowsOn (front w lent) (w .board)) (w .board .held))
+high-not : (w : World) (lent furnace : ℕ) → tooHigh (front w lent) (w .board) furnace ≡ true → numberOf RankTooHigh ≢ 14
+high-not w lent furnace g = clash g (rank-above-never (2 * w .board .symbols) (rowsOn (front w lent) (w .board)) (heldBy (w .board) furnace))
 
 -- nor is it a clause's, whichever comes first
 without-append : (fs gs : List Fault) → Without 14 fs → Without 14 gs → Without 14 (fs ++ gs)
@@ -68,13 +69,17 @@ without : (w : World) (c : Call) → Without 14 (faults w c)
 unfolding faults openFaults ruleFaults flagFaults settleFaults askFaults explainFaults groundFaults blameFaults textFaults readFaults writeFaults readTextFaults ruleTextFaults writeTextFaults
 without w (opens S) = (λ g e. omega arith, tt)
 without w (adds lent bytes) = (λ g e. omega arith, bytes-not 14 (omega arith) (w .board .symbols) (w .board .rows) (rowsLent (front w lent)) bytes)
-without w (holds lent l) = (λ g e. omega arith, (λ g e. omega arith, (λ g e. omega arith, tt)))
-without w (withdraws lent l) = (λ g e. omega arith, (λ g e. omega arith, (λ g e. omega arith, tt)))
-without w (asks lent l) = (λ g e. omega arith, (λ g e. omega arith, (high-not w lent, tt)))
-without w (explains lent l) = (λ g e. omega arith, (λ g e. omega arith, (high-not w lent, (λ g e. omega arith, tt))))
-without w (settles lent labels ranks supports) = (λ g e. omega arith, (λ g e. omega arith, (high-not w lent, tt)))
-without w (grounds lent l marks) = (λ g e. omega arith, (λ g e. omega arith, (λ g e. omega arith, (high-not w lent, (λ g e. omega arith, tt)))))
-without w (blames lent marks) = (λ g e. omega arith, (λ g e. omega arith, (high-not w lent, (λ g e. omega arith, tt))))
+without w (holds lent furnace l) = (λ g e. omega arith, (λ g e. omega arith, (λ g e. omega arith, (λ g e. omega arith, tt))))
+without w (withdraws lent furnace l) = (λ g e. omega arith, (λ g e. omega arith, (λ g e. omega arith, (λ g e. omega arith, tt))))
+without w (asks lent furnace l) = (λ g e. omega arith, (λ g e. omega arith, (λ g e. omega arith, (high-not w lent furnace, tt))))
+without w (explains lent furnace l) =
+    (λ g e. omega arith, (λ g e. omega arith, (λ g e. omega arith, (high-not w lent furnace, (λ g e. omega arith, tt)))))
+without w (settles lent furnace labels ranks supports) =
+    (λ g e. omega arith, (λ g e. omega arith, (λ g e. omega arith, (high-not w lent furnace, tt))))
+without w (grounds lent furnace l marks) =
+    (λ g e. omega arith, (λ g e. omega arith, (λ g e. omega arith, (λ g e. omega arith, (high-not w lent furnace, (λ g e. omega arith, tt))))))
+without w (blames lent furnace marks) =
+    (λ g e. omega arith, (λ g e. omega arith, (λ g e. omega arith, (high-not w lent furnace, (λ g e. omega arith, tt)))))
 without w (reads lent text) =
     let clauses = clausesOf (parseText text) in
     (λ g e. omega arith, (λ g e. omega arith, clauses-not (w .board .symbols) (w .board .rows) (rowsLent (front w lent)) clauses))

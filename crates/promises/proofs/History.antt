@@ -12,6 +12,7 @@ use Rattle.meaning.specs.SecondWay.{accepted, rulesOf}
 use Rattle.meaning.proofs.Tests.{and-intro, all-append}
 use Rattle.meaning.proofs.Rows.{all-rows-append}
 use Rattle.literals.specs.Row.{rowsIn}
+use Rattle.board.specs.Furnaces.{withHeld}
 use Rattle.board.specs.Faults.{firstFault, ifDone}
 use Rattle.board.specs.Changes.{emptyBoard, openFaults, opened, withFlag}
 use Rattle.board.specs.declared.Outcome.the-variants.{Done}
@@ -42,8 +43,9 @@ module _ (w : World) (fs : List Formula) (k : Keeps w fs) where
   Same v = Keeps v fs
 
   -- the premises don't matter
-  flagged : (l : ℤ) (flag : Bool) → Keeps (record { board = withFlag (w .board) l flag; table = w .table }) fs
-  flagged l flag = record { rows = k .rows; fine = k .fine }
+  flagged : (furnace : ℕ) (l : ℤ) (flag : Bool) → Keeps (record { board = withFlag (w .board) furnace l flag; table = w .table }) fs
+  unfolding withHeld
+  flagged furnace l flag = record { rows = k .rows; fine = k .fine }
 
   -- accepted rules more, and their rows
   more : {next : World} {lent : ℕ} {new : List Formula} {count : ℕ} → Added w next lent new count → Keeps next (fs ++ new)
@@ -65,13 +67,14 @@ module _ (w : World) (fs : List Formula) (k : Keeps w fs) where
   unfolding after rulesAfter
   step (opens S) = open-step w S
   step (adds lent bytes) = adding (adds lent bytes) refl (rule-added w lent bytes)
-  step (holds lent l) = so-after Same w (holds lent l) refl k (λ e. rw (hold-puts w lent l e) (flagged l true))
-  step (withdraws lent l) = so-after Same w (withdraws lent l) refl k (λ e. rw (withdraw-takes w lent l e) (flagged l false))
-  step (asks lent l) = k
-  step (explains lent l) = k
-  step (settles lent labels ranks supports) = k
-  step (grounds lent l marks) = k
-  step (blames lent marks) = k
+  step (holds lent furnace l) = so-after Same w (holds lent furnace l) refl k (λ e. rw (hold-puts w lent furnace l e) (flagged furnace l true))
+  step (withdraws lent furnace l) =
+      so-after Same w (withdraws lent furnace l) refl k (λ e. rw (withdraw-takes w lent furnace l e) (flagged furnace l false))
+  step (asks lent furnace l) = k
+  step (explains lent furnace l) = k
+  step (settles lent furnace labels ranks supports) = k
+  step (grounds lent furnace l marks) = k
+  step (blames lent furnace marks) = k
   step (reads lent text) = adding (reads lent text) refl (text-added w lent text)
   step (writes lent out) = k
   step (readsText lent text out) = k

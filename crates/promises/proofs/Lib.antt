@@ -17,5 +17,7 @@ pub mod Explained
 mod History
 pub mod Good
 pub mod Ways
+pub mod Apart
 mod Boards
+mod TwoFurnaces
 mod Carried

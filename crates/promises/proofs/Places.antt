@@ -18,7 +18,7 @@ use Rattle.board.specs.declared.Outcome.the-variants.{Refused}
 use Rattle.board.proofs.Goodness.{good-is}
 use Rattle.board.proofs.Adding.{place-told}
 use Rattle.board.proofs.Answered.{Without, never-answered, rule-place}
-use Rattle.promises.specs.Calls.{adds, World, front, faults, outcome}
+use Rattle.promises.specs.Calls.{adds, World, front, faults, answer, outcome}
 use Rattle.promises.specs.Demands.{RuleBreaks, NoPlaceElse}
 use Rattle.promises.proofs.Refusals.{cases}
 
@@ -54,7 +54,7 @@ module _ (w : World) (lent : ℕ) (bytes : List ℕ) (why : Refusal) (e : outcom
           (is, at, read ∙ ap (λ (r : Refusal). bad r at) same)
 
 pub rule-breaks : RuleBreaks
-unfolding outcome
+unfolding answer outcome
 rule-breaks w lent bytes why e low high =
     let f = of-formula w lent bytes why e low high in
     let S = w .board .symbols in
@@ -66,6 +66,6 @@ none-told o p (inl low) = rw (lt-leb 2 (numberIn o) low)
 none-told o p (inr high) = rw (le-leb 2 (numberIn o) (omega arith), lt-leb (numberIn o) 6 high)
 
 pub no-place-else : NoPlaceElse
-unfolding outcome
+unfolding answer outcome
 no-place-else w lent bytes h =
     rule-place (front w lent) (w .board) bytes ∙ none-told (outcome w (adds lent bytes)) (wholeOf (w .board .symbols) bytes) h

@@ -27,7 +27,7 @@ use Rattle.text.specs.Reading.{bytesIn, readTextOutcome, readTextAnswer, readTe
 use Rattle.text.specs.Adding.{textRefused, ruledText, ruledTextTable}
 use Rattle.text.specs.Writing.{writeTextOutcome, writeTextAnswer, writeTextBytes}
 use Rattle.promises.specs.Calls.{Call, opens, adds, holds, withdraws, asks, explains, settles, grounds, blames, reads, writes}
-use Rattle.promises.specs.Calls.{readsText, addsText, writesText, World, front, faults, askOutcome, outcome, after, notOpen}
+use Rattle.promises.specs.Calls.{readsText, addsText, writesText, World, front, faults, askOutcome, answer, outcome, after, notOpen}
 use Rattle.promises.specs.Demands.{FirstGiven, here, later, RefusedExactly, DoneExactly, RefusedUntouched, RefusedUnwritten, RefusedHandsBack}
 use Rattle.promises.proofs.RuleTexts.{rule-text-told}
 
@@ -44,18 +44,19 @@ stands-done known p = go (conflict known) (has known p) (has known (opp p)) refl
     go false false false ea eb ec = rw (ea, eb, ec)
 
 pub first-case : (w : World) (c : Call) → outcome w c ≡ firstFault (faults w c)
-unfolding outcome faults opened flagChanged asked reasoned settleOutcome groundOutcome blameOutcome readAnswer writeAnswer writeOutcome readTextAnswer readTextOutcome writeTextAnswer writeTextOutcome
+unfolding answer outcome faults opened flagChanged asked reasoned settleOutcome groundOutcome blameOutcome readAnswer writeAnswer writeOutcome readTextAnswer readTextOutcome writeTextAnswer writeTextOutcome
 first-case w (opens S) = refl
 first-case w (adds lent bytes) = rule-told (front w lent) (w .board) bytes
-first-case w (holds lent l) = refl
-first-case w (withdraws lent l) = refl
-first-case w (asks lent l) =
-    told-by askOutcome _ _ (firstFault (askFaults (front w lent) (w .board) l))
-    (λ e. stands-done (derivedOn (front w lent) (w .board)) (placeOf l) ∙ sym e) (λ why e. sym e)
-first-case w (explains lent l) = told-by (λ (r : Reason). r .outcome) _ _ (firstFault (explainFaults (front w lent) (w .board) l)) (λ e. refl) (λ why e. refl)
-first-case w (settles lent labels ranks supports) = refl
-first-case w (grounds lent l marks) = refl
-first-case w (blames lent marks) = refl
+first-case w (holds lent furnace l) = refl
+first-case w (withdraws lent furnace l) = refl
+first-case w (asks lent furnace l) =
+    told-by askOutcome _ _ (firstFault (askFaults (front w lent) (w .board) furnace l))
+    (λ e. stands-done (derivedOn (front w lent) (w .board) furnace) (placeOf l) ∙ sym e) (λ why e. sym e)
+first-case w (explains lent furnace l) =
+    told-by (λ (r : Reason). r .outcome) _ _ (firstFault (explainFaults (front w lent) (w .board) furnace l)) (λ e. refl) (λ why e. refl)
+first-case w (settles lent furnace labels ranks supports) = refl
+first-case w (grounds lent furnace l marks) = refl
+first-case w (blames lent furnace marks) = refl
 first-case w (reads lent text) =
     told-by (λ (r : Reading). r .outcome) _ _ (firstFault (readFaults (front w lent) (w .board) text)) (λ e. refl) (λ why e. refl)
 first-case w (writes lent out) = refl
@@ -117,7 +118,7 @@ rule-refused w lent bytes why e = rw (cases w (adds lent bytes) e, take-append-d
 -- and so does one from text, be it for the text or for its bytes
 rule-text-refused : (w : World) (lent : ℕ) (text : List ℕ) (why : Refusal) → outcome w (addsText lent text) ≡ Refused why
     → (ruledText (front w lent) (w .board) text .added ≡ 0) × (after w (addsText lent text) ≡ w)
-unfolding outcome after ruledText ruledTextTable
+unfolding answer outcome after ruledText ruledTextTable
 rule-text-refused w lent text why e = go (textRefused (front w lent) (w .board) text) refl
   where
     go : (t : Bool) → textRefused (front w lent) (w .board) text ≡ t
@@ -129,13 +130,13 @@ pub refused-untouched : RefusedUntouched
 unfolding after faults opened flagChanged readAnswer readTable
 refused-untouched w (opens S) why e = rw (cases w (opens S) e)
 refused-untouched w (adds lent bytes) why e = rule-refused w lent bytes why e .1
-refused-untouched w (holds lent l) why e = rw (cases w (holds lent l) e)
-refused-untouched w (withdraws lent l) why e = rw (cases w (withdraws lent l) e)
-refused-untouched w (asks lent l) why e = refl
-refused-untouched w (explains lent l) why e = refl
-refused-untouched w (settles lent labels ranks supports) why e = refl
-refused-untouched w (grounds lent l marks) why e = refl
-refused-untouched w (blames lent marks) why e = refl
+refused-untouched w (holds lent furnace l) why e = rw (cases w (holds lent furnace l) e)
+refused-untouched w (withdraws lent furnace l) why e = rw (cases w (withdraws lent furnace l) e)
+refused-untouched w (asks lent furnace l) why e = refl
+refused-untouched w (explains lent furnace l) why e = refl
+refused-untouched w (settles lent furnace labels ranks supports) why e = refl
+refused-untouched w (grounds lent furnace l marks) why e = refl
+refused-untouched w (blames lent furnace marks) why e = refl
 refused-untouched w (reads lent text) why e = rw (cases w (reads lent text) e, take-append-drop)
 refused-untouched w (writes lent out) why e = refl
 refused-untouched w (readsText lent text out) why e = refl
@@ -157,23 +158,23 @@ module _ (So : World → Type 0) (w : World) (c : Call) (n : notOpen c ≡ true)
   so-after good = ⊎-elim good so-refused (done-or-refused (outcome w c))
 
 pub refused-unwritten : RefusedUnwritten
-unfolding outcome settledLabels settledRanks settledSupports groundMarks blameMarks writeAnswer writeBytes readTextAnswer readTextBytes writeTextAnswer writeTextBytes
+unfolding answer outcome settledLabels settledRanks settledSupports groundMarks blameMarks writeAnswer writeBytes readTextAnswer readTextBytes writeTextAnswer writeTextBytes
 refused-unwritten w lent why =
     record {
-      settle = λ labels ranks supports e. (rw e, rw e, rw e);
-      ground = λ l marks e. rw e;
-      blame = λ marks e. rw e;
+      settle = λ furnace labels ranks supports e. (rw e, rw e, rw e);
+      ground = λ furnace l marks e. rw e;
+      blame = λ furnace marks e. rw e;
       write = λ out e. rw e;
       read-text = λ text out e. rw e;
       write-text = λ bytes out e. rw e;
     }
 
 pub refused-hands-back : RefusedHandsBack
-unfolding faults reasoned explained readAnswer outcome writeAnswer readTextAnswer writeTextAnswer
+unfolding faults reasoned explained readAnswer answer outcome writeAnswer readTextAnswer writeTextAnswer
 refused-hands-back w lent why =
     record {
       rule = λ bytes e. rule-refused w lent bytes why e .0;
-      explain = λ l e. (let f = cases w (explains lent l) e in (rw f, rw f, rw f, rw f));
+      explain = λ furnace l e. (let f = cases w (explains lent furnace l) e in (rw f, rw f, rw f, rw f));
       read = λ text e. rw (cases w (reads lent text) e);
       write = λ out e. rw e;
       read-text = λ text out e. rw e;

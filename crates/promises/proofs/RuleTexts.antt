@@ -18,7 +18,7 @@ use Rattle.chains.specs.Form.{wholeText}
 use Rattle.text.specs.Reading.{bytesIn}
 use Rattle.text.specs.Adding.{textRefused, ruledText, ruledTextTable, ruleTextFaults}
 use Rattle.text.proofs.RuledText.{text-bytes, text-table}
-use Rattle.promises.specs.Calls.{adds, addsText, World, front, outcome, after}
+use Rattle.promises.specs.Calls.{adds, addsText, World, front, answer, outcome, after}
 use Rattle.promises.specs.Demands.{TextIsBytes, OneFormula}
 
 -- its answer is the first of its cases that is given
@@ -45,7 +45,7 @@ module _ (w : World) (lent : ℕ) (text : List ℕ) where
 
   -- so where it is done,
   pub done-same : outcome w (addsText lent text) ≡ Done → Same
-  unfolding outcome ruledText
+  unfolding answer outcome ruledText
   done-same e = go (textRefused (front w lent) (w .board) text) refl
     where
       go : (t : Bool) → textRefused (front w lent) (w .board) text ≡ t → Same

@@ -16,6 +16,7 @@ use Rattle.literals.specs.Row.{width, numbersAt, decode, rowsIn, encode}
 use Rattle.literals.proofs.Encoding.{length-encode, decode-encode}
 use Rattle.implicates.specs.Appending.{encodeAll, appended}
 use Rattle.implicates.proofs.Appending.{length-encodeAll}
+use Rattle.board.specs.Furnaces.{heldBy}
 use Rattle.board.specs.declared.Board.{Board}
 use Rattle.promises.specs.Calls.{World, front}
 use Rattle.promises.specs.Demands.{Appends, RuleAppends, ReadAppends, TextAppends}
@@ -105,6 +106,7 @@ module _ {w next : World} {lent : ℕ} {fs : List Formula} {count : ℕ} (a : Ad
   whole-table = take-append-drop lent (w .table)
 
   pub appends : Appends w next new count
+  unfolding heldBy
   appends =
       record {
         rows =
@@ -114,7 +116,7 @@ module _ {w next : World} {lent : ℕ} {fs : List Formula} {count : ℕ} (a : Ad
         told = a .told;
         used = ap (λ (b : Board). b .rows) (a .board);
         symbols = ap (λ (b : Board). b .symbols) (a .board);
-        premises = ap (λ (b : Board). b .held) (a .board);
+        premises = λ furnace. ap (λ (b : Board). heldBy b furnace) (a .board);
         before =
             rw (a .table) (front-kept (front w lent) (drop lent (w .table)) (w .board .rows) new room)
             ∙ ap (take (width * w .board .rows)) whole-table;

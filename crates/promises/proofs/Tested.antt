@@ -33,7 +33,7 @@ use Rattle.chains.specs.Form.{wholeText}
 use Rattle.text.specs.Reading.{bytesIn, readIn}
 use Rattle.text.specs.Adding.{ruledText}
 use Rattle.text.proofs.Back.{says-same}
-use Rattle.promises.specs.Calls.{adds, reads, addsText, World, front, faults, outcome, after, formulaIn}
+use Rattle.promises.specs.Calls.{adds, reads, addsText, World, front, faults, answer, outcome, after, formulaIn}
 use Rattle.promises.proofs.RuleTexts.{done-same}
 use Rattle.promises.proofs.Refusals.{cases}
 
@@ -109,7 +109,7 @@ formula-said S text few e = go (readIn S text) refl e
 
 pub rule-text-added : (w : World) (lent : ℕ) (text : List ℕ) → outcome w (addsText lent text) ≡ Done
     → Added w (after w (addsText lent text)) lent (formulaOf (wholeText text) ∷ []) (ruledText (front w lent) (w .board) text .added)
-unfolding outcome faults ruleFaults
+unfolding answer outcome faults ruleFaults
 rule-text-added w lent text e =
     let bytes = bytesIn text in
     let S = w .board .symbols in

@@ -18,7 +18,7 @@ use Rattle.board.proofs.Explaining.{none-given}
 use Rattle.dimacs.specs.Writing.{textOn, writeFaults, writeOutcome, writeAnswer, writeBytes}
 use Rattle.dimacs.specs.declared.reading.Reading.{Reading}
 use Rattle.dimacs.proofs.SameRows.{same-rows}
-use Rattle.promises.specs.Calls.{opens, reads, writes, World, front, outcome, after}
+use Rattle.promises.specs.Calls.{opens, reads, writes, World, front, answer, outcome, after}
 use Rattle.promises.specs.Demands.{rowsOfWorld, RoundTrip}
 use Rattle.promises.proofs.Changes.{open-leaves}
 use Rattle.promises.proofs.Lent.{rows-front, rows-lent}
@@ -35,7 +35,7 @@ module _ (w : World) (lent : ℕ) (out : List ℕ) (v : World) (room : ℕ) (e :
   used = w .board .rows
 
   good : goodBoard part (w .board) ≡ true
-  unfolding outcome writeAnswer writeOutcome writeFaults
+  unfolding answer outcome writeAnswer writeOutcome writeFaults
   good = not-false (goodBoard part (w .board)) (none-given (writeFaults part (w .board) (length out)) e 0)
 
   known : Good part (w .board)
@@ -43,7 +43,7 @@ module _ (w : World) (lent : ℕ) (out : List ℕ) (v : World) (room : ℕ) (e :
 
   -- the bytes told are the text
   written : take (writeAnswer part (w .board) out .bytes) (writeBytes part (w .board) out) ≡ textOn part (w .board)
-  unfolding outcome writeAnswer writeBytes
+  unfolding answer outcome writeAnswer writeBytes
   written = rw e (take-at (textOn part (w .board)) (drop (length (textOn part (w .board))) out) (length (textOn part (w .board))) refl)
 
   -- the new board
@@ -51,7 +51,7 @@ module _ (w : World) (lent : ℕ) (out : List ℕ) (v : World) (room : ℕ) (e :
   new = record { board = emptyBoard S; table = v .table }
 
   opens-new : after v (opens S) ≡ new
-  unfolding outcome opened openFaults
+  unfolding answer outcome opened openFaults
   opens-new = open-leaves v S (rw (le-leb 1 S (known .some), le-leb S 200 (known .sound .symbols)))
 
   -- the numbers of the rows in use, and whatever stands behind them, have the same rows
@@ -63,7 +63,7 @@ module _ (w : World) (lent : ℕ) (out : List ℕ) (v : World) (room : ℕ) (e :
       ∙ rows-lent lent used (w .table) (known .sound .room)
 
   read-back : let back = reads room (textOn part (w .board)) in (outcome new back ≡ Done) × (rowsOfWorld (after new back) ≡ rowsOfWorld w)
-  unfolding outcome after
+  unfolding answer outcome after
   read-back =
       let same = same-rows part (w .board) (front v room) good h in (
         ap (λ (r : Reading). r .outcome) (same .0),

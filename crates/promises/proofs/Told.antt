@@ -21,8 +21,9 @@ use Rattle.board.specs.declared.Outcome.the-variants.{Done}
 use Rattle.board.proofs.Goodness.{good-is}
 use Rattle.board.proofs.Explaining.{none-given}
 use Rattle.dimacs.specs.Writing.{literalsOf, clauseAt, clausesAt, textOf, textOn, writeFaults, writeOutcome, writeAnswer, writeBytes}
-use Rattle.promises.specs.Calls.{asks, settles, World, front, faults, outcome, run}
-use Rattle.promises.specs.Demands.{rowsOfWorld, derivedSet, rankIn, supportIn, Tells, SettleTells, SettleSpares, AskTells, GroundTells, BlameTells, WriteTells}
+use Rattle.promises.specs.Calls.{asks, settles, World, front, faults, answer, outcome, run}
+use Rattle.promises.specs.Demands.{rowsOfWorld, premisesOf, derivedSet, rankIn, supportIn, Tells, SettleTells, SettleSpares}
+use Rattle.promises.specs.Demands.{AskTells, GroundTells, BlameTells, WriteTells}
 use Rattle.promises.proofs.Refusals.{cases}
 use Rattle.promises.proofs.Lent.{rows-lent, numbers-lent}
 
@@ -38,73 +39,78 @@ rows-read w lent e =
 written-at : (n : ℕ) (f : ℕ → ℕ) (rest : List ℕ) (i : ℕ) → i < n → getD (tabulate n f ++ rest) i 0 ≡ f i
 written-at n f rest i h = List·getD-append (tabulate n f) rest 0 i (omega (arith, length-tabulate n f)) ∙ getD-tabulate n f i 0 h
 
-module _ (w : World) (lent : ℕ) (labels ranks supports : List ℕ) (e : outcome w (settles lent labels ranks supports) ≡ Done) where
+module _ (w : World) (lent furnace : ℕ) (labels ranks supports : List ℕ) (e : outcome w (settles lent furnace labels ranks supports) ≡ Done) where
   abbrev places : ℕ
   places = 2 * w .board .symbols
 
   rows : rowsOn (front w lent) (w .board) ≡ rowsOfWorld w
-  unfolding outcome settleOutcome settleFaults
-  rows = rows-read w lent (none-given (settleFaults (front w lent) (w .board) (length labels) (length ranks) (length supports)) e 0)
+  unfolding answer outcome settleOutcome settleFaults
+  rows = rows-read w lent (none-given (settleFaults (front w lent) (w .board) furnace (length labels) (length ranks) (length supports)) e 0)
 
   pub label-at : (s : ℕ) → 1 ≤ s → s ≤ w .board .symbols
-      → getD (settledLabels (front w lent) (w .board) labels ranks supports) (s - 1) 0 ≡ label (derivedSet w) s
-  unfolding outcome settledLabels labelsOf
+      → getD (settledLabels (front w lent) (w .board) furnace labels ranks supports) (s - 1) 0 ≡ label (derivedSet w furnace) s
+  unfolding answer outcome settledLabels labelsOf
   label-at s low high =
       let next : suc (s - 1) ≡ s = omega arith in
-      rw (e, rows) (written-at (w .board .symbols) (λ i. label (derivedSet w) (suc i)) _ (s - 1) (omega arith) ∙ ap (label (derivedSet w)) next)
+      rw (e, rows)
+      (written-at (w .board .symbols) (λ i. label (derivedSet w furnace) (suc i)) _ (s - 1) (omega arith) ∙ ap (label (derivedSet w furnace)) next)
 
   rank-at : (p : ℕ) → p < places
-      → getD (settledRanks (front w lent) (w .board) labels ranks supports) p 0 ≡ rankIn w p
-  unfolding outcome settledRanks ranksOf
-  rank-at p h = rw (e, rows) (written-at places (rankIn w) _ p h)
+      → getD (settledRanks (front w lent) (w .board) furnace labels ranks supports) p 0 ≡ rankIn w furnace p
+  unfolding answer outcome settledRanks ranksOf
+  rank-at p h = rw (e, rows) (written-at places (rankIn w furnace) _ p h)
 
   support-at : (p : ℕ) → p < places
-      → getD (settledSupports (front w lent) (w .board) labels ranks supports) p 0 ≡ supportIn w p
-  unfolding outcome settledSupports supportsOf
-  support-at p h = rw (e, rows) (written-at places (supportIn w) _ p h)
+      → getD (settledSupports (front w lent) (w .board) furnace labels ranks supports) p 0 ≡ supportIn w furnace p
+  unfolding answer outcome settledSupports supportsOf
+  support-at p h = rw (e, rows) (written-at places (supportIn w furnace) _ p h)
 
-  tells : Tells w (settledLabels (front w lent) (w .board) labels ranks supports) (settledRanks (front w lent) (w .board) labels ranks supports)
-      (settledSupports (front w lent) (w .board) labels ranks supports)
+  tells : Tells w furnace (settledLabels (front w lent) (w .board) furnace labels ranks supports)
+      (settledRanks (front w lent) (w .board) furnace labels ranks supports)
+      (settledSupports (front w lent) (w .board) furnace labels ranks supports)
   tells =
       record {
         label = label-at;
-        derived = λ p. (let r = derived-is places (rowsOfWorld w) (w .board .held) p in (r .1, r .0));
+        derived = λ p. (let r = derived-is places (rowsOfWorld w) (premisesOf w furnace) p in (r .1, r .0));
         rank = rank-at;
         support = support-at;
       }
 
 pub settle-tells : SettleTells
-settle-tells w₀ calls lent labels ranks supports e = tells (run w₀ calls) lent labels ranks supports e
+settle-tells w₀ calls lent furnace labels ranks supports e = tells (run w₀ calls) lent furnace labels ranks supports e
 
 -- what stands after the places that are written
 spared : (n : ℕ) (f : ℕ → ℕ) (lent : List ℕ) → drop n (tabulate n f ++ drop (length (tabulate n f)) lent) ≡ drop n lent
 spared n f lent = rw (length-tabulate n f) (drop-at (tabulate n f) (drop n lent) n (length-tabulate n f))
 
 pub settle-spares : SettleSpares
-unfolding outcome settledLabels labelsOf settledRanks ranksOf settledSupports supportsOf
-settle-spares w lent labels ranks supports e = rw e (spared (w .board .symbols) _ labels, spared (2 * w .board .symbols) _ ranks, spared (2 * w .board .symbols) _ supports)
+unfolding answer outcome settledLabels labelsOf settledRanks ranksOf settledSupports supportsOf
+settle-spares w lent furnace labels ranks supports e =
+    rw e (spared (w .board .symbols) _ labels, spared (2 * w .board .symbols) _ ranks, spared (2 * w .board .symbols) _ supports)
 
 -- ---- ask, ground and blame
 
 pub ask-tells : AskTells
 unfolding faults asked askFaults
-ask-tells w lent l e =
-    let f = cases w (asks lent l) e in
-    rw (f, rows-read w lent (none-given (askFaults (front w lent) (w .board) l) f 0))
+ask-tells w lent furnace l e =
+    let f = cases w (asks lent furnace l) e in
+    rw (f, rows-read w lent (none-given (askFaults (front w lent) (w .board) furnace l) f 0))
 
 -- as many marks are written as there are
 marks-over : (n : ℕ) (f : ℕ → Bool) (marks : List ℕ) → let new = map byteOf (tabulate n f) in new ++ drop (length new) marks ≡ new ++ drop n marks
 marks-over n f marks = ap (λ (k : ℕ). map byteOf (tabulate n f) ++ drop k marks) (length-map (tabulate n f) byteOf ∙ length-tabulate n f)
 
 pub ground-tells : GroundTells
-unfolding outcome groundOutcome groundMarks groundFaults ground
-ground-tells w lent l marks e =
-    rw (e, rows-read w lent (none-given (groundFaults (front w lent) (w .board) l (length marks)) e 0)) (marks-over (2 * w .board .symbols) _ marks)
+unfolding answer outcome groundOutcome groundMarks groundFaults ground
+ground-tells w lent furnace l marks e =
+    rw (e, rows-read w lent (none-given (groundFaults (front w lent) (w .board) furnace l (length marks)) e 0))
+    (marks-over (2 * w .board .symbols) _ marks)
 
 pub blame-tells : BlameTells
-unfolding outcome blameOutcome blameMarks blameFaults blame
-blame-tells w lent marks e =
-    rw (e, rows-read w lent (none-given (blameFaults (front w lent) (w .board) (length marks)) e 0)) (marks-over (2 * w .board .symbols) _ marks)
+unfolding answer outcome blameOutcome blameMarks blameFaults blame
+blame-tells w lent furnace marks e =
+    rw (e, rows-read w lent (none-given (blameFaults (front w lent) (w .board) furnace (length marks)) e 0))
+    (marks-over (2 * w .board .symbols) _ marks)
 
 -- ---- the text
 
@@ -120,7 +126,7 @@ text-read w lent e =
     (λ r b. ap literalsOf (numbers-lent lent used (w .table) (good .sound .room) r b)))
 
 pub write-tells : WriteTells
-unfolding outcome writeAnswer writeOutcome writeBytes writeFaults
+unfolding answer outcome writeAnswer writeOutcome writeBytes writeFaults
 write-tells w lent out e =
     let same = text-read w lent (none-given (writeFaults (front w lent) (w .board) (length out)) e 0) in
     (rw (e, same), rw (e, same))

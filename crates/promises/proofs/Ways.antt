@@ -13,7 +13,7 @@ use Rattle.meaning.specs.SecondWay.{secondWay}
 use Rattle.meaning.proofs.Literals.{opp-even, opp-odd, even-or-odd, opp-place, has-below, conflict-at, conflict-found}
 use Rattle.meaning.proofs.Rounds.{reached-length}
 use Rattle.meaning.proofs.DemandThree.{demand-three, demand-three-computed}
-use Rattle.promises.specs.Demands.{rowsOfWorld, since, acceptedSince, derivedSet, WaysAgree, SettleAgrees}
+use Rattle.promises.specs.Demands.{rowsOfWorld, since, acceptedSince, premisesOf, derivedSet, WaysAgree, SettleAgrees}
 use Rattle.promises.proofs.Told.{label-at}
 use Rattle.promises.proofs.History.{keeps}
 
@@ -60,18 +60,20 @@ module _ (known : List Bool) where
       (suc (r .0 / 2), omega arith, omega arith, symbol-three (r .0) (r .1) (r .2))
 
 pub settle-agrees : SettleAgrees
-settle-agrees w₀ S calls lent labels ranks supports e =
+settle-agrees w₀ S calls lent furnace labels ranks supports e =
     let w = since w₀ S calls in
-    let known = secondWay (w .board .symbols) (acceptedSince w₀ S calls) (w .board .held) in
+    let known = secondWay (w .board .symbols) (acceptedSince w₀ S calls) (premisesOf w furnace) in
     let k = keeps w₀ S calls in
-    let found = demand-three-computed (w .board .symbols) (acceptedSince w₀ S calls) (w .board .held) (k .fine) in
-    let both : conflict (derivedSet w) ≡ conflict known = rw (k .rows) (found .conflicts) in
-    let here = label-at w lent labels ranks supports e in
-    let long = reached-length (2 * w .board .symbols) (byRows (rowsOfWorld w)) (w .board .held) (2 * w .board .symbols) in
+    let found = demand-three-computed (w .board .symbols) (acceptedSince w₀ S calls) (premisesOf w furnace) (k .fine) in
+    let both : conflict (derivedSet w furnace) ≡ conflict known = rw (k .rows) (found .conflicts) in
+    let here = label-at w lent furnace labels ranks supports e in
+    let long = reached-length (2 * w .board .symbols) (byRows (rowsOfWorld w)) (premisesOf w furnace) (2 * w .board .symbols) in
     record {
       conflicts = (
-        λ r. sym both ∙ three-conflict (derivedSet w) (r .0) (sym (here (r .0) (r .1) (r .2)) ∙ r .3),
-        λ c. (let r = conflict-three (derivedSet w) (w .board .symbols) long (both ∙ c) in (r .0, r .1, r .2, here (r .0) (r .1) (r .2) ∙ r .3)),
+        λ r. sym both ∙ three-conflict (derivedSet w furnace) (r .0) (sym (here (r .0) (r .1) (r .2)) ∙ r .3),
+        λ c.
+            (let r = conflict-three (derivedSet w furnace) (w .board .symbols) long (both ∙ c) in
+            (r .0, r .1, r .2, here (r .0) (r .1) (r .2) ∙ r .3)),
       );
       same = λ peace s low high. here s low high ∙ rw (k .rows) (found .labels (rw (k .rows) at (both ∙ peace)) s);
     }

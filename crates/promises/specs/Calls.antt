@@ -1,40 +1,46 @@
 -- "After every sequence of calls": the calls with all that each is lent, and what they do to the board and the caller's table, by the
 -- very definitions that the contracts of `board`, `dimacs` and `text` cite.
 use Prim.Native.Nat.{ℕ}
-use mathlib.Core.Bool.{Bool, true, false}
+use mathlib.Core.Bool.{Bool, true, false, not, _&&_}
 use mathlib.Core.List.{List, [], _∷_, _++_}
+use lib.Dec.{eqb}
 use lib.IntN.{ℤ}
 use lib.ListN.{length, take, drop}
+use Rattle.meaning.specs.Tests.{keep}
 use Rattle.meaning.specs.Formulae.{Formula}
 use Rattle.formula.specs.Parse.{wholeOf}
 use Rattle.formula.specs.Answers.{formulaOf}
 use Rattle.board.specs.Faults.{Fault, ifDone}
 use Rattle.board.specs.Changes.{openFaults, opened, holdFaults, held, withdrawFaults, withdrawn}
 use Rattle.board.specs.Rules.{ruleFaults, ruled, ruledTable}
-use Rattle.board.specs.Settling.{settleFaults, settleOutcome}
-use Rattle.board.specs.Asking.{askFaults, asked, explainFaults, reasoned}
-use Rattle.board.specs.Grounds.{groundFaults, groundOutcome, blameFaults, blameOutcome}
+use Rattle.board.specs.Settling.{settleFaults, settleOutcome, settledLabels, settledRanks, settledSupports}
+use Rattle.board.specs.Asking.{askFaults, asked, explainFaults, reasoned, Span, explained}
+use Rattle.board.specs.Grounds.{groundFaults, groundOutcome, groundMarks, blameFaults, blameOutcome, blameMarks}
 use Rattle.dimacs.specs.Form.{parseText}
 use Rattle.dimacs.specs.Reading.{formulaeIn, readFaults, readAnswer, readTable}
-use Rattle.dimacs.specs.Writing.{writeFaults, writeAnswer}
+use Rattle.dimacs.specs.Writing.{writeFaults, writeAnswer, writeBytes}
 use Rattle.chains.specs.Form.{wholeText}
-use Rattle.text.specs.Reading.{readTextFaults, readTextAnswer}
+use Rattle.text.specs.Reading.{readTextFaults, readTextAnswer, readTextBytes}
 use Rattle.text.specs.Adding.{ruleTextFaults, ruledText, ruledTextTable}
-use Rattle.text.specs.Writing.{writeTextFaults, writeTextAnswer}
+use Rattle.text.specs.Writing.{writeTextFaults, writeTextAnswer, writeTextBytes}
 use Rattle.board.specs.declared.Board.{Board}
 use Rattle.board.specs.declared.Outcome.{Outcome}
 use Rattle.board.specs.declared.Outcome.the-variants.{Done, Refused}
+use Rattle.board.specs.declared.asking.Reason.{Reason}
 use Rattle.board.specs.declared.asking.Standing.{Standing}
 use Rattle.board.specs.declared.asking.Standing.the-variants.{Conflict, Stands, RuledOut, Open, Refused as Unasked}
+use Rattle.dimacs.specs.declared.writing.Writing.{Writing}
+use Rattle.text.specs.declared.Spelling.{Spelling}
 
--- Every call but open is lent the table "from its front": its first `lent` numbers, as many as the caller likes at each call.
+-- Every call but open is lent the table "from its front": its first `lent` numbers, as many as the caller likes at each call. 02, Ticket 6: "Every
+-- call but open and adding a rule names a furnace", "DIMACS and formula calls name no furnace".
 pub data Call : Type 0 where
   opens : (symbols : ℕ) → Call
   adds : (lent : ℕ) (bytes : List ℕ) → Call
-  holds withdraws asks explains : (lent : ℕ) (l : ℤ) → Call
-  settles : (lent : ℕ) (labels ranks supports : List ℕ) → Call
-  grounds : (lent : ℕ) (l : ℤ) (marks : List ℕ) → Call
-  blames : (lent : ℕ) (marks : List ℕ) → Call
+  holds withdraws asks explains : (lent furnace : ℕ) (l : ℤ) → Call
+  settles : (lent furnace : ℕ) (labels ranks supports : List ℕ) → Call
+  grounds : (lent furnace : ℕ) (l : ℤ) (marks : List ℕ) → Call
+  blames : (lent furnace : ℕ) (marks : List ℕ) → Call
   reads : (lent : ℕ) (text : List ℕ) → Call
   writes : (lent : ℕ) (out : List ℕ) → Call
   readsText : (lent : ℕ) (text out : List ℕ) → Call
@@ -50,17 +56,18 @@ pub record World : Type 0 where
 abbrev pub front : World → ℕ → List ℤ
 front w lent = take lent (w .table)
 
--- the tests of a call, in 01's order
+-- the tests of a call, in the documents' order
 unfoldable pub faults : World → Call → List Fault
 faults w (opens S) = openFaults S
 faults w (adds lent bytes) = ruleFaults (front w lent) (w .board) bytes
-faults w (holds lent l) = holdFaults (front w lent) (w .board) l
-faults w (withdraws lent l) = withdrawFaults (front w lent) (w .board) l
-faults w (asks lent l) = askFaults (front w lent) (w .board) l
-faults w (explains lent l) = explainFaults (front w lent) (w .board) l
-faults w (settles lent labels ranks supports) = settleFaults (front w lent) (w .board) (length labels) (length ranks) (length supports)
-faults w (grounds lent l marks) = groundFaults (front w lent) (w .board) l (length marks)
-faults w (blames lent marks) = blameFaults (front w lent) (w .board) (length marks)
+faults w (holds lent furnace l) = holdFaults (front w lent) (w .board) furnace l
+faults w (withdraws lent furnace l) = withdrawFaults (front w lent) (w .board) furnace l
+faults w (asks lent furnace l) = askFaults (front w lent) (w .board) furnace l
+faults w (explains lent furnace l) = explainFaults (front w lent) (w .board) furnace l
+faults w (settles lent furnace labels ranks supports) =
+    settleFaults (front w lent) (w .board) furnace (length labels) (length ranks) (length supports)
+faults w (grounds lent furnace l marks) = groundFaults (front w lent) (w .board) furnace l (length marks)
+faults w (blames lent furnace marks) = blameFaults (front w lent) (w .board) furnace (length marks)
 faults w (reads lent text) = readFaults (front w lent) (w .board) text
 faults w (writes lent out) = writeFaults (front w lent) (w .board) (length out)
 faults w (readsText lent text out) = readTextFaults (front w lent) (w .board) text (length out)
@@ -75,22 +82,57 @@ askOutcome RuledOut = Done
 askOutcome Open = Done
 askOutcome (Unasked why) = Refused why
 
+-- all that a call tells: what it hands back, but for the board and the clause table, which `after` has, and what it leaves in the other tables that
+-- it is lent. Explain's part is told by where it lies in the clause table.
+pub data Answer : Type 0 where
+  ofChange : Outcome → Answer
+  ofRule : Outcome → (place added : ℕ) → Answer
+  ofReading : Outcome → (clauses added : ℕ) → Answer
+  ofWriting : Writing → (out : List ℕ) → Answer
+  ofSpelling : Spelling → (out : List ℕ) → Answer
+  ofSettle : Outcome → (labels ranks supports : List ℕ) → Answer
+  ofAsk : Standing → Answer
+  ofExplain : Reason → Span → Answer
+  ofMarks : Outcome → (marks : List ℕ) → Answer
+
+unfoldable pub answer : World → Call → Answer
+answer w (opens S) = ofChange (opened S .outcome)
+answer w (adds lent bytes) = let a = ruled (front w lent) (w .board) bytes in ofRule (a .outcome) (a .place) (a .added)
+answer w (holds lent furnace l) = ofChange (held (front w lent) (w .board) furnace l .outcome)
+answer w (withdraws lent furnace l) = ofChange (withdrawn (front w lent) (w .board) furnace l .outcome)
+answer w (asks lent furnace l) = ofAsk (asked (front w lent) (w .board) furnace l)
+answer w (explains lent furnace l) = ofExplain (reasoned (front w lent) (w .board) furnace l) (explained (front w lent) (w .board) furnace l)
+answer w (settles lent furnace labels ranks supports) =
+    ofSettle (settleOutcome (front w lent) (w .board) furnace labels ranks supports)
+    (settledLabels (front w lent) (w .board) furnace labels ranks supports)
+    (settledRanks (front w lent) (w .board) furnace labels ranks supports)
+    (settledSupports (front w lent) (w .board) furnace labels ranks supports)
+answer w (grounds lent furnace l marks) =
+    ofMarks (groundOutcome (front w lent) (w .board) furnace l marks) (groundMarks (front w lent) (w .board) furnace l marks)
+answer w (blames lent furnace marks) =
+    ofMarks (blameOutcome (front w lent) (w .board) furnace marks) (blameMarks (front w lent) (w .board) furnace marks)
+answer w (reads lent text) = let a = readAnswer (front w lent) (w .board) text in ofReading (a .outcome) (a .clauses) (a .added)
+answer w (writes lent out) = ofWriting (writeAnswer (front w lent) (w .board) out) (writeBytes (front w lent) (w .board) out)
+answer w (readsText lent text out) =
+    ofSpelling (readTextAnswer (front w lent) (w .board) text out) (readTextBytes (front w lent) (w .board) text out)
+answer w (addsText lent text) = let a = ruledText (front w lent) (w .board) text in ofRule (a .outcome) (a .place) (a .added)
+answer w (writesText lent bytes out) =
+    ofSpelling (writeTextAnswer (front w lent) (w .board) bytes out) (writeTextBytes (front w lent) (w .board) bytes out)
+
 -- what a call comes to, as its own answer tells it
+abbrev pub outcomeOf : Answer → Outcome
+outcomeOf (ofChange o) = o
+outcomeOf (ofRule o place added) = o
+outcomeOf (ofReading o clauses added) = o
+outcomeOf (ofWriting w out) = w .outcome
+outcomeOf (ofSpelling s out) = s .outcome
+outcomeOf (ofSettle o labels ranks supports) = o
+outcomeOf (ofAsk s) = askOutcome s
+outcomeOf (ofExplain r span) = r .outcome
+outcomeOf (ofMarks o marks) = o
+
 unfoldable pub outcome : World → Call → Outcome
-outcome w (opens S) = opened S .outcome
-outcome w (adds lent bytes) = ruled (front w lent) (w .board) bytes .outcome
-outcome w (holds lent l) = held (front w lent) (w .board) l .outcome
-outcome w (withdraws lent l) = withdrawn (front w lent) (w .board) l .outcome
-outcome w (asks lent l) = askOutcome (asked (front w lent) (w .board) l)
-outcome w (explains lent l) = reasoned (front w lent) (w .board) l .outcome
-outcome w (settles lent labels ranks supports) = settleOutcome (front w lent) (w .board) labels ranks supports
-outcome w (grounds lent l marks) = groundOutcome (front w lent) (w .board) l marks
-outcome w (blames lent marks) = blameOutcome (front w lent) (w .board) marks
-outcome w (reads lent text) = readAnswer (front w lent) (w .board) text .outcome
-outcome w (writes lent out) = writeAnswer (front w lent) (w .board) out .outcome
-outcome w (readsText lent text out) = readTextAnswer (front w lent) (w .board) text out .outcome
-outcome w (addsText lent text) = ruledText (front w lent) (w .board) text .outcome
-outcome w (writesText lent bytes out) = writeTextAnswer (front w lent) (w .board) bytes out .outcome
+outcome w c = outcomeOf (answer w c)
 
 -- "In a sequence of calls each is given the board that the one before handed back."
 unfoldable pub after : World → Call → World
@@ -100,13 +142,13 @@ after w (adds lent bytes) =
       board = ruled (front w lent) (w .board) bytes .board;
       table = ruledTable (front w lent) (w .board) bytes ++ drop lent (w .table);
     }
-after w (holds lent l) = record { board = held (front w lent) (w .board) l .board; table = w .table }
-after w (withdraws lent l) = record { board = withdrawn (front w lent) (w .board) l .board; table = w .table }
-after w (asks lent l) = w
-after w (explains lent l) = w
-after w (settles lent labels ranks supports) = w
-after w (grounds lent l marks) = w
-after w (blames lent marks) = w
+after w (holds lent furnace l) = record { board = held (front w lent) (w .board) furnace l .board; table = w .table }
+after w (withdraws lent furnace l) = record { board = withdrawn (front w lent) (w .board) furnace l .board; table = w .table }
+after w (asks lent furnace l) = w
+after w (explains lent furnace l) = w
+after w (settles lent furnace labels ranks supports) = w
+after w (grounds lent furnace l marks) = w
+after w (blames lent furnace marks) = w
 after w (reads lent text) =
     record {
       board = readAnswer (front w lent) (w .board) text .board;
@@ -136,13 +178,13 @@ formulaIn S bytes = formulaOf (wholeOf S bytes)
 unfoldable pub rulesAfter : World → List Formula → Call → List Formula
 rulesAfter w fs (opens S) = []
 rulesAfter w fs (adds lent bytes) = ifDone (outcome w (adds lent bytes)) (fs ++ (formulaIn (w .board .symbols) bytes ∷ [])) (λ _. fs)
-rulesAfter w fs (holds lent l) = fs
-rulesAfter w fs (withdraws lent l) = fs
-rulesAfter w fs (asks lent l) = fs
-rulesAfter w fs (explains lent l) = fs
-rulesAfter w fs (settles lent labels ranks supports) = fs
-rulesAfter w fs (grounds lent l marks) = fs
-rulesAfter w fs (blames lent marks) = fs
+rulesAfter w fs (holds lent furnace l) = fs
+rulesAfter w fs (withdraws lent furnace l) = fs
+rulesAfter w fs (asks lent furnace l) = fs
+rulesAfter w fs (explains lent furnace l) = fs
+rulesAfter w fs (settles lent furnace labels ranks supports) = fs
+rulesAfter w fs (grounds lent furnace l marks) = fs
+rulesAfter w fs (blames lent furnace marks) = fs
 rulesAfter w fs (reads lent text) = ifDone (outcome w (reads lent text)) (fs ++ formulaeIn (parseText text)) (λ _. fs)
 rulesAfter w fs (writes lent out) = fs
 rulesAfter w fs (readsText lent text out) = fs
@@ -158,15 +200,55 @@ rulesAfterAll w fs (c ∷ calls) = rulesAfterAll (after w c) (rulesAfter w fs c)
 abbrev pub notOpen : Call → Bool
 notOpen (opens S) = false
 notOpen (adds lent bytes) = true
-notOpen (holds lent l) = true
-notOpen (withdraws lent l) = true
-notOpen (asks lent l) = true
-notOpen (explains lent l) = true
-notOpen (settles lent labels ranks supports) = true
-notOpen (grounds lent l marks) = true
-notOpen (blames lent marks) = true
+notOpen (holds lent furnace l) = true
+notOpen (withdraws lent furnace l) = true
+notOpen (asks lent furnace l) = true
+notOpen (explains lent furnace l) = true
+notOpen (settles lent furnace labels ranks supports) = true
+notOpen (grounds lent furnace l marks) = true
+notOpen (blames lent furnace marks) = true
 notOpen (reads lent text) = true
 notOpen (writes lent out) = true
 notOpen (readsText lent text out) = true
 notOpen (addsText lent text) = true
 notOpen (writesText lent bytes out) = true
+
+-- ---- the furnaces
+
+-- the call names this furnace
+abbrev pub names : (furnace : ℕ) → Call → Bool
+names f (opens S) = false
+names f (adds lent bytes) = false
+names f (holds lent furnace l) = eqb furnace f
+names f (withdraws lent furnace l) = eqb furnace f
+names f (asks lent furnace l) = eqb furnace f
+names f (explains lent furnace l) = eqb furnace f
+names f (settles lent furnace labels ranks supports) = eqb furnace f
+names f (grounds lent furnace l marks) = eqb furnace f
+names f (blames lent furnace marks) = eqb furnace f
+names f (reads lent text) = false
+names f (writes lent out) = false
+names f (readsText lent text out) = false
+names f (addsText lent text) = false
+names f (writesText lent bytes out) = false
+
+-- the call changes premises: it is a hold or a withdraw
+abbrev pub changes : Call → Bool
+changes (opens S) = false
+changes (adds lent bytes) = false
+changes (holds lent furnace l) = true
+changes (withdraws lent furnace l) = true
+changes (asks lent furnace l) = false
+changes (explains lent furnace l) = false
+changes (settles lent furnace labels ranks supports) = false
+changes (grounds lent furnace l marks) = false
+changes (blames lent furnace marks) = false
+changes (reads lent text) = false
+changes (writes lent out) = false
+changes (readsText lent text out) = false
+changes (addsText lent text) = false
+changes (writesText lent bytes out) = false
+
+-- the calls without the holds and withdraws for this furnace
+abbrev pub without : (furnace : ℕ) → List Call → List Call
+without furnace calls = keep (λ c. not (changes c && names furnace c)) calls

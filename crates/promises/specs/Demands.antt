@@ -22,6 +22,7 @@ use Rattle.literals.specs.declared.refusal.Refusal.{Refusal}
 use Rattle.formula.specs.Promises.{Breaks}
 use Rattle.formula.specs.Parse.{good, wholeOf}
 use Rattle.formula.specs.Answers.{isGood as isFormula, formulaOf}
+use Rattle.board.specs.Furnaces.{heldBy}
 use Rattle.board.specs.Faults.{Fault, firstFault, numberIn, goodBoard}
 use Rattle.board.specs.Changes.{emptyBoard, withFlag}
 use Rattle.board.specs.Rules.{noPlace, ruled}
@@ -39,7 +40,7 @@ use Rattle.chains.specs.Promises.{Says, Offends}
 use Rattle.text.specs.Reading.{bytesIn, readTextAnswer, readTextBytes}
 use Rattle.text.specs.Adding.{ruledText}
 use Rattle.text.specs.Writing.{textIn, writeTextAnswer, writeTextBytes}
-use Rattle.promises.specs.Calls.{Call, opens, adds, holds, withdraws, asks, explains, settles, grounds, blames, reads, writes, readsText, addsText, writesText, World, front, faults, outcome, after, run, formulaIn, rulesAfterAll, notOpen}
+use Rattle.promises.specs.Calls.{Call, opens, adds, holds, withdraws, asks, explains, settles, grounds, blames, reads, writes, readsText, addsText, writesText, World, front, faults, outcome, after, run, formulaIn, rulesAfterAll, notOpen, names, without, answer}
 
 -- ---- demand 1: "Each refusal is given exactly in the case document 01 names, and leaves each table untouched."
 
@@ -70,13 +71,14 @@ RefusedUntouched = (w : World) (c : Call) (why : Refusal) → outcome w c ≡ Re
 
 -- "it writes nothing in a lent table": settle's three, the marks of ground and blame, the bytes of a text, and those of a formula
 pub record Unwritten (w : World) (lent : ℕ) (why : Refusal) : Type 0 where
-  pub settle : (labels ranks supports : List ℕ) → outcome w (settles lent labels ranks supports) ≡ Refused why
-      → (settledLabels (front w lent) (w .board) labels ranks supports ≡ labels)
-      × (settledRanks (front w lent) (w .board) labels ranks supports ≡ ranks)
-      × (settledSupports (front w lent) (w .board) labels ranks supports ≡ supports)
-  pub ground : (l : ℤ) (marks : List ℕ) → outcome w (grounds lent l marks) ≡ Refused why
-      → groundMarks (front w lent) (w .board) l marks ≡ marks
-  pub blame : (marks : List ℕ) → outcome w (blames lent marks) ≡ Refused why → blameMarks (front w lent) (w .board) marks ≡ marks
+  pub settle : (furnace : ℕ) (labels ranks supports : List ℕ) → outcome w (settles lent furnace labels ranks supports) ≡ Refused why
+      → (settledLabels (front w lent) (w .board) furnace labels ranks supports ≡ labels)
+      × (settledRanks (front w lent) (w .board) furnace labels ranks supports ≡ ranks)
+      × (settledSupports (front w lent) (w .board) furnace labels ranks supports ≡ supports)
+  pub ground : (furnace : ℕ) (l : ℤ) (marks : List ℕ) → outcome w (grounds lent furnace l marks) ≡ Refused why
+      → groundMarks (front w lent) (w .board) furnace l marks ≡ marks
+  pub blame : (furnace : ℕ) (marks : List ℕ) → outcome w (blames lent furnace marks) ≡ Refused why
+      → blameMarks (front w lent) (w .board) furnace marks ≡ marks
   pub write : (out : List ℕ) → outcome w (writes lent out) ≡ Refused why → writeBytes (front w lent) (w .board) out ≡ out
   pub read-text : (text out : List ℕ) → outcome w (readsText lent text out) ≡ Refused why → readTextBytes (front w lent) (w .board) text out ≡ out
   pub write-text : (bytes out : List ℕ) → outcome w (writesText lent bytes out) ≡ Refused why
@@ -89,9 +91,9 @@ RefusedUnwritten = (w : World) (lent : ℕ) (why : Refusal) → Unwritten w lent
 -- bytes; "A refused explain hands back the empty part at the table's front, and 65535 for rank and row number."
 pub record HandedBack (w : World) (lent : ℕ) (why : Refusal) : Type 0 where
   pub rule : (bytes : List ℕ) → outcome w (adds lent bytes) ≡ Refused why → ruled (front w lent) (w .board) bytes .added ≡ 0
-  pub explain : (l : ℤ) → outcome w (explains lent l) ≡ Refused why
-      → (reasoned (front w lent) (w .board) l .rank ≡ 65535) × (reasoned (front w lent) (w .board) l .row ≡ 65535)
-      × (explained (front w lent) (w .board) l .start ≡ 0) × (explained (front w lent) (w .board) l .stop ≡ 0)
+  pub explain : (furnace : ℕ) (l : ℤ) → outcome w (explains lent furnace l) ≡ Refused why
+      → (reasoned (front w lent) (w .board) furnace l .rank ≡ 65535) × (reasoned (front w lent) (w .board) furnace l .row ≡ 65535)
+      × (explained (front w lent) (w .board) furnace l .start ≡ 0) × (explained (front w lent) (w .board) furnace l .stop ≡ 0)
   pub read : (text : List ℕ) → outcome w (reads lent text) ≡ Refused why → readAnswer (front w lent) (w .board) text .added ≡ 0
   pub write : (out : List ℕ) → outcome w (writes lent out) ≡ Refused why → writeAnswer (front w lent) (w .board) out .bytes ≡ 0
   pub read-text : (text out : List ℕ) → outcome w (readsText lent text out) ≡ Refused why
@@ -164,20 +166,25 @@ WriteTextPlaces =
 
 -- ---- demand 2: what the calls leave
 
--- "A good open touches no row; rows in use and premises start empty."
+-- "A good open touches no row; rows in use and premises start empty." 02, Ticket 6: "opening empties both sets"
 abbrev pub OpenLeaves : Type 0
 OpenLeaves = (w : World) (S : ℕ) → outcome w (opens S) ≡ Done → after w (opens S) ≡ record { board = emptyBoard S; table = w .table }
 
--- "A good hold puts its literal into the premises, a good withdraw takes it out, and neither changes anything else in the board"
+-- "A good hold puts its literal into the premises, a good withdraw takes it out, and neither changes anything else in the board": the premises of
+-- the furnace that is named
 abbrev pub HoldPuts : Type 0
 HoldPuts =
-    (w : World) (lent : ℕ) (l : ℤ) → outcome w (holds lent l) ≡ Done
-    → after w (holds lent l) ≡ record { board = withFlag (w .board) l true; table = w .table }
+    (w : World) (lent furnace : ℕ) (l : ℤ) → outcome w (holds lent furnace l) ≡ Done
+    → after w (holds lent furnace l) ≡ record { board = withFlag (w .board) furnace l true; table = w .table }
 
 abbrev pub WithdrawTakes : Type 0
 WithdrawTakes =
-    (w : World) (lent : ℕ) (l : ℤ) → outcome w (withdraws lent l) ≡ Done
-    → after w (withdraws lent l) ≡ record { board = withFlag (w .board) l false; table = w .table }
+    (w : World) (lent furnace : ℕ) (l : ℤ) → outcome w (withdraws lent furnace l) ≡ Done
+    → after w (withdraws lent furnace l) ≡ record { board = withFlag (w .board) furnace l false; table = w .table }
+
+-- the premises that a furnace holds
+abbrev pub premisesOf : World → (furnace : ℕ) → List Bool
+premisesOf w furnace = heldBy (w .board) furnace
 
 -- the rows in use of a world, as lists of places
 abbrev pub rowsOfWorld : World → List (List ℕ)
@@ -190,9 +197,9 @@ pub record Appends (w next : World) (new : List (List ℕ)) (added : ℕ) : Type
   -- so many are told, and so many more are in use
   pub told : added ≡ length new
   pub used : next .board .rows ≡ w .board .rows + length new
-  -- "adding a rule changes neither S nor the premises"
+  -- "adding a rule changes neither S nor the premises", those of both furnaces
   pub symbols : next .board .symbols ≡ w .board .symbols
-  pub premises : next .board .held ≡ w .board .held
+  pub premises : (furnace : ℕ) → premisesOf next furnace ≡ premisesOf w furnace
   -- "a good call writes only the places named for it": those of the new rows
   pub before : take (width * w .board .rows) (next .table) ≡ take (width * w .board .rows) (w .table)
   pub beyond : drop (width * (w .board .rows + length new)) (next .table) ≡ drop (width * (w .board .rows + length new)) (w .table)
@@ -231,114 +238,120 @@ TextAppends =
     → Appends w (after w (addsText lent text)) (rowsOf (ruleOf (w .board .symbols) (formulaOf (wholeText text))))
     (ruledText (front w lent) (w .board) text .added)
 
--- ---- demand 2: what the calls tell, "over the rows in the table and the premises then held, in 01's rounds"
+-- ---- demand 2: what the calls tell, "over the rows in the table and the premises then held, in 01's rounds". 02, Ticket 6: "From here demands 2
+-- and 3 read the named furnace's premises"
 
--- the literal is derived on the board, by the definition with no rounds
-abbrev pub DerivedOn : World → ℕ → Type 0
-DerivedOn w p = Derived (2 * w .board .symbols) (rowsOfWorld w) (w .board .held) p
+-- the literal is derived for the furnace, by the definition with no rounds
+abbrev pub DerivedOn : World → (furnace : ℕ) → ℕ → Type 0
+DerivedOn w furnace p = Derived (2 * w .board .symbols) (rowsOfWorld w) (premisesOf w furnace) p
 
 -- the derived literals by the rounds, and the rank and the support of a literal
-abbrev pub derivedSet : World → List Bool
-derivedSet w = derivedOn (w .table) (w .board)
+abbrev pub derivedSet : World → (furnace : ℕ) → List Bool
+derivedSet w furnace = derivedOn (w .table) (w .board) furnace
 
-abbrev pub rankIn : World → ℕ → ℕ
-rankIn w p = rankOn (w .table) (w .board) p
+abbrev pub rankIn : World → (furnace : ℕ) → ℕ → ℕ
+rankIn w furnace p = rankOn (w .table) (w .board) furnace p
 
-abbrev pub supportIn : World → ℕ → ℕ
-supportIn w p = supportOn (w .table) (w .board) p
+abbrev pub supportIn : World → (furnace : ℕ) → ℕ → ℕ
+supportIn w furnace p = supportOn (w .table) (w .board) furnace p
 
 -- the tables that settle left
-pub record Tells (w : World) (labels ranks supports : List ℕ) : Type 0 where
-  pub label : (s : ℕ) → 1 ≤ s → s ≤ w .board .symbols → getD labels (s - 1) 0 ≡ label (derivedSet w) s
+pub record Tells (w : World) (furnace : ℕ) (labels ranks supports : List ℕ) : Type 0 where
+  pub label : (s : ℕ) → 1 ≤ s → s ≤ w .board .symbols → getD labels (s - 1) 0 ≡ label (derivedSet w furnace) s
   -- "A literal is derived exactly if that definition derives it"
-  pub derived : (p : ℕ) → (has (derivedSet w) p ≡ true) ↔ DerivedOn w p
-  pub rank : (p : ℕ) → p < 2 * w .board .symbols → getD ranks p 0 ≡ rankIn w p
-  pub support : (p : ℕ) → p < 2 * w .board .symbols → getD supports p 0 ≡ supportIn w p
+  pub derived : (p : ℕ) → (has (derivedSet w furnace) p ≡ true) ↔ DerivedOn w furnace p
+  pub rank : (p : ℕ) → p < 2 * w .board .symbols → getD ranks p 0 ≡ rankIn w furnace p
+  pub support : (p : ℕ) → p < 2 * w .board .symbols → getD supports p 0 ≡ supportIn w furnace p
 
 -- "After every sequence of calls on a board"
 abbrev pub SettleTells : Type 0
 SettleTells =
-    (w₀ : World) (calls : List Call) (lent : ℕ) (labels ranks supports : List ℕ)
+    (w₀ : World) (calls : List Call) (lent furnace : ℕ) (labels ranks supports : List ℕ)
     → let w = run w₀ calls in
-    outcome w (settles lent labels ranks supports) ≡ Done
-    → Tells w (settledLabels (front w lent) (w .board) labels ranks supports) (settledRanks (front w lent) (w .board) labels ranks supports)
-    (settledSupports (front w lent) (w .board) labels ranks supports)
+    outcome w (settles lent furnace labels ranks supports) ≡ Done
+    → Tells w furnace (settledLabels (front w lent) (w .board) furnace labels ranks supports)
+    (settledRanks (front w lent) (w .board) furnace labels ranks supports)
+    (settledSupports (front w lent) (w .board) furnace labels ranks supports)
 
 -- "Only the first S, 2S and 2S places are written."
 abbrev pub SettleSpares : Type 0
 SettleSpares =
-    (w : World) (lent : ℕ) (labels ranks supports : List ℕ) → outcome w (settles lent labels ranks supports) ≡ Done
+    (w : World) (lent furnace : ℕ) (labels ranks supports : List ℕ) → outcome w (settles lent furnace labels ranks supports) ≡ Done
     → let S = w .board .symbols in
-    (drop S (settledLabels (front w lent) (w .board) labels ranks supports) ≡ drop S labels)
-    × (drop (2 * S) (settledRanks (front w lent) (w .board) labels ranks supports) ≡ drop (2 * S) ranks)
-    × (drop (2 * S) (settledSupports (front w lent) (w .board) labels ranks supports) ≡ drop (2 * S) supports)
+    (drop S (settledLabels (front w lent) (w .board) furnace labels ranks supports) ≡ drop S labels)
+    × (drop (2 * S) (settledRanks (front w lent) (w .board) furnace labels ranks supports) ≡ drop (2 * S) ranks)
+    × (drop (2 * S) (settledSupports (front w lent) (w .board) furnace labels ranks supports) ≡ drop (2 * S) supports)
 
 -- the other answers agree with the same derived literals, ranks and supports (for any board and table, so after every sequence too)
 abbrev pub AskTells : Type 0
 AskTells =
-    (w : World) (lent : ℕ) (l : ℤ) → outcome w (asks lent l) ≡ Done
-    → asked (front w lent) (w .board) l ≡ standing (derivedSet w) (placeOf l)
+    (w : World) (lent furnace : ℕ) (l : ℤ) → outcome w (asks lent furnace l) ≡ Done
+    → asked (front w lent) (w .board) furnace l ≡ standing (derivedSet w furnace) (placeOf l)
 
 -- the rank and the row number, and the literals of that row
-pub record Explains (w : World) (lent : ℕ) (l : ℤ) : Type 0 where
-  pub rank : reasoned (front w lent) (w .board) l .rank ≡ rankIn w (placeOf l)
-  pub row : reasoned (front w lent) (w .board) l .row ≡ supportIn w (placeOf l)
-  pub part : let span = explained (front w lent) (w .board) l in
-      decode (take (span .stop - span .start) (drop (span .start) (w .table))) ≡ getD (rowsOfWorld w) (supportIn w (placeOf l)) []
+pub record Explains (w : World) (lent furnace : ℕ) (l : ℤ) : Type 0 where
+  pub rank : reasoned (front w lent) (w .board) furnace l .rank ≡ rankIn w furnace (placeOf l)
+  pub row : reasoned (front w lent) (w .board) furnace l .row ≡ supportIn w furnace (placeOf l)
+  pub part : let span = explained (front w lent) (w .board) furnace l in
+      decode (take (span .stop - span .start) (drop (span .start) (w .table))) ≡ getD (rowsOfWorld w) (supportIn w furnace (placeOf l)) []
 
 abbrev pub ExplainTells : Type 0
-ExplainTells = (w : World) (lent : ℕ) (l : ℤ) → outcome w (explains lent l) ≡ Done → Explains w lent l
+ExplainTells = (w : World) (lent furnace : ℕ) (l : ℤ) → outcome w (explains lent furnace l) ≡ Done → Explains w lent furnace l
 
 abbrev pub GroundTells : Type 0
 GroundTells =
-    (w : World) (lent : ℕ) (l : ℤ) (marks : List ℕ) → outcome w (grounds lent l marks) ≡ Done
-    → groundMarks (front w lent) (w .board) l marks
-    ≡ map byteOf (ground (2 * w .board .symbols) (rowsOfWorld w) (w .board .held) (placeOf l)) ++ drop (2 * w .board .symbols) marks
+    (w : World) (lent furnace : ℕ) (l : ℤ) (marks : List ℕ) → outcome w (grounds lent furnace l marks) ≡ Done
+    → groundMarks (front w lent) (w .board) furnace l marks
+    ≡ map byteOf (ground (2 * w .board .symbols) (rowsOfWorld w) (premisesOf w furnace) (placeOf l)) ++ drop (2 * w .board .symbols) marks
 
 abbrev pub BlameTells : Type 0
 BlameTells =
-    (w : World) (lent : ℕ) (marks : List ℕ) → outcome w (blames lent marks) ≡ Done
-    → blameMarks (front w lent) (w .board) marks
-    ≡ map byteOf (blame (w .board .symbols) (rowsOfWorld w) (w .board .held)) ++ drop (2 * w .board .symbols) marks
+    (w : World) (lent furnace : ℕ) (marks : List ℕ) → outcome w (blames lent furnace marks) ≡ Done
+    → blameMarks (front w lent) (w .board) furnace marks
+    ≡ map byteOf (blame (w .board .symbols) (rowsOfWorld w) (premisesOf w furnace)) ++ drop (2 * w .board .symbols) marks
 
 -- 02, Ticket 4: "Blame shall take, among symbols with label 3, the one whose larger rank of its two literals is smallest, and of equals the lowest
 -- symbol." Of that symbol it writes "the premises reached by +s or −s", by 01.
 abbrev pub BlameTakes : Type 0
 BlameTakes =
-    (w : World) (lent : ℕ) (marks : List ℕ) → outcome w (blames lent marks) ≡ Done
+    (w : World) (lent furnace : ℕ) (marks : List ℕ) → outcome w (blames lent furnace marks) ≡ Done
     → let S = w .board .symbols in
-    let reach : ℕ → ℕ → Bool = reaches (2 * S) (rowsOfWorld w) (w .board .held) in
-    (s : ℕ) × Earliest S (rowsOfWorld w) (w .board .held) s
-    × ((p : ℕ) → p < 2 * S → getD (blameMarks (front w lent) (w .board) marks) p 0 ≡ byteOf (reach (place s true) p || reach (place s false) p))
+    let reach : ℕ → ℕ → Bool = reaches (2 * S) (rowsOfWorld w) (premisesOf w furnace) in
+    (s : ℕ) × Earliest S (rowsOfWorld w) (premisesOf w furnace) s
+    × ((p : ℕ) → p < 2 * S → getD (blameMarks (front w lent) (w .board) furnace marks) p 0 ≡ byteOf (reach (place s true) p || reach (place s false) p))
 
 -- blame writes 1 at the place p
-abbrev pub Marked : World → (lent : ℕ) → (marks : List ℕ) → ℕ → Type 0
-Marked w lent marks p = (p < 2 * w .board .symbols) × (getD (blameMarks (front w lent) (w .board) marks) p 0 ≡ 1)
+abbrev pub Marked : World → (lent furnace : ℕ) → (marks : List ℕ) → ℕ → Type 0
+Marked w lent furnace marks p = (p < 2 * w .board .symbols) × (getD (blameMarks (front w lent) (w .board) furnace marks) p 0 ≡ 1)
 
--- what it marks are held premises,
+-- what it marks are premises that the furnace holds,
 abbrev pub BlameMarksHeld : Type 0
 BlameMarksHeld =
-    (w : World) (lent : ℕ) (marks : List ℕ) (p : ℕ) → outcome w (blames lent marks) ≡ Done → Marked w lent marks p → has (w .board .held) p ≡ true
+    (w : World) (lent furnace : ℕ) (marks : List ℕ) (p : ℕ) → outcome w (blames lent furnace marks) ≡ Done → Marked w lent furnace marks p
+    → has (premisesOf w furnace) p ≡ true
 
 -- which held alone, with the same rows, are in conflict:
 abbrev pub BlameAlone : Type 0
 BlameAlone =
-    (w v : World) (lent : ℕ) (marks : List ℕ) → outcome w (blames lent marks) ≡ Done
-    → v .board .symbols ≡ w .board .symbols → rowsOfWorld v ≡ rowsOfWorld w → ((p : ℕ) → (has (v .board .held) p ≡ true) ↔ Marked w lent marks p)
-    → conflict (derivedSet v) ≡ true
+    (w v : World) (lent furnace : ℕ) (marks : List ℕ) → outcome w (blames lent furnace marks) ≡ Done
+    → v .board .symbols ≡ w .board .symbols → rowsOfWorld v ≡ rowsOfWorld w
+    → ((p : ℕ) → (has (premisesOf v furnace) p ≡ true) ↔ Marked w lent furnace marks p)
+    → conflict (derivedSet v furnace) ≡ true
 
--- of these calls, one after the other from w on, none is an open, and none that is done withdraws one of the premises
-pub data Spares (premises : ℕ → Type 0) : World → List Call → Type 0 where
-  all-made : {w : World} → Spares premises w []
+-- of these calls, one after the other from w on, none is an open, and none that is done withdraws one of the premises for this furnace
+pub data Spares (furnace : ℕ) (premises : ℕ → Type 0) : World → List Call → Type 0 where
+  all-made : {w : World} → Spares furnace premises w []
   then : {w : World} {c : Call} {calls : List Call} → notOpen c ≡ true
-      → ((lent : ℕ) (l : ℤ) → c ≡ withdraws lent l → outcome w c ≡ Done → premises (placeOf l) → ⊥)
-      → Spares premises (after w c) calls → Spares premises w (c ∷ calls)
+      → ((lent : ℕ) (l : ℤ) → c ≡ withdraws lent furnace l → outcome w c ≡ Done → premises (placeOf l) → ⊥)
+      → Spares furnace premises (after w c) calls → Spares furnace premises w (c ∷ calls)
 
--- so the board stays in conflict, whatever rules are added and premises held or withdrawn, until one of those is withdrawn or it is opened anew
+-- so the furnace stays in conflict, whatever rules are added and premises held or withdrawn for either furnace, until one of those is withdrawn for
+-- it or the board is opened anew
 abbrev pub ConflictStays : Type 0
 ConflictStays =
-    (w : World) (lent : ℕ) (marks : List ℕ) (calls : List Call) → outcome w (blames lent marks) ≡ Done → Spares (Marked w lent marks) w calls
-    → conflict (derivedSet (run w calls)) ≡ true
+    (w : World) (lent furnace : ℕ) (marks : List ℕ) (calls : List Call) → outcome w (blames lent furnace marks) ≡ Done
+    → Spares furnace (Marked w lent furnace marks) w calls
+    → conflict (derivedSet (run w calls) furnace) ≡ true
 
 -- 02, Ticket 2: "Write the rows in use too": the bytes told are the text's, and the bytes beyond it stay
 abbrev pub WriteTells : Type 0
@@ -388,6 +401,24 @@ TextRoundTrip =
     (w : World) (lent : ℕ) (bytes out : List ℕ) → outcome w (writesText lent bytes out) ≡ Done
     → WrittenBack (textWritten w lent bytes out) bytes (w .board .symbols)
 
+-- ---- 02, Ticket 6: "Holding and withdrawing for one furnace change no answer of the other, refusals 10 to 12 included."
+
+-- all but the premises of this furnace is the same
+pub record Alike (furnace : ℕ) (v u : World) : Type 0 where
+  pub table : v .table ≡ u .table
+  pub symbols : v .board .symbols ≡ u .board .symbols
+  pub rows : v .board .rows ≡ u .board .rows
+  pub premises : (other : ℕ) → other ≢ furnace → premisesOf v other ≡ premisesOf u other
+
+-- Of any sequence of calls, leave out every hold and withdraw for one furnace, wherever they stand. Then every call that does not name that furnace
+-- (it names the other, a number of no furnace, or none) is answered the same, writes the same, and leaves all the same but that furnace's premises.
+abbrev pub FurnacesApart : Type 0
+FurnacesApart =
+    (w : World) (furnace : ℕ) (calls : List Call) (c : Call) → names furnace c ≡ false
+    → let v = run w (without furnace calls) in
+    let u = run w calls in
+    (answer v c ≡ answer u c) × Alike furnace (after v c) (after u c)
+
 -- ---- demand 3
 
 -- "For the rules accepted since the last open, a good one, one table lent from its front to every call since and written by nobody
@@ -405,24 +436,24 @@ WaysAgree =
     → let w = since w₀ S calls in
     TwoWays (Derived (2 * w .board .symbols) (rowsOfWorld w) held) (Forced (w .board .symbols) (acceptedSince w₀ S calls) held)
 
--- and in the bytes that settle writes, for the premises then held; `known` is what the second way finds
+-- and in the bytes that settle writes, for the premises that the named furnace then holds; `known` is what the second way finds
 pub record LabelsAgree (S : ℕ) (labels : List ℕ) (known : List Bool) : Type 0 where
   pub conflicts : ((s : ℕ) × (1 ≤ s) × (s ≤ S) × (getD labels (s - 1) 0 ≡ 3)) ↔ (conflict known ≡ true)
   pub same : conflict known ≡ false → (s : ℕ) → 1 ≤ s → s ≤ S → getD labels (s - 1) 0 ≡ label known s
 
 abbrev pub SettleAgrees : Type 0
 SettleAgrees =
-    (w₀ : World) (S : ℕ) (calls : List Call) (lent : ℕ) (labels ranks supports : List ℕ)
+    (w₀ : World) (S : ℕ) (calls : List Call) (lent furnace : ℕ) (labels ranks supports : List ℕ)
     → let w = since w₀ S calls in
-    outcome w (settles lent labels ranks supports) ≡ Done
-    → LabelsAgree (w .board .symbols) (settledLabels (front w lent) (w .board) labels ranks supports)
-    (secondWay (w .board .symbols) (acceptedSince w₀ S calls) (w .board .held))
+    outcome w (settles lent furnace labels ranks supports) ≡ Done
+    → LabelsAgree (w .board .symbols) (settledLabels (front w lent) (w .board) furnace labels ranks supports)
+    (secondWay (w .board .symbols) (acceptedSince w₀ S calls) (premisesOf w furnace))
 
 -- ---- demand 1: a board that the calls made is a good one
 
 -- Refusal 1 is for "S is outside 1 to 200, rows in use exceed rows lent, a row in use isn't sound, or a held premise is of a symbol
--- beyond S". After a good open and any calls but an open none of these is so of the whole table: a caller who lends it whole to the
--- next call never meets refusal 1.
+-- beyond S". After a good open and any calls but an open none of these is so, by the whole table and of either furnace's premises: a caller who
+-- lends it whole to the next call never meets refusal 1.
 abbrev pub StaysGood : Type 0
 StaysGood =
     (w₀ : World) (S : ℕ) (calls : List Call) → leb 1 S && leb S 200 ≡ true → all notOpen calls ≡ true

@@ -7,20 +7,30 @@ use board::Board;
 // What stands in a table beyond its rows in use: no sound row.
 pub const GUARD: i16 = 77;
 
-// A board with nothing held.
+// A board with nothing held by either furnace.
 pub fn blank(symbols: usize, rows: usize) -> Board {
     Board {
         symbols,
         rows,
-        held: [false; 400],
+        first: [false; 400],
+        second: [false; 400],
     }
 }
 
-// The board with a premise more, at place p.
+// The board with a premise of furnace 1 more, at place p.
 pub fn with(board: Board, p: usize) -> Board {
     let mut next = board;
     if p < 400 {
-        next.held[p] = true;
+        next.first[p] = true;
+    }
+    next
+}
+
+// The board with a premise of furnace 2 more, at place p.
+pub fn with_second(board: Board, p: usize) -> Board {
+    let mut next = board;
+    if p < 400 {
+        next.second[p] = true;
     }
     next
 }
@@ -43,7 +53,7 @@ pub fn rows() -> [i16; 40] {
     table(&[-1, 2, 0, 0, 0, 0, 0, 0, -2, -3, 4, 0, 0, 0, 0, 0])
 }
 
-// Their board with nothing held, with 1 and 3 held, and with 3 and -3 held.
+// Their board with nothing held, and with 1 and 3, and 3 and -3, held by furnace 1.
 pub fn none() -> Board {
     blank(4, 2)
 }

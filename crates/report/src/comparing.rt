@@ -53,5 +53,8 @@ pub fn same_board(a: Board, b: Board) -> bool {
     if a.rows != b.rows {
         return false;
     }
-    same_flags(&a.held, &b.held)
+    if !same_flags(&a.first, &b.first) {
+        return false;
+    }
+    same_flags(&a.second, &b.second)
 }

@@ -128,9 +128,9 @@ pub fn words(list: &[u16], n: usize) {
     }
 }
 
-// The premises, in the order of their places.
+// The premises of a furnace, in the order of their places.
 fn premises(held: &[bool]) {
-    text(b" held [");
+    text(b" [");
     let mut k = 0;
     while k < held.len() {
         if held[k] {
@@ -141,10 +141,14 @@ fn premises(held: &[bool]) {
     text(b" ]");
 }
 
+// A board, with the premises of furnace 1 and then those of furnace 2.
 pub fn board(b: Board) {
     counted(b" S", b.symbols);
     counted(b" rows", b.rows);
-    premises(&b.held);
+    text(b" held");
+    premises(&b.first);
+    text(b" and");
+    premises(&b.second);
 }
 
 // The front of a line: a board, and how many numbers of its table are lent.

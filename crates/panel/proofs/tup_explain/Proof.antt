@@ -18,12 +18,12 @@ use Rattle.panel.proofs.tup_explain.Tie as tie
 
 -- the numbers of the literal that was given
 numbers : (c : tie.After-explain-numbers) → let s = c .before .before in
-    c .explain-numbers .result ≡ reasoned (s .args .table .now) (boardIn (s .args .given)) (s .args .l)
+    c .explain-numbers .result ≡ reasoned (s .args .table .now) (boardIn (s .args .given)) (s .args .furnace) (s .args .l)
 numbers c = rw (← c .before .board-in .ensures, ← toZ-ofZ (c .before .before .fits .l)) (c .explain-numbers .ensures)
 
 -- where the call is done
 done : (c : tie.After-enum-told) → let s = c .before .before .before .before in
-    reasoned (s .args .table .now) (boardIn (s .args .given)) (s .args .l) .outcome ≡ Done
+    reasoned (s .args .table .now) (boardIn (s .args .given)) (s .args .furnace) (s .args .l) .outcome ≡ Done
 done c = sym (ap (λ (r : Reason). r .outcome) (numbers (c .before .before))) ∙ c .enum-told .given .1
 
 -- the row is in the table
@@ -32,7 +32,7 @@ inside : (c : tie.After-enum-told) → let n = c .before .before in
 inside c =
     let n = c .before .before in
     let s = n .before .before in
-    let used = row-used (s .args .table .now) (boardIn (s .args .given)) (s .args .l) (done c) in
+    let used = row-used (s .args .table .now) (boardIn (s .args .given)) (s .args .furnace) (s .args .l) (done c) in
     omega (arith, ap (λ (r : Reason). r .row) (numbers n), used .0, used .2)
 
 enum-told : tie.Need-enum-told
@@ -48,19 +48,19 @@ cast-literals c =
 
 -- the literals that are counted are those of the part
 count-is : (c : tie.After-literal-count) → let s = c .before .before .before .before .before .before in
-    let part = explained (s .args .table .now) (boardIn (s .args .given)) (s .args .l) in c .literal-count .result ≡ part .stop - part .start
+    let part = explained (s .args .table .now) (boardIn (s .args .given)) (s .args .furnace) (s .args .l) in c .literal-count .result ≡ part .stop - part .start
 unfolding numbersAt
 count-is c =
     let t = c .before .before in
-    rw (row-shown _ _ _ (done t), ← numbers (t .before .before), ← c .literal-count .ensures) (omega arith)
+    rw (row-shown _ _ _ _ (done t), ← numbers (t .before .before), ← c .literal-count .ensures) (omega arith)
 
 literals-are : (c : tie.At-match-came) → let s = c .before .before .before in
-    let part = explained (s .args .table .now) (boardIn (s .args .given)) (s .args .l) in c .match .literals ≡ part .stop - part .start
+    let part = explained (s .args .table .now) (boardIn (s .args .given)) (s .args .furnace) (s .args .l) in c .match .literals ≡ part .stop - part .start
 literals-are c =
     let n = c .before in
     ⊎-elim
     (λ w. w .4 ∙ count-is (record { before = record { before = record { before = record { before = n; match = w .0 }; enum-told = w .1 }; struct-known = w .2 }; literal-count = w .3 }))
-    (λ w. w .2 ∙ rw (nothing-shown _ _ _ (sym (ap (λ (r : Reason). r .outcome) (numbers n)) ∙ w .1 .given .1)))
+    (λ w. w .2 ∙ rw (nothing-shown _ _ _ _ (sym (ap (λ (r : Reason). r .outcome) (numbers n)) ∙ w .1 .given .1)))
     (c .match .came)
 
 returns : tie.Need-returns

@@ -14,8 +14,8 @@ use Rattle.board.proofs.asking.explain.Statement.{statement}
 use Rattle.board.proofs.asking.explain.Tie as tie
 
 -- the numbers of the literal that was given
-numbers : (c : tie.After-explain-numbers) → c .explain-numbers .result ≡ reasoned (c .before .args .table .now) (c .before .args .board) (c .before .args .l)
-numbers c = c .explain-numbers .ensures ∙ ap (reasoned (c .before .args .table .now) (c .before .args .board)) (toZ-ofZ (c .before .fits .l))
+numbers : (c : tie.After-explain-numbers) → c .explain-numbers .result ≡ reasoned (c .before .args .table .now) (c .before .args .board) (c .before .args .furnace) (c .before .args .l)
+numbers c = c .explain-numbers .ensures ∙ ap (reasoned (c .before .args .table .now) (c .before .args .board) (c .before .args .furnace)) (toZ-ofZ (c .before .fits .l))
 
 -- the row is in the table
 inside : (c : tie.After-enum-told2) → let s = c .before .before .before in
@@ -23,8 +23,8 @@ inside : (c : tie.After-enum-told2) → let s = c .before .before .before in
 inside c =
     let n = c .before .before in
     let is = numbers n in
-    let u = row-used (n .before .args .table .now) (n .before .args .board) (n .before .args .l) (sym (ap (λ (r : Reason). r .outcome) is) ∙ c .enum-told2 .given .1) in
-    let row : n .explain-numbers .result .row ≡ reasoned (n .before .args .table .now) (n .before .args .board) (n .before .args .l) .row = ap (λ (r : Reason). r .row) is in
+    let u = row-used (n .before .args .table .now) (n .before .args .board) (n .before .args .furnace) (n .before .args .l) (sym (ap (λ (r : Reason). r .outcome) is) ∙ c .enum-told2 .given .1) in
+    let row : n .explain-numbers .result .row ≡ reasoned (n .before .args .table .now) (n .before .args .board) (n .before .args .furnace) (n .before .args .l) .row = ap (λ (r : Reason). r .row) is in
     (omega (arith, row, u .0, u .1), omega (arith, row, u .0, u .2))
 
 literal-count-requires : tie.Need-literal-count-requires
@@ -42,7 +42,7 @@ part-result-end-2 c = omega (arith, few c, inside (c .before .before) .1)
 returns : tie.Need-returns
 returns c =
     let n = c .before .before .before in
-    rw (nothing-shown _ _ _ (sym (ap (λ (r : Reason). r .outcome) (numbers n)) ∙ c .before .enum-told .given .1))
+    rw (nothing-shown _ _ _ _ (sym (ap (λ (r : Reason). r .outcome) (numbers n)) ∙ c .before .enum-told .given .1))
     (record { holds = refl; block = refl; offset = refl })
 
 returns-2 : tie.Need-returns-2
@@ -50,7 +50,7 @@ unfolding numbersAt
 returns-2 c =
     let t = c .before .before .before in
     let n = t .before .before in
-    rw (row-shown _ _ _ (sym (ap (λ (r : Reason). r .outcome) (numbers n)) ∙ t .enum-told2 .given .1), ← numbers n, ← c .before .literal-count .ensures)
+    rw (row-shown _ _ _ _ (sym (ap (λ (r : Reason). r .outcome) (numbers n)) ∙ t .enum-told2 .given .1), ← numbers n, ← c .before .literal-count .ensures)
     (record { holds = refl; block = refl; offset = refl })
 
 pub explain-spec : {M : Type 1} → statement M

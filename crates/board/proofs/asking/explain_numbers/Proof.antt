@@ -2,110 +2,146 @@
 use borrow.Author.Needs.{needs}
 use mathlib.Core.Path.{_≡_, sym, ap₂, _∙_}
 use mathlib.Core.Logic.{inl, inr}
-use Prim.Native.Nat.{ℕ, _*_, _<_}
+use mathlib.Core.List.{_++_}
+use Prim.Native.Nat.{ℕ, _*_, _≤_, _<_}
 use native.Mathlib.Omega.{arith}
-use lib.ListN.{drop, getD}
+use lib.ListN.{length, drop, getD, replicate}
 use Rattle.meaning.specs.Tests.{none}
 use Rattle.meaning.specs.Rounds.{rankOf}
+use Rattle.board.specs.Furnaces.{heldBy}
 use Rattle.board.specs.Ranking.{rowsOn, tooHigh}
 use Rattle.board.specs.Asking.{explainFaults, reasoned}
 use Rattle.board.specs.declared.Outcome.the-variants.{Done}
+use Rattle.board.proofs.TwoSets.{held-long}
 use Rattle.board.proofs.Placing.{PlacedAt, placed-at, placed-refused}
 use Rattle.board.proofs.Ranked.{hidden, shown}
-use Rattle.board.proofs.Lending.{one-support, RanksIn, ranks-front, ranks-high, rank-at}
+use Rattle.board.proofs.Lending.{rows-fit, high-is, supports-are, one-support, RanksIn, rank-at, ranks-room, ranks-long, ranks-back}
 use Rattle.board.proofs.asking.explain_numbers.Statement.{statement}
 use Rattle.board.proofs.asking.explain_numbers.Tie as tie
 
--- where the tests have passed, and where the call began
-abbrev tested : tie.After-ranks-on → tie.After-p
-tested c = c .before .before .before
+-- where the premises are chosen, where the tests have passed, and where the call began
+abbrev chosen : tie.After-propagate → tie.After-premises
+chosen c = c .before .before .before
+
+abbrev tested : tie.After-premises → tie.After-p
+tested c = c .before .before .before .before .before .before .before
 
 abbrev start : tie.After-p → tie.Start
 start c = c .before .before .before
 
 -- the place that the call looks at
-at : (c : tie.After-p) → let s = start c in PlacedAt (s .args .table .now) (s .args .board) (s .args .l) (c .p .given .0 .0)
-at c = let s = start c in placed-at _ _ (s .fits .l) (c .before .before .place-on .ensures) (c .p .given .1)
+at : (c : tie.After-p) → let s = start c in
+    PlacedAt (s .args .table .now) (s .args .t1) (s .args .furnace) (s .args .l) (c .p .given .0 .0)
+at c = let s = start c in placed-at _ _ _ (s .fits .l) (c .before .before .place-on .ensures) (c .p .given .1)
 
-small : (c : tie.After-p) → 2 * start c .args .board .symbols < none
+small : (c : tie.After-p) → 2 * start c .args .t1 .symbols < none
 small c = omega (arith, at c .good .sound .symbols)
 
--- the ranks, and whether one is too high
-front : (c : tie.After-ranks-on) → let s = start (tested c) in RanksIn (s .args .table .now) (s .args .board) (c .ranks-on .result .list)
-front c = ranks-front _ _ (c .ranks-on .ensures .0)
+-- the premises are the furnace's
+same : (c : tie.After-premises) → let s = start (tested c) in c .premises .result .now ≡ heldBy (s .args .t1) (s .args .furnace)
+unfolding heldBy
+same c = c .premises .ensures
 
-high : (c : tie.After-ranks-on) → let s = start (tested c) in tooHigh (s .args .table .now) (s .args .board) ≡ c .ranks-on .result .high
-high c = ranks-high _ _ (c .ranks-on .ensures .0)
+long : (c : tie.After-premises) → 400 ≡ length (c .premises .result .now)
+long c =
+    let s = start (tested c) in
+    held-long (s .args .t1) (s .args .furnace) 400 (at (tested c) .is-furnace) (search needs) (search needs) (same c)
+
+-- the ranks, and whether one is too high
+room : (c : tie.After-propagate) → 2 * start (tested (chosen c)) .args .t1 .symbols ≤ length (replicate 400 none)
+room c = ranks-room _ _ (at (tested (chosen c)) .good)
+
+front : (c : tie.After-propagate) → let s = start (tested (chosen c)) in
+    RanksIn (s .args .table .now) (s .args .t1) (s .args .furnace)
+    (c .propagate .last .1 .1 .1 .0 ++ drop (2 * s .args .t1 .symbols) (replicate 400 none))
+front c = let h = chosen c in ranks-back _ _ (at (tested h) .good) _ (same h) (c .propagate .ensures .1 .0)
+
+high : (c : tie.After-propagate) → let s = start (tested (chosen c)) in
+    tooHigh (s .args .table .now) (s .args .t1) (s .args .furnace) ≡ c .propagate .result
+high c = sym (high-is _ _ (replicate 400 none) (room c) _ (same (chosen c)) (c .propagate .ensures .0))
 
 -- the literal's rank
-rank : (c : tie.After-ranks-on) → let w = tested c in let s = start w in let b = s .args .board in
-    getD (c .ranks-on .result .list) (w .p .given .0 .0) 0 ≡ rankOf (2 * b .symbols) (rowsOn (s .args .table .now) b) (b .held) (w .p .given .0 .0)
-rank c = let w = tested c in rank-at _ _ (front c) (w .p .given .0 .0) (at w .low)
+rank : (c : tie.After-propagate) → let w = tested (chosen c) in let s = start w in let b = s .args .t1 in
+    getD (c .propagate .last .1 .1 .1 .0 ++ drop (2 * b .symbols) (replicate 400 none)) (w .p .given .0 .0) 0
+    ≡ rankOf (2 * b .symbols) (rowsOn (s .args .table .now) b) (heldBy b (s .args .furnace)) (w .p .given .0 .0)
+rank c = let w = tested (chosen c) in rank-at _ _ _ (front c) (w .p .given .0 .0) (at w .low)
 
-ranks-on-requires : tie.Need-ranks-on-requires
-ranks-on-requires c κs = let p = at (c .before .before) in (p .is-good, omega (arith, p .low))
+mul-places : tie.Need-mul-places
+mul-places c = omega (arith, at (c .before) .good .sound .symbols)
+
+array-borrow-prefix-ranks : tie.Need-array-borrow-prefix-ranks
+array-borrow-prefix-ranks c = ranks-room _ _ (at (tested c) .good)
+
+slice-aggregate-propagate : tie.Need-slice-aggregate-propagate
+slice-aggregate-propagate c = sym (ranks-long _ _ (at (tested (c .before)) .good))
+
+propagate-requires : tie.Need-propagate-requires
+propagate-requires c κs =
+    let h = c .before .before in
+    let p = at (tested h) in
+    let g = p .good in
+    let part = ranks-long _ _ g in
+    (rows-fit _ _ (replicate 400 none) (ranks-room _ _ g) g, (omega (arith, part, long h, g .sound .symbols), omega (arith, part, p .low)))
 
 returns : tie.Need-returns
 unfolding reasoned explainFaults
 returns c =
-    let r = c .before .before .before in
-    let p = at (tested r) in
-    rw (p .is-good, p .in-range, high r ∙ c .before .if1 .taken) (c .unexplained2 .ensures)
+    let r = c .before .before .before .before in
+    let p = at (tested (chosen r)) in
+    rw (p .is-good, p .is-furnace, p .in-range, high r ∙ c .before .if1 .taken) (c .unexplained2 .ensures)
 
 mul-rank : tie.Need-mul-rank
-mul-rank c =
-    let p = at (c .before .before .before .before .before .before) in
-    omega (arith, p .low, p .good .sound .symbols)
+mul-rank c = let p = at (tested (chosen (c .before .before .before))) in omega (arith, p .low, p .good .sound .symbols)
 
 array-read-rank : tie.Need-array-read-rank
-array-read-rank c =
-    let p = at (c .before .before .before .before .before .before) in
-    omega (arith, p .low, p .good .sound .symbols)
+array-read-rank c = let p = at (tested (chosen (c .before .before .before))) in omega (arith, p .low, p .good .sound .symbols)
 
 returns-2 : tie.Need-returns-2
 unfolding reasoned explainFaults
 returns-2 c =
-    let e = c .before .before .before in
-    let r = e .before .before in
-    let w = tested r in
+    let e = c .before .before in
+    let r = e .before .before .before in
+    let w = tested (chosen r) in
     let p = at w in
     let hides = hidden _ _ _ (small w) (w .p .given .0 .0) (p .low) (inl (sym (rank r) ∙ c .before .if2 .taken)) in
-    rw (p .is-good, p .in-range, high r ∙ e .if1 .left, ← p .place, hides) (c .unexplained3 .ensures)
+    rw (p .is-good, p .is-furnace, p .in-range, high r ∙ e .if1 .left, ← p .place, hides) (c .unexplained3 .ensures)
 
 returns-3 : tie.Need-returns-3
 unfolding reasoned explainFaults
 returns-3 c =
-    let e = c .before .before .before .before in
-    let r = e .before .before in
-    let w = tested r in
+    let e = c .before .before .before in
+    let r = e .before .before .before in
+    let w = tested (chosen r) in
     let p = at w in
     let hides = hidden _ _ _ (small w) (w .p .given .0 .0) (p .low) (inr (sym (rank r) ∙ c .before .if3 .taken)) in
-    rw (p .is-good, p .in-range, high r ∙ e .if1 .left, ← p .place, hides) (c .unexplained4 .ensures)
+    rw (p .is-good, p .is-furnace, p .in-range, high r ∙ e .if1 .left, ← p .place, hides) (c .unexplained4 .ensures)
 
 returns-4 : tie.Need-returns-4
 unfolding reasoned explainFaults
 returns-4 c =
     let w = c .before .before in
     let s = w .before .before .before in
-    let own = drop 2 (explainFaults (s .args .table .now) (s .args .board) (s .args .l)) in
-    rw (placed-refused _ _ (s .fits .l) (w .before .before .place-on .ensures) (w .why .given .1) own) (c .unexplained .ensures)
+    let own = drop 3 (explainFaults (s .args .table .now) (s .args .t1) (s .args .furnace) (s .args .l)) in
+    rw (placed-refused _ _ _ (s .fits .l) (w .before .before .place-on .ensures) (w .why .given .1) own) (c .unexplained .ensures)
 
 returns-5 : tie.Need-returns-5
 unfolding reasoned explainFaults
 returns-5 c =
-    let e = c .before .before .before in
-    let r = e .before .before in
-    let w = tested r in
+    let e = c .before .before in
+    let r = e .before .before .before in
+    let w = tested (chosen r) in
     let p = at w in
     let q = w .p .given .0 .0 in
     let s = start w in
-    let b = s .args .board in
-    let rows = rowsOn (s .args .table .now) b in
+    let b = s .args .t1 in
+    let table = s .args .table .now in
+    let held = heldBy b (s .args .furnace) in
     let shows =
-    shown (2 * b .symbols) rows (b .held) (small w) q (p .low) (λ e. c .before .if2 .left (rank r ∙ e)) (λ e. c .if3 .left (rank r ∙ e)) in
-    rw (p .is-good, p .in-range, high r ∙ e .if1 .left, ← p .place, shows)
+    shown (2 * b .symbols) (rowsOn table b) held (small w) q (p .low) (λ e. c .before .if2 .left (rank r ∙ e)) (λ e. c .if3 .left (rank r ∙ e)) in
+    rw (p .is-good, p .is-furnace, p .in-range, high r ∙ e .if1 .left, ← p .place, shows)
     (ap₂ (λ (rank row : ℕ). record { outcome = Done; rank = rank; row = row }) (rank r)
-    (one-support (2 * b .symbols) rows (b .held) q (r .ranks-on .ensures .1)))
+    (one-support (2 * b .symbols) (rowsOn table b) held q
+    (supports-are table b (replicate 400 none) (room r) (s .args .furnace) (same (chosen r)) 1 q (r .propagate .ensures .1 .1))))
 
 pub explain-numbers-spec : {M : Type 1} → statement M
 explain-numbers-spec =
@@ -115,8 +151,12 @@ explain-numbers-spec =
     (λ c. search needs)
     (λ c κs. search needs)
     (λ c. search needs)
+    mul-places
+    (λ c κs. search needs)
+    array-borrow-prefix-ranks
+    slice-aggregate-propagate
     (λ c. search needs)
-    ranks-on-requires
+    propagate-requires
     (λ c κs. search needs)
     returns
     mul-rank

@@ -11,7 +11,7 @@ use Rattle.board.proofs.changes.hold.Tie as tie
 returns : tie.Need-returns
 returns c =
     let s = c .before in
-    c .change-flag .ensures ∙ ap (λ l. flagChanged (s .args .table .now) (s .args .board) l true AlreadyHeld) (toZ-ofZ (s .fits .l))
+    c .change-flag .ensures ∙ ap (λ l. flagChanged (s .args .table .now) (s .args .board) (s .args .furnace) l true AlreadyHeld) (toZ-ofZ (s .fits .l))
 
 pub hold-spec : {M : Type 1} → statement M
 hold-spec = tie.close (tie.spec (λ c κs. search needs) returns)

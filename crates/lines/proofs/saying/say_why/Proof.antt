@@ -7,6 +7,7 @@ use lib.ListN.{length, take, drop, length-take}
 use mir.Facts.{toZ-ofZ}
 use Rattle.board.specs.Asking.{explained, reasoned, Span}
 use Rattle.board.specs.declared.asking.Reason.{Reason}
+use Rattle.lines.specs.Commands.{journalFurnace}
 use Rattle.lines.proofs.Explaining.{part-most}
 use Rattle.lines.proofs.saying.say_why.Statement.{statement}
 use Rattle.lines.proofs.saying.say_why.Tie as tie
@@ -16,11 +17,11 @@ abbrev start : tie.After-explain-numbers → tie.Start
 start n = n .before .before
 
 numbers : (n : tie.After-explain-numbers)
-    → n .explain-numbers .result ≡ reasoned (start n .args .table .now) (start n .args .board) (start n .args .l)
+    → n .explain-numbers .result ≡ reasoned (start n .args .table .now) (start n .args .board) journalFurnace (start n .args .l)
 numbers n = rw (toZ-ofZ (start n .fits .l)) at (n .explain-numbers .ensures)
 
 abbrev span : tie.After-explain-numbers → Span
-span n = explained (start n .args .table .now) (start n .args .board) (start n .args .l)
+span n = explained (start n .args .table .now) (start n .args .board) journalFurnace (start n .args .l)
 
 abbrev known : tie.After-explain → tie.After-explain-numbers
 known x = x .before .before .before
@@ -35,7 +36,7 @@ put-reason-requires c κs =
     let s = start n in
     let room : s .args .at + 128 ≤ length (s .args .out .now) = omega arith in
     let size = span n .stop - span n .start in
-    (room, omega (arith, ap length (part (c .before)), part-most (s .args .table .now) (s .args .board) (s .args .l), length-take size (drop (span n .start) (s .args .table .now))))
+    (room, omega (arith, ap length (part (c .before)), part-most (s .args .table .now) (s .args .board) journalFurnace (s .args .l), length-take size (drop (span n .start) (s .args .table .now))))
 
 returns : tie.Need-returns
 returns c =

@@ -1,0 +1,268 @@
+-- 02, Ticket 6: "Holding and withdrawing for one furnace change no answer of the other": two worlds that differ in the premises of one furnace alone
+-- answer alike every call that does not name it, and stay such whatever is called.
+use mathlib.Core.Path.{_≡_, refl, sym, ap, subst, _∙_}
+use mathlib.Core.Logic.{_≢_, ⊎-elim}
+use mathlib.Core.Bool.{Bool, true, false, cond, _&&_, and-false}
+use mathlib.Core.List.{List, [], _∷_}
+use Prim.Native.Nat.{ℕ}
+use borrow.Author.Tests.{eqb-true, eqb-false}
+use lib.Dec.{eqb}
+use lib.IntN.{ℤ}
+use lib.ListN.{length, set}
+use Rattle.meaning.specs.Formulae.{Formula}
+use Rattle.meaning.proofs.Tests.{clash}
+use Rattle.literals.specs.Literal.{placeOf}
+use Rattle.literals.specs.Row.{rowsLent}
+use Rattle.literals.specs.declared.refusal.Refusal.the-variants.{BadText}
+use Rattle.formula.specs.Parse.{wholeOf}
+use Rattle.board.specs.Furnaces.{heldBy, withHeld}
+use Rattle.board.specs.Faults.{premisesFit, goodBoard, firstFault, ifDone}
+use Rattle.board.specs.Changes.{withFlag, flagFaults, flagChanged}
+use Rattle.board.specs.Rules.{breaksAt, placeTold, rowsOfBytes, ruleFaults, ruled}
+use Rattle.board.specs.Settling.{settleFaults, settleOutcome, settledLabels, settledRanks, settledSupports}
+use Rattle.board.specs.Asking.{askFaults, asked, explainFaults, reasoned, explained}
+use Rattle.board.specs.Grounds.{groundFaults, groundOutcome, groundMarks, blameFaults, blameOutcome, blameMarks}
+use Rattle.board.specs.declared.Board.{Board}
+use Rattle.board.specs.declared.Outcome.{Outcome}
+use Rattle.board.specs.declared.Outcome.the-variants.{Done, Refused}
+use Rattle.board.proofs.Goodness.{flag-fits}
+use Rattle.board.proofs.TwoSets.{held-own, held-other}
+use Rattle.dimacs.specs.Form.{clausesOf, parseText}
+use Rattle.dimacs.specs.Clauses.{passed}
+use Rattle.dimacs.specs.Reading.{rowsOfText, readFaults, readAnswer}
+use Rattle.dimacs.specs.Writing.{textOn, writeFaults, writeOutcome, writeAnswer, writeBytes}
+use Rattle.chains.specs.Form.{wholeText}
+use Rattle.text.specs.Reading.{bytesIn, readTextFaults, readTextOutcome, readTextAnswer, readTextBytes}
+use Rattle.text.specs.Adding.{textRefused, ruledText}
+use Rattle.text.specs.Writing.{writeTextFaults, writeTextOutcome, writeTextAnswer, writeTextBytes}
+use Rattle.promises.specs.Calls.{Call, opens, adds, holds, withdraws, asks, explains, settles, grounds, blames, reads, writes, readsText, addsText, writesText}
+use Rattle.promises.specs.Calls.{ofRule, ofReading, World, front, answer, outcomeOf, outcome, after, run, formulaIn, notOpen, names, changes, without}
+use Rattle.promises.specs.Demands.{Alike, FurnacesApart}
+use Rattle.promises.proofs.Refusals.{done-or-refused, refused-untouched, so-after}
+use Rattle.promises.proofs.Changes.{Flagged, hold-flagged, withdraw-flagged}
+use Rattle.promises.proofs.Tested.{Added, rule-added, rule-text-added, text-added}
+
+-- ---- what a rule and a reading tell, but for the board
+
+rule-tells : (table : List ℤ) (b : Board) (bytes : List ℕ) → let a = ruled table b bytes in let o = firstFault (ruleFaults table b bytes) in
+    ofRule (a .outcome) (a .place) (a .added)
+    ≡ ofRule o (placeTold o (wholeOf (b .symbols) bytes)) (ifDone o (length (rowsOfBytes (b .symbols) bytes)) (λ _. 0))
+unfolding ruled
+rule-tells table b bytes = go (firstFault (ruleFaults table b bytes)) refl
+  where
+    go : (o : Outcome) → firstFault (ruleFaults table b bytes) ≡ o → let a = ruled table b bytes in
+        ofRule (a .outcome) (a .place) (a .added)
+        ≡ ofRule (firstFault (ruleFaults table b bytes)) (placeTold (firstFault (ruleFaults table b bytes)) (wholeOf (b .symbols) bytes))
+        (ifDone (firstFault (ruleFaults table b bytes)) (length (rowsOfBytes (b .symbols) bytes)) (λ _. 0))
+    go Done e = rw e
+    go (Refused why) e = rw e
+
+text-tells : (table : List ℤ) (b : Board) (text : List ℕ) → let a = ruledText table b text in let r = ruled table b (bytesIn text) in
+    ofRule (a .outcome) (a .place) (a .added)
+    ≡ cond (textRefused table b text) (ofRule (Refused BadText) (breaksAt (wholeText text)) 0) (ofRule (r .outcome) (r .place) (r .added))
+unfolding ruledText
+text-tells table b text = go (textRefused table b text)
+  where
+    go : (t : Bool) → let r = ruled table b (bytesIn text) in
+        let a = cond t (record { outcome = Refused BadText; place = breaksAt (wholeText text); added = 0; board = b }) r in
+        ofRule (a .outcome) (a .place) (a .added)
+        ≡ cond t (ofRule (Refused BadText) (breaksAt (wholeText text)) 0) (ofRule (r .outcome) (r .place) (r .added))
+    go true = refl
+    go false = refl
+
+reading-tells : (table : List ℤ) (b : Board) (text : List ℕ) → let a = readAnswer table b text in let o = firstFault (readFaults table b text) in
+    ofReading (a .outcome) (a .clauses) (a .added)
+    ≡ ofReading o (cond (goodBoard table b) (passed (b .symbols) (b .rows) (rowsLent table) (clausesOf (parseText text))) 0)
+    (ifDone o (length (rowsOfText (b .symbols) (parseText text))) (λ _. 0))
+unfolding readAnswer
+reading-tells table b text = go (firstFault (readFaults table b text)) refl
+  where
+    go : (o : Outcome) → firstFault (readFaults table b text) ≡ o → let a = readAnswer table b text in
+        ofReading (a .outcome) (a .clauses) (a .added)
+        ≡ ofReading (firstFault (readFaults table b text))
+        (cond (goodBoard table b) (passed (b .symbols) (b .rows) (rowsLent table) (clausesOf (parseText text))) 0)
+        (ifDone (firstFault (readFaults table b text)) (length (rowsOfText (b .symbols) (parseText text))) (λ _. 0))
+    go Done e = rw e
+    go (Refused why) e = rw e
+
+-- ---- worlds that differ in the premises of one furnace
+
+-- refusal 1 reads the premises of both furnaces, so that it has to be the same for both worlds whether they fit
+record Same (furnace : ℕ) (v u : World) : Type 0 where
+  alike : Alike furnace v u
+  fit : premisesFit (v .board) ≡ premisesFit (u .board)
+
+module _ {f : ℕ} {v u : World} (s : Same f v u) where
+  abbrev a : Alike f v u
+  a = s .alike
+
+  good : (lent : ℕ) → goodBoard (front v lent) (v .board) ≡ goodBoard (front u lent) (u .board)
+  unfolding goodBoard
+  good lent = rw (s .fit, a .symbols, a .rows, a .table)
+
+  rule-same : (lent : ℕ) (bytes : List ℕ)
+      → let x = ruled (front v lent) (v .board) bytes in let y = ruled (front u lent) (u .board) bytes in
+      ofRule (x .outcome) (x .place) (x .added) ≡ ofRule (y .outcome) (y .place) (y .added)
+  unfolding ruleFaults
+  rule-same lent bytes =
+      rule-tells (front v lent) (v .board) bytes
+      ∙ rw (good lent, a .symbols, a .rows, a .table, ← rule-tells (front u lent) (u .board) bytes)
+
+  -- the same answer to every call that does not name the furnace
+  same-answer : (c : Call) → names f c ≡ false → answer v c ≡ answer u c
+  unfolding answer flagChanged flagFaults asked askFaults reasoned explained explainFaults settleOutcome settledLabels settledRanks settledSupports settleFaults groundOutcome groundMarks groundFaults blameOutcome blameMarks blameFaults readFaults writeAnswer writeBytes writeOutcome writeFaults textOn readTextAnswer readTextBytes readTextOutcome readTextFaults writeTextAnswer writeTextBytes writeTextOutcome writeTextFaults
+  same-answer (opens S) n = refl
+  same-answer (adds lent bytes) n = rule-same lent bytes
+  same-answer (holds lent g l) n = rw (good lent, a .premises g (eqb-false g f n), a .symbols)
+  same-answer (withdraws lent g l) n = rw (good lent, a .premises g (eqb-false g f n), a .symbols)
+  same-answer (asks lent g l) n = rw (good lent, a .premises g (eqb-false g f n), a .symbols, a .rows, a .table)
+  same-answer (explains lent g l) n = rw (good lent, a .premises g (eqb-false g f n), a .symbols, a .rows, a .table)
+  same-answer (settles lent g labels ranks supports) n = rw (good lent, a .premises g (eqb-false g f n), a .symbols, a .rows, a .table)
+  same-answer (grounds lent g l marks) n = rw (good lent, a .premises g (eqb-false g f n), a .symbols, a .rows, a .table)
+  same-answer (blames lent g marks) n = rw (good lent, a .premises g (eqb-false g f n), a .symbols, a .rows, a .table)
+  same-answer (reads lent text) n =
+      reading-tells (front v lent) (v .board) text
+      ∙ rw (good lent, a .symbols, a .rows, a .table, ← reading-tells (front u lent) (u .board) text)
+  same-answer (writes lent out) n = rw (good lent, a .symbols, a .rows, a .table)
+  same-answer (readsText lent text out) n = rw (good lent, a .symbols)
+  same-answer (addsText lent text) n =
+      text-tells (front v lent) (v .board) text
+      ∙ rw (good lent, rule-same lent (bytesIn text), ← text-tells (front u lent) (u .board) text)
+  same-answer (writesText lent bytes out) n = rw (good lent, a .symbols)
+
+  same-outcome : (c : Call) → names f c ≡ false → outcome v c ≡ outcome u c
+  unfolding outcome
+  same-outcome c n = ap outcomeOf (same-answer c n)
+
+  -- ---- and so they stay, whatever is called that is no hold or withdraw for the furnace
+
+  -- where the call adds rules
+  same-added : {v' u' : World} {lent count count' : ℕ} {fs : List Formula} → Added v v' lent fs count → Added u u' lent fs count' → Same f v' u'
+  unfolding premisesFit heldBy
+  same-added {lent = lent} {fs = fs} x y =
+      record {
+        alike =
+            record {
+              table = x .table ∙ rw (a .symbols, a .rows, a .table, ← y .table);
+              symbols = ap (λ (b : Board). b .symbols) (x .board) ∙ a .symbols ∙ ap (λ (b : Board). b .symbols) (sym (y .board));
+              rows = ap (λ (b : Board). b .rows) (x .board) ∙ rw (a .symbols, a .rows) (ap (λ (b : Board). b .rows) (sym (y .board)));
+              premises = λ g apart. rw (x .board, y .board) (a .premises g apart);
+            };
+        fit = rw (x .board, y .board) (s .fit);
+      }
+
+  -- where it changes a flag for another furnace
+  same-flagged : {v' u' : World} {g : ℕ} {l : ℤ} {flag : Bool} → g ≢ f → Flagged v v' g l flag → Flagged u u' g l flag → Same f v' u'
+  unfolding withHeld
+  same-flagged {g = g} {l = l} {flag = flag} other x y =
+      rw (x .next-is, y .next-is)
+      (record {
+        alike = record { table = a .table; symbols = a .symbols; rows = a .rows; premises = λ h apart. set-same h apart (eqb g h) refl };
+        fit = flag-fits (v .board) g l flag (x .range) ∙ s .fit ∙ sym (flag-fits (u .board) g l flag (y .range));
+      })
+    where
+      set-same : (h : ℕ) → h ≢ f → (t : Bool) → eqb g h ≡ t
+          → heldBy (withFlag (v .board) g l flag) h ≡ heldBy (withFlag (u .board) g l flag) h
+      set-same h apart true e =
+          subst (λ h. heldBy (withFlag (v .board) g l flag) h ≡ heldBy (withFlag (u .board) g l flag) h) (eqb-true g h e)
+          (held-own (v .board) g (set (heldBy (v .board) g) (placeOf l) flag) (x .named)
+          ∙ ap (λ (held : List Bool). set held (placeOf l) flag) (a .premises g other)
+          ∙ sym (held-own (u .board) g (set (heldBy (u .board) g) (placeOf l) flag) (x .named)))
+      set-same h apart false e =
+          held-other (v .board) g (set (heldBy (v .board) g) (placeOf l) flag) h (eqb-false g h e)
+          ∙ a .premises h apart
+          ∙ sym (held-other (u .board) g (set (heldBy (u .board) g) (placeOf l) flag) h (eqb-false g h e))
+
+  -- a call other than open that is refused changes neither world
+  so-both : (c : Call) → notOpen c ≡ true → names f c ≡ false → (outcome v c ≡ Done → outcome u c ≡ Done → Same f (after v c) (after u c))
+      → Same f (after v c) (after u c)
+  so-both c o n good =
+      ⊎-elim (λ e. good e (sym (same-outcome c n) ∙ e))
+      (λ r. rw (refused-untouched v c (r .0) (r .1), refused-untouched u c (r .0) (sym (same-outcome c n) ∙ r .1), o) s)
+      (done-or-refused (outcome v c))
+
+  same-after : (c : Call) → changes c && names f c ≡ false → Same f (after v c) (after u c)
+  unfolding after
+  same-after (opens S) n =
+      record { alike = record { table = a .table; symbols = refl; rows = refl; premises = λ g apart. refl }; fit = refl }
+  same-after (adds lent bytes) n =
+      so-both (adds lent bytes) refl refl
+      (λ e d.
+      same-added
+      (subst (λ (S : ℕ). Added v (after v (adds lent bytes)) lent (formulaIn S bytes ∷ []) (ruled (front v lent) (v .board) bytes .added)) (a .symbols)
+      (rule-added v lent bytes e))
+      (rule-added u lent bytes d))
+  same-after (holds lent g l) n =
+      so-both (holds lent g l) refl n (λ e d. same-flagged (eqb-false g f n) (hold-flagged v lent g l e) (hold-flagged u lent g l d))
+  same-after (withdraws lent g l) n =
+      so-both (withdraws lent g l) refl n (λ e d. same-flagged (eqb-false g f n) (withdraw-flagged v lent g l e) (withdraw-flagged u lent g l d))
+  same-after (asks lent g l) n = s
+  same-after (explains lent g l) n = s
+  same-after (settles lent g labels ranks supports) n = s
+  same-after (grounds lent g l marks) n = s
+  same-after (blames lent g marks) n = s
+  same-after (reads lent text) n = so-both (reads lent text) refl refl (λ e d. same-added (text-added v lent text e) (text-added u lent text d))
+  same-after (writes lent out) n = s
+  same-after (readsText lent text out) n = s
+  same-after (addsText lent text) n =
+      so-both (addsText lent text) refl refl (λ e d. same-added (rule-text-added v lent text e) (rule-text-added u lent text d))
+  same-after (writesText lent bytes out) n = s
+
+  -- ---- and a hold or withdraw for the furnace, in one of them alone, changes none of it
+
+  flagged-apart : {u' : World} {g : ℕ} {l : ℤ} {flag : Bool} → g ≡ f → Flagged u u' g l flag → Same f v u'
+  unfolding withHeld
+  flagged-apart {g = g} {l = l} {flag = flag} own y =
+      rw (y .next-is)
+      (record {
+        alike =
+            record {
+              table = a .table;
+              symbols = a .symbols;
+              rows = a .rows;
+              premises =
+                  λ h apart.
+                  a .premises h apart ∙ sym (held-other (u .board) g (set (heldBy (u .board) g) (placeOf l) flag) h (λ k. apart (sym k ∙ own)));
+            };
+        fit = s .fit ∙ sym (flag-fits (u .board) g l flag (y .range));
+      })
+
+  after-apart : (c : Call) → changes c && names f c ≡ true → Same f v (after u c)
+  after-apart (opens S) n = clash n refl
+  after-apart (adds lent bytes) n = clash n refl
+  after-apart (holds lent g l) n =
+      so-after (Same f v) u (holds lent g l) refl s (λ e. flagged-apart (eqb-true g f n) (hold-flagged u lent g l e))
+  after-apart (withdraws lent g l) n =
+      so-after (Same f v) u (withdraws lent g l) refl s (λ e. flagged-apart (eqb-true g f n) (withdraw-flagged u lent g l e))
+  after-apart (asks lent g l) n = clash n refl
+  after-apart (explains lent g l) n = clash n refl
+  after-apart (settles lent g labels ranks supports) n = clash n refl
+  after-apart (grounds lent g l marks) n = clash n refl
+  after-apart (blames lent g marks) n = clash n refl
+  after-apart (reads lent text) n = clash n refl
+  after-apart (writes lent out) n = clash n refl
+  after-apart (readsText lent text out) n = clash n refl
+  after-apart (addsText lent text) n = clash n refl
+  after-apart (writesText lent bytes out) n = clash n refl
+
+-- ---- any calls
+
+runs-apart : (f : ℕ) {v u : World} → Same f v u → (calls : List Call) → Same f (run v (without f calls)) (run u calls)
+runs-apart f s [] = s
+runs-apart f {v} {u} s (c ∷ calls) =
+    go (changes c && names f c) refl (λ e. runs-apart f (after-apart s c e) calls) (λ e. runs-apart f (same-after s c e) calls)
+  where
+    go : (t : Bool) → changes c && names f c ≡ t
+        → (changes c && names f c ≡ true → Same f (run v (without f calls)) (run (after u c) calls))
+        → (changes c && names f c ≡ false → Same f (run (after v c) (without f calls)) (run (after u c) calls))
+        → Same f (run v (without f (c ∷ calls))) (run (after u c) calls)
+    go true e left-out made = rw e (left-out e)
+    go false e left-out made = rw e (made e)
+
+itself : (f : ℕ) (w : World) → Same f w w
+itself f w = record { alike = record { table = refl; symbols = refl; rows = refl; premises = λ g apart. refl }; fit = refl }
+
+pub furnaces-apart : FurnacesApart
+furnaces-apart w f calls c n =
+    let s = runs-apart f (itself f w) calls in
+    (same-answer s c n, same-after s c (ap (λ t. changes c && t) n ∙ and-false (changes c)) .alike)

@@ -1,0 +1,46 @@
+/* The calls, rows and marks of trials outside the random sequences. */
+#include "tries.h"
+
+#include <stdio.h>
+#include <string.h>
+
+#include "cover.h"
+
+/* A call for a furnace, with the whole table and ample tables to write. */
+Step try_step(Kind kind, unsigned furnace, int value) {
+    size_t first = kind == SETTLE ? MOST_SYMBOLS : PLACES;
+    return (Step){.kind = kind, .furnace = furnace, .value = value, .numbers = TABLE_LENDABLE, .lent = {first, PLACES, PLACES}};
+}
+
+/* Plays a step and counts it; false where the sides differ. */
+bool try_counted(Play *play, const Step *step) {
+    if (!play_step(play, step)) return false;
+    cover_step(play, step);
+    return true;
+}
+
+/* Makes such a call, and counts it nowhere; false where the sides differ or the refusal is another. */
+bool try_call(Play *play, Kind kind, unsigned furnace, int value, unsigned refusal) {
+    Step step = try_step(kind, furnace, value);
+    return play_step(play, &step) && play->last.refusal == refusal;
+}
+
+/* The caller adds a row of his own. */
+void try_row(Play *play, const int16_t row[WIDTH]) {
+    Step step = {.kind = APPEND_ROW};
+    memcpy(step.row, row, sizeof step.row);
+    play_step(play, &step);
+}
+
+/* True if the last call was done and marked these premises, so many at most, and no others. */
+bool try_marked(const Play *play, const int *premises, unsigned most) {
+    uint8_t marks[PLACES] = {0};
+    for (unsigned i = 0; i < most && premises[i] != 0; i++) marks[place_of(premises[i])] = 1;
+    return play->last.refusal == 0 && memcmp(play->ours.marks + GUARD, marks, 2 * play->board.symbols) == 0;
+}
+
+/* Says which board went wrong, for which furnace or at which of its calls, and how; false, so that the caller can return it. */
+bool try_wrong(const Play *play, const char *words, const char *of, unsigned number) {
+    printf("second: not as the documents say: %s, %s %u; %s\n", words, of, number, play->difference[0] != 0 ? play->difference : "by the model");
+    return false;
+}
