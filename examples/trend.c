@@ -127,7 +127,7 @@ words clock_at(int minute) {
     return line;
 }
 
-/* A refusal's number in a word or two. */
+/* A refusal's number in a word or two. 14 has none: it stays unused. */
 static const char *refusal_word(uint8_t refusal) {
     static const char *const known[] = {
         [TUP_DONE] = "done",
@@ -144,11 +144,11 @@ static const char *refusal_word(uint8_t refusal) {
         [TUP_NOT_HELD] = "not held",
         [TUP_NOTHING_TO_SHOW] = "nothing to show",
         [TUP_TABLE_TOO_SHORT] = "table too short",
-        [TUP_RANK_TOO_HIGH] = "rank too high",
         [TUP_BAD_TEXT] = "no formula text",
         [TUP_BAD_FURNACE] = "no such furnace",
     };
-    return refusal < sizeof known / sizeof known[0] ? known[refusal] : "unknown refusal";
+    bool is_known = refusal < sizeof known / sizeof known[0] && known[refusal];
+    return is_known ? known[refusal] : "unknown refusal";
 }
 
 /* Stops at a refusal that only a mistake in this program can bring about. */

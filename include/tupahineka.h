@@ -1,6 +1,6 @@
 /* Tupahineka: a proved truth-maintenance board behind a trend screen. The nine calls of document 01 for C and C++, with the places of
  * document 02's first ticket, the two calls for DIMACS text of its second, blame as its fourth has it, the three calls for formulae in plain text
- * of its fifth, and the two furnaces of its sixth.
+ * of its fifth, the two furnaces of its sixth, and without refusal 14, which its seventh took out.
  *
  * Two furnaces run the same rules: a board has one S and one table of rows, and for each furnace a set of premises of its own. A call that changes
  * premises, or answers by them, names its furnace, 1 or 2, right after the table and its count. What is held and withdrawn for one furnace changes
@@ -40,7 +40,7 @@ enum {
 /* No place in a formula or a text: the largest size_t, which the place of a byte never is. */
 #define TUP_NO_PLACE ((size_t)-1)
 
-/* Numbers of the refusals; 0 is a call that is done. */
+/* Numbers of the refusals; 0 is a call that is done. 14, a rank above 2S, was taken out, since no rank can exceed 2S: the number stays unused. */
 enum {
     TUP_DONE = 0,
     TUP_BAD_BOARD = 1,        /* S outside 1 to 200, rows in use exceed rows lent, a row in use not sound, a premise of either furnace beyond S */
@@ -56,7 +56,6 @@ enum {
     TUP_NOT_HELD = 11,
     TUP_NOTHING_TO_SHOW = 12, /* explain: not derived, or held; ground: not derived; blame: no conflict */
     TUP_TABLE_TOO_SHORT = 13, /* a table to be written is shorter than stated */
-    TUP_RANK_TOO_HIGH = 14,   /* never given: proved */
     TUP_BAD_TEXT = 15,        /* DIMACS text that breaks the form, has not the header's number of clauses, or a literal beyond its variables;
                                * formula text that breaks its form, or opens a seventeenth bracket */
     TUP_BAD_FURNACE = 16      /* a furnace number other than 1 or 2 */
@@ -169,24 +168,25 @@ tup_change tup_hold(tup_board board, const int16_t *table, size_t numbers, uint8
 /* Takes a literal out of the furnace's premises. Refused: 1, 16, 2, 11. */
 tup_change tup_withdraw(tup_board board, const int16_t *table, size_t numbers, uint8_t furnace, int16_t literal);
 
-/* Writes S labels (0 neither literal derived, 1 only +s, 2 only -s, 3 both), 2S ranks and 2S supports. Refused: 1, 16, 13, 14. */
+/* Writes S labels (0 neither literal derived, 1 only +s, 2 only -s, 3 both), 2S ranks and 2S supports. Each rank written is at most 2S, or TUP_NONE
+ * for a literal that is not derived. Refused: 1, 16, 13. */
 uint8_t tup_settle(tup_board board, const int16_t *table, size_t numbers, uint8_t furnace, uint8_t *labels, size_t label_count,
                    uint16_t *ranks, size_t rank_count, uint16_t *supports, size_t support_count);
 
-/* How a literal stands. Refused: 1, 16, 2, 14. */
+/* How a literal stands. Refused: 1, 16, 2. */
 tup_answer tup_ask(tup_board board, const int16_t *table, size_t numbers, uint8_t furnace, int16_t literal);
 
-/* Why a derived literal that is not held stands: its rank and its supporting row. Refused: 1, 16, 2, 14, 12. */
+/* Why a derived literal that is not held stands: its rank, from 1 to 2S, and its supporting row. Refused: 1, 16, 2, 12. */
 tup_reason tup_explain(tup_board board, const int16_t *table, size_t numbers, uint8_t furnace, int16_t literal);
 
-/* Writes 2S bytes, 1 for each premise that the literal stands on, else 0. Refused: 1, 16, 2, 13, 14, 12. */
+/* Writes 2S bytes, 1 for each premise that the literal stands on, else 0. Refused: 1, 16, 2, 13, 12. */
 uint8_t tup_ground(tup_board board, const int16_t *table, size_t numbers, uint8_t furnace, int16_t literal,
                    uint8_t *marks, size_t mark_count);
 
 /* Writes 2S bytes, 1 for each premise that a conflict stands on, else 0: those reached by +s or -s, where of all symbols with label 3 s is the one
  * whose larger rank of its two literals is smallest, and of equals the lowest. The premises marked are in conflict by themselves: whatever else is
  * held, withdrawn or added, the furnace stays in conflict until one of them is withdrawn for it or the board is opened anew. Where nothing is
- * marked, the rules alone are in conflict. Refused: 1, 16, 13, 14, 12. */
+ * marked, the rules alone are in conflict. Refused: 1, 16, 13, 12. */
 uint8_t tup_blame(tup_board board, const int16_t *table, size_t numbers, uint8_t furnace, uint8_t *marks, size_t mark_count);
 
 #ifdef __cplusplus

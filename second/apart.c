@@ -37,16 +37,18 @@ static bool same_boards(Play *play, const Runs *runs) {
     return alike;
 }
 
-/* Makes a call in both runs, or in the first one only if it is struck out; false where they differ. */
+/* Makes a call in both runs, or in the first one only if it is struck out; false where they differ, or one of them tells what no call may tell. */
 static bool call_agrees(Play *play, Runs *runs, const Step *step) {
     bool telling = premises_differ(runs);
     lend(play, step);
     Outcome whole = library_call(step, &runs->whole, &play->theirs);
+    if (!answer_is_bounded(play, step, &whole, runs->whole.symbols, &play->theirs)) return false;
     if (is_struck(runs, step)) {
         runs->struck += whole.refusal == 0;
         return same_boards(play, runs) && same_tables(play, step);
     }
     Outcome without = library_call(step, &runs->without, &play->ours);
+    if (!answer_is_bounded(play, step, &without, runs->without.symbols, &play->ours)) return false;
     if (names_furnace(step->kind) && step->furnace == runs->furnace) return true;
     if (telling) cover_compared(runs->furnace, step->kind);
     return same_outcome(play, &without, &whole) && same_boards(play, runs) && same_tables(play, step);
@@ -68,7 +70,7 @@ static bool is_apart(Play *play, const Step *steps, size_t count, uint64_t seed,
     play_start(play, seed, true);
     for (size_t i = 0; i < count; i++) {
         if (step_agrees(play, &runs, &steps[i])) continue;
-        printf("second: furnace %u's premises change what others are told, first by this step:\n", furnace);
+        printf("second: with and without furnace %u's premises, wrong first at this step:\n", furnace);
         print_step(&steps[i], i + 1);
         printf("  %s (library: with them, model: the library without them)\n", play->difference);
         return false;

@@ -98,19 +98,20 @@ bool same_everywhere(Play *play, const Step *step, const Outcome *ours, const Ou
     return same_outcome(play, ours, theirs) && same_board(play, step) && same_tables(play, step);
 }
 
-/* The round that completes the furnace's first conflict, by the library's settle: the smallest rank up to which some symbol has both its literals. */
-static unsigned first_round(const Play *play, const Step *step, tup_board board) {
+/* Finds the round that completes the furnace's first conflict, by the library's settle: the smallest rank up to which some symbol has both its
+ * literals; NONE where there is no such round, or settle is refused. False where settle tells what no call may tell. */
+static bool find_first_round(Play *play, const Step *step, tup_board board, unsigned *first) {
     uint8_t labels[MOST_SYMBOLS];
     uint16_t ranks[PLACES], supports[PLACES];
-    unsigned first = NONE;
-    if (tup_settle(board, play->theirs.table + GUARD, step->numbers, (uint8_t)step->furnace, labels, MOST_SYMBOLS, ranks, PLACES, supports,
-                   PLACES) != 0)
-        return NONE;
+    unsigned refusal = tup_settle(board, play->theirs.table + GUARD, step->numbers, (uint8_t)step->furnace, labels, MOST_SYMBOLS, ranks, PLACES,
+                                  supports, PLACES);
+    *first = NONE;
+    if (refusal != 0) return number_is_known(play, refusal);
     for (unsigned s = 0; s < board.symbols; s++) {
         unsigned both = ranks[2 * s] > ranks[2 * s + 1] ? ranks[2 * s] : ranks[2 * s + 1];
-        if (both < first) first = both;
+        if (both < *first) *first = both;
     }
-    return first;
+    return ranks_are_bounded(play, ranks, board.symbols);
 }
 
 /* What follows of Ticket 4 after a good blame: its marks are premises of the furnace, and with only these held for it the same rows are in conflict,
@@ -126,12 +127,13 @@ bool marks_are_enough(Play *play, const Step *step) {
         alone.held[step->furnace - 1][p] = marks[p];
     }
     tup_answer answer = tup_ask(alone, play->theirs.table + GUARD, step->numbers, (uint8_t)step->furnace, (int16_t)literal_at(asked));
-    unsigned round = first_round(play, step, *board);
-    return same(play, "blame, refusal of ask with only the marks held", asked, answer.refusal, 0) &&
+    unsigned round, round_alone;
+    return number_is_known(play, answer.refusal) && find_first_round(play, step, *board, &round) &&
+           find_first_round(play, step, alone, &round_alone) &&
+           same(play, "blame, refusal of ask with only the marks held", asked, answer.refusal, 0) &&
            same(play, "blame, standing with only the marks held", asked, answer.standing, IN_CONFLICT) &&
            same(play, "blame, a conflict by settle", NONE, round != NONE, true) &&
-           same(play, "blame, round of the conflict (library: only the marks held, model: all premises)", NONE,
-                first_round(play, step, alone), round);
+           same(play, "blame, round of the conflict (library: only the marks held, model: all premises)", NONE, round_alone, round);
 }
 
 /* Demand 3 after a good settle, from the furnace's premises: both ways find a conflict or neither does, and without one every label is the same. */

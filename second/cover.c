@@ -13,7 +13,7 @@ enum {
     BOTH_SIGNS_HELD, BLAME_MORE, RULE_ALWAYS_TRUE, RULE_FILLS_TABLE, RULE_FILLS_2048, RULE_OF_7, RULE_OF_8, RULE_OF_128_ROWS, RULE_OF_200_ROWS,
     RULE_DEPTH_16, RULE_LONG, NOTHING_LENT, BEYOND_2048, LOWEST_ASKED, ODD_BYTES_DONE, ODD_BYTES_BACK, ODD_LENGTH, LENGTH_CHANGED, FEWER_SYMBOLS,
     FEWER_ROWS, UNUSED_NUMBER, SYMBOLS_1, SYMBOLS_200, FULL_BOARD, TWO_FAULTS, DEMAND_3_CONFLICT, DEMAND_3_LABELS, REFUSED_6_NOT_7,
-    REFUSED_6_NOT_8, REFUSED_7_NOT_9, REFUSED_8_NOT_9, FULL_AND_MORE_LENT, PAST_2048_LENT, RANK_150, RANK_ABOVE_S,
+    REFUSED_6_NOT_8, REFUSED_7_NOT_9, REFUSED_8_NOT_9, FULL_AND_MORE_LENT, PAST_2048_LENT, RANK_150, RANK_ABOVE_S, RANK_2S_1, RANK_2S_1_AT_RANDOM,
     CASES
 };
 
@@ -28,7 +28,8 @@ static const char *const case_words[CASES] = {
     "length lent changed between calls", "done with S lowered", "done with rows in use lowered", "done with noise beyond the rows in use",
     "done with S = 1", "done with S = 200", "settled 2,048 rows", "two faults or more at once", "demand 3 in conflict", "demand 3, a label not 0",
     "6 where 7 is due as well", "6 where 8 is due as well", "7 with no row free", "8 with no row free", "9 at 2,048 rows with more lent",
-    "rows in use past 2,048 with more lent", "boards with a rank of 150 or more", "boards with a rank above S"};
+    "rows in use past 2,048 with more lent", "boards with a rank of 150 or more", "boards with a rank above S", "boards with a rank of 2S - 1",
+    "boards with a rank of 2S - 1, S 4 to 199"};
 
 static const char *const damage_words[BAD_BOARDS] = {
     "", "S is 0", "S is 201", "S is 65535", "S above 201", "rows in use past lent", "table lent too short", "premise beyond S",
@@ -57,7 +58,7 @@ static const unsigned possible[CALLS][NUMBERS] = {
 static unsigned long calls[CALLS], refusals[CALLS][NUMBERS], damaged[BAD_BOARDS][CALLS], cases[CASES];
 static unsigned long broken[BREAKS][SPOTS];
 static unsigned long labels_seen[4], demand_3, settled, rules_done, rows_added, acts;
-static unsigned highest_rank, most_rows;
+static unsigned highest_rank, highest_symbols, most_rows; /* the highest rank, and the S of its board */
 static size_t length_before;
 
 /* Counts the marks that are set. */
@@ -75,12 +76,26 @@ static unsigned depth_of(const uint8_t *bytes, size_t *at) {
     return 1 + (first > second ? first : second);
 }
 
+/* Counts how high the ranks go that a good settle wrote. With up to 3 symbols a few rows reach 2S - 1 by chance, with 200 a chain made by hand does;
+ * in between it has to be random chains. */
+static void cover_ranks(const Play *play) {
+    unsigned symbols = play->board.symbols, highest = 0;
+    for (unsigned p = 0; p < 2 * symbols; p++) {
+        uint16_t rank = play->ours.ranks[GUARD + p];
+        if (rank != NONE && rank > highest) highest = rank;
+    }
+    if (highest > highest_rank) highest_rank = highest, highest_symbols = symbols;
+    cases[RANK_150] += highest >= 150;
+    cases[RANK_ABOVE_S] += highest > symbols;
+    cases[RANK_2S_1] += highest + 1 == 2 * symbols;
+    cases[RANK_2S_1_AT_RANDOM] += highest + 1 == 2 * symbols && symbols >= 4 && symbols < MOST_SYMBOLS;
+}
+
 /* Counts what a good settle wrote. */
 static void cover_settle(const Play *play, const Step *step) {
     const Board *board = &play->board;
     const bool *premises = premises_of(board, step->furnace);
     bool conflict = false, both = false, any = false;
-    unsigned highest = 0;
     for (unsigned s = 0; s < board->symbols; s++) {
         uint8_t label = play->ours.labels[GUARD + s];
         labels_seen[label]++;
@@ -88,13 +103,7 @@ static void cover_settle(const Play *play, const Step *step) {
         any |= label != 0;
         both |= premises[2 * s] && premises[2 * s + 1];
     }
-    for (unsigned p = 0; p < 2 * board->symbols; p++) {
-        uint16_t rank = play->ours.ranks[GUARD + p];
-        if (rank != NONE && rank > highest) highest = rank;
-    }
-    if (highest > highest_rank) highest_rank = highest;
-    cases[RANK_150] += highest >= 150;
-    cases[RANK_ABOVE_S] += highest > board->symbols;
+    cover_ranks(play);
     settled++;
     cases[CONFLICT_SETTLED] += conflict;
     cases[BOTH_SIGNS_HELD] += both;
@@ -265,16 +274,24 @@ bool can_refuse(unsigned kind, unsigned number) {
     return false;
 }
 
-/* Prints the table of calls and refusals; a dot where a number cannot come up. */
+/* True if some call can give the refusal. */
+static bool is_given(unsigned number) {
+    bool given = false;
+    for (unsigned k = 0; k < CALLS; k++) given |= can_refuse(k, number);
+    return given;
+}
+
+/* Prints the table of calls and refusals; a dot where a number cannot come up, and nothing for one that no call gives. */
 static void print_refusals(void) {
     printf("%-9s%9s%9s", "call", "made", "done");
-    for (unsigned n = 1; n < NUMBERS; n++) printf("%7u", n);
+    for (unsigned n = 1; n < NUMBERS; n++)
+        if (is_given(n)) printf("%7u", n);
     printf("\n");
     for (unsigned k = 0; k < CALLS; k++) {
         printf("%-9s%9lu%9lu", kind_word((Kind)k), calls[k], refusals[k][0]);
         for (unsigned n = 1; n < NUMBERS; n++) {
             if (can_refuse(k, n)) printf("%7lu", refusals[k][n]);
-            else printf("%7s", ".");
+            else if (is_given(n)) printf("%7s", ".");
         }
         printf("\n");
     }
@@ -322,15 +339,15 @@ void cover_print(void) {
     print_breaks();
     printf("\n");
     for (unsigned c = 0; c < CASES; c++)
-        printf("%-42s%9lu%s", case_words[c], cases[c], c % 2 == 0 ? "    " : "\n");
-    printf("%s", CASES % 2 == 0 ? "" : "\n");
+        printf("%-42s%9lu%s", case_words[c], cases[c], c % 2 == 0 && c + 1 < CASES ? "    " : "\n");
     cover_rows_print();
     cover_blames_print();
     cover_furnaces_print();
     cover_texts_print();
     cover_spelt_print();
     printf("labels 0, 1, 2, 3: %lu %lu %lu %lu\n", labels_seen[0], labels_seen[1], labels_seen[2], labels_seen[3]);
-    printf("highest rank: %u; boards settled: %lu, of them in conflict: %lu\n", highest_rank, settled, cases[CONFLICT_SETTLED]);
+    printf("highest rank: %u, with S %u; boards settled: %lu, of them in conflict: %lu\n", highest_rank, highest_symbols, settled,
+           cases[CONFLICT_SETTLED]);
     printf("rules accepted: %lu, rows they added: %lu, most of one rule: %u; the caller's own acts: %lu\n", rules_done, rows_added, most_rows, acts);
     printf("demand 3 compared: %lu boards, of them in conflict: %lu\n", demand_3, cases[DEMAND_3_CONFLICT]);
     cover_furnaces_close();

@@ -338,24 +338,35 @@ static void add_row(Draft *draft, unsigned symbols, unsigned most) {
     }
 }
 
-/* Adds a link of a chain as the caller's own row; a turn leads back along the opposites, to ranks up to 2S - 2. */
+/* Adds a link of a chain as the caller's own row; a turn leads back along the opposites. */
 static void add_link(Draft *draft, unsigned from, bool turn) {
     Step *step = add_step(draft, APPEND_ROW);
     step->row[0] = (int16_t)-(int)from;
     step->row[1] = (int16_t)(turn ? -(int)(from + 1) : (int)(from + 1));
 }
 
-/* Sets up the style's rules or rows. */
-static void add_setup(Draft *draft, const Play *play) {
+/* Turns a chain: from a premise, to ranks up to 2S - 2. More than half of the time a row of one literal starts it instead, to ranks up to 2S - 1;
+ * then it is settled, and its last literal explained, before anything is held. Says whether a premise is wanted. */
+static bool add_turn(Draft *draft, const Play *play) {
+    add_link(draft, draft->symbols - 1, true);
+    if (!random_chance(&draft->random, 60)) return true;
+    add_step(draft, APPEND_ROW)->row[0] = 1;
+    draw_lengths(draft, play, add_step(draft, SETTLE));
+    add_step(draft, EXPLAIN)->value = -1;
+    return false;
+}
+
+/* Sets up the style's rules or rows; says whether premises are wanted. */
+static bool add_setup(Draft *draft, const Play *play) {
     Random *random = &draft->random;
     unsigned symbols = draft->symbols, most = random_chance(random, 60) ? 4 : 8;
     if (draft->style == TEXTS) {
         add_reading(draft, play, draft->setup);
-        return;
+        return true;
     }
     if (draft->style == KNOTS) {
         add_knot(draft, draft->setup);
-        return;
+        return false;
     }
     bool links = random_chance(random, 50), falling = random_chance(random, 50);
     for (unsigned i = 0; i < draft->setup; i++) {
@@ -372,7 +383,8 @@ static void add_setup(Draft *draft, const Play *play) {
         default: add_row(draft, symbols, most);
         }
     }
-    if (draft->style == CHAIN && symbols > 1 && random_chance(random, 40)) add_link(draft, symbols - 1, true);
+    bool turns = draft->style == CHAIN && symbols > 1 && random_chance(random, 50);
+    return !turns || add_turn(draft, play);
 }
 
 /* Holds a premise or two after setting up, so that there is something to derive. */
@@ -389,8 +401,7 @@ bool draft_next(Draft *draft, const Play *play) {
         Step *step = add_step(draft, OPEN);
         step->value = random_chance(&draft->random, 97) ? (int)draft->symbols : draw_opening(draft);
     } else if (draft->setup > 0) {
-        add_setup(draft, play);
-        if (draft->style != KNOTS) add_premises(draft);
+        if (add_setup(draft, play)) add_premises(draft);
         draft->setup = 0;
     } else if (draft->calls > 0 && draft->count + 40 < MOST_STEPS) {
         add_call(draft, play);

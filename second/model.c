@@ -1,5 +1,5 @@
-/* The nine calls by document 01, a rule's places, blame's symbol and the two furnaces by document 02's Tickets 1, 4 and 6: what each tests, in its
- * order, what it returns and what it writes. */
+/* The nine calls by document 01, a rule's places, blame's symbol and the two furnaces by document 02's Tickets 1, 4 and 6, and no limit to the rounds
+ * by Ticket 7: what each tests, in its order, what it returns and what it writes. */
 #include "model.h"
 
 #include <string.h>

@@ -1,4 +1,4 @@
-/* Document 01 with Tickets 1, 2, 4, 5 and 6 of document 02 by brute force, for the independent second program.
+/* Document 01 with Tickets 1, 2 and 4 to 7 of document 02 by brute force, for the independent second program.
  *
  * Written from these documents and include/tupahineka.h alone. No other code of the project was read for it: what this
  * program and the library share is the documents and nothing else. Slow and by definition, wherever a definition is there. */

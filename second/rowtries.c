@@ -1,6 +1,6 @@
-/* Boards on which rows are easily found too late, too early, once too often or not at all, and boards on which blame easily takes another symbol. The
- * ranks and supports of each, and the premises to blame, were worked out by hand from documents 01 and 02; they are held against the model and the
- * library alike, for each furnace while the other one holds the opposites. */
+/* Boards on which rows are easily found too late, too early, once too often or not at all, boards on which blame easily takes another symbol, and
+ * chains to the highest ranks. The ranks and supports of each, and the premises to blame, were worked out by hand from documents 01 and 02; they are
+ * held against the model and the library alike, for each furnace while the other one holds the opposites. */
 #include "rowtries.h"
 
 #include "tries.h"
@@ -144,22 +144,49 @@ static bool board_agrees(Play *play, unsigned furnace, const Try *try) {
     return set_up(play, furnace, try) && settles(play, furnace, try) && (try->times > 1 || follows(play, furnace, try)) && blames(play, furnace, try);
 }
 
-/* A chain over all symbols in a full table, each link many times over, and a last row that leads back along the opposites: s has rank s - 1 and -s
- * rank 399 - s, both by the first row of their link, but -200 by the last row. */
-static bool full_chain_agrees(Play *play, unsigned furnace) {
-    const unsigned links = MOST_SYMBOLS - 1, turn = MOST_ROWS - 1;
+/* Makes a call on a chain below, and counts it only with 200 symbols, so that with fewer its ranks still have to come up at random. */
+static bool make_on_chain(Play *play, Kind kind, unsigned furnace, int value) {
+    return play->board.symbols == MOST_SYMBOLS ? make(play, kind, furnace, value, 0) : try_call(play, kind, furnace, value, 0);
+}
+
+/* True if settle gives the ranks and supports of a chain below that were worked out. */
+static bool chain_settles(Play *play, unsigned furnace, unsigned front) {
     const uint16_t *ranks = play->ours.ranks + GUARD, *supports = play->ours.supports + GUARD;
-    play_start(play, 8, true);
-    bool good = make(play, OPEN, 0, MOST_SYMBOLS, 0);
-    for (unsigned r = 0; r < turn; r++) append_link(play, r % links + 1);
-    try_row(play, (int16_t[WIDTH]){-199, -200});
-    good = good && hold(play, furnace, 1) && make(play, SETTLE, furnace, 0, 0);
-    for (unsigned s = 1; s <= MOST_SYMBOLS && good; s++) {
+    unsigned symbols = play->board.symbols, turn = play->board.rows - 1;
+    bool good = make_on_chain(play, SETTLE, furnace, 0);
+    for (unsigned s = 1; s <= symbols && good; s++) {
         unsigned plus = place_of((int)s), minus = place_of(-(int)s);
-        good = ranks[plus] == s - 1 && supports[plus] == (s == 1 ? NONE : s - 2) && ranks[minus] == 399 - s &&
-               supports[minus] == (s == MOST_SYMBOLS ? turn : s - 1);
+        good = ranks[plus] == front + s - 1 && supports[plus] == (front + s == 1 ? NONE : front + s - 2) &&
+               ranks[minus] == front + 2 * symbols - 1 - s && supports[minus] == (s == symbols ? turn : front + s - 1);
     }
     return good;
+}
+
+/* A chain over all S symbols, each link many times over where there are rows left, and a last row that leads back along the opposites. It starts from
+ * the premise 1, or with a row in front from that row of 1 alone. From the premise s has rank s - 1 and -s rank 2S - 1 - s, both by the first row of
+ * their link, but -S by the last row. With a row in front, which gives 1, these ranks and the numbers of the links' rows are one more each, so that
+ * -1 has rank 2S - 1. S is in conflict first, and the premise is to blame, or nothing. */
+static bool chain_agrees(Play *play, unsigned furnace, unsigned front, unsigned symbols, unsigned rows) {
+    const unsigned links = symbols - 1;
+    play_start(play, 8, true);
+    bool good = make(play, OPEN, 0, (int)symbols, 0);
+    if (front == 1) try_row(play, (int16_t[WIDTH]){1});
+    for (unsigned r = front; r < rows - 1; r++) append_link(play, (r - front) % links + 1);
+    try_row(play, (int16_t[WIDTH]){(int16_t)-(int)links, (int16_t)-(int)symbols});
+    good = good && make_on_chain(play, HOLD, 3 - furnace, -1) && (front == 1 || make_on_chain(play, HOLD, furnace, 1));
+    return good && chain_settles(play, furnace, front) && make_on_chain(play, EXPLAIN, furnace, -1) && play->last.rank == front + 2 * symbols - 2 &&
+           play->last.row == front && make_on_chain(play, BLAME, furnace, 0) && try_marked(play, (int[]){1}, 1 - front);
+}
+
+/* Both chains of 200 symbols in a full table, the one with a row in front in just the rows that it needs too; and such ones of fewer symbols, every
+ * second S for a furnace, so that the two of them have every S. */
+static bool chains_agree(Play *play, unsigned furnace) {
+    bool good = chain_agrees(play, furnace, 0, MOST_SYMBOLS, MOST_ROWS) && chain_agrees(play, furnace, 1, MOST_SYMBOLS, MOST_ROWS) &&
+                chain_agrees(play, furnace, 1, MOST_SYMBOLS, MOST_SYMBOLS + 1);
+    if (!good) return try_wrong(play, "a chain over 200 symbols and back", "furnace", furnace);
+    for (unsigned s = 1 + furnace; s < MOST_SYMBOLS; s += FURNACES)
+        if (!chain_agrees(play, furnace, 1, s, s + 1)) return try_wrong(play, "a chain from a row over all symbols and back", "S", s);
+    return true;
 }
 
 /* A chain from 2 on and back: s has rank s - 2 and -s rank 398 - s, so that 200 is in conflict first, in round 198. 1 is held, and -1 has rank 256 by
@@ -182,7 +209,7 @@ bool row_tries_agree(Play *play) {
     for (unsigned f = 1; f <= FURNACES; f++) {
         for (size_t i = 0; i < sizeof tries / sizeof tries[0]; i++)
             if (!board_agrees(play, f, &tries[i])) return try_wrong(play, tries[i].words, "furnace", f);
-        if (!full_chain_agrees(play, f)) return try_wrong(play, "a chain over all symbols and back in a full table", "furnace", f);
+        if (!chains_agree(play, f)) return false;
         if (!high_ranks_agree(play, f)) return try_wrong(play, "a chain and back, ranks of more than a byte", "furnace", f);
     }
     return true;

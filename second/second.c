@@ -1,6 +1,6 @@
 /* The independent second program of Tupahineka: random sequences of calls, the library against the documents by brute force.
  *
- * Written from document 01, Tickets 1, 2, 4, 5 and 6 of document 02, the project's exact readings of Tickets 5 and 6 and include/tupahineka.h alone.
+ * Written from document 01, Tickets 1, 2 and 4 to 7 of document 02, the project's exact readings of Tickets 5 and 6 and include/tupahineka.h alone.
  * No proved code was read for it; of the project's other files only those that build and run it: Makefile, tests/panel.sh and tools/kit.sh.
  *
  *   second SEED COUNT               plays COUNT sequences and compares everything after every call
@@ -20,6 +20,7 @@
 #include "furnacetries.h"
 #include "journal.h"
 #include "rowtries.h"
+#include "smallboards.h"
 #include "spelttrials.h"
 #include "texttrials.h"
 
@@ -98,11 +99,12 @@ static bool spelt_agree(uint64_t seed) {
            spelt_trips_agree(&play, seed) && spelt_rooms_agree(&play, seed) && spelt_places_agree(&play, seed);
 }
 
-/* The boards that the documents name, those worked out by hand, then the texts. */
+/* The boards that the documents name, those worked out by hand, all of few symbols, then the texts. */
 static bool trials_agree(uint64_t seed) {
     in_trials = true;
-    return document_agrees(&play) && furnace_tries_agree(&play) && row_tries_agree(&play) && spellings_agree(&play) &&
-           torn_texts_agree(&play, seed) && long_texts_agree(&play) && rooms_agree(&play, seed) && rules_agree(&play, seed) && spelt_agree(seed);
+    return document_agrees(&play) && furnace_tries_agree(&play) && row_tries_agree(&play) && small_boards_agree(&play) &&
+           spellings_agree(&play) && torn_texts_agree(&play, seed) && long_texts_agree(&play) && rooms_agree(&play, seed) &&
+           rules_agree(&play, seed) && spelt_agree(seed);
 }
 
 /* Plays all sequences of a seed, then what is to be tried besides. */
@@ -112,6 +114,7 @@ static int play_all(uint64_t seed, uint64_t count) {
         if (!sequence_agrees(seed, n)) return 1;
     if (!trials_agree(seed)) return 1;
     cover_print();
+    small_boards_close();
     if (count >= WHOLE_FROM && !cover_is_whole()) return 2;
     printf("second: %llu sequences, %lu calls, all agree\n", (unsigned long long)count, cover_calls());
     return 0;

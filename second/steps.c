@@ -182,6 +182,7 @@ bool play_step(Play *play, const Step *step) {
     play->last = model_call(step, &play->board, &play->ours);
     if (play->with_library) {
         play->library_last = library_call(step, &play->library_board, &play->theirs);
+        if (!answer_is_bounded(play, step, &play->library_last, play->given.symbols, &play->theirs)) return false;
         if (!same_everywhere(play, step, &play->last, &play->library_last)) return false;
         if (step->kind == BLAME && play->last.refusal == 0 && !marks_are_enough(play, step)) return false;
     }

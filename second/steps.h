@@ -93,6 +93,11 @@ bool book_covers(const Play *play);
 /* library.c */
 Outcome library_call(const Step *step, tup_board *board, Tables *tables);
 
+/* bounds.c */
+bool number_is_known(Play *play, unsigned number);
+bool ranks_are_bounded(Play *play, const uint16_t *ranks, unsigned symbols);
+bool answer_is_bounded(Play *play, const Step *step, const Outcome *told, unsigned symbols, const Tables *tables);
+
 /* compare.c */
 bool same(Play *play, const char *what, long place, unsigned theirs, unsigned ours);
 bool same_outcome(Play *play, const Outcome *ours, const Outcome *theirs);

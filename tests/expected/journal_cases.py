@@ -394,6 +394,9 @@ case("eight-symbols", "Eight symbols pass, nine give 7; a refused rule leaves th
 case("chain", "200 symbols, each implied by the one before: ranks up to 199.",
      opens(200), *[rule(("imp", s, s + 1)) for s in range(1, 200)], hold(1), ask(200), why(200), why(2), why(101), hold(-200), ask(1), drop(1), ask(-1), why(-1), why(-199))
 
+case("chain-and-back", "The same chain from a rule of one literal, and 200 denied at its end: the opposites follow back along it, to rank 399.",
+     opens(200), rule(1), *[rule(("imp", s, s + 1)) for s in range(1, 200)], rule(("imp", 199, -200)), why(1), why(200), why(-200), why(-199), why(-1), ask(1))
+
 case("full-table", "A rule that fits the last free row passes; with one row fewer, 9. A rule that adds no row always passes.",
      opens(8), *[rule(fold("same", list(range(1, 9)))) for _ in range(15)],
      *[rule(fold("same", list(range(1, n + 1)))) for n in (7, 6, 5, 4, 3, 2)],

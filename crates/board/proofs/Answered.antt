@@ -1,26 +1,33 @@
 -- What a call answers, and the first of its cases that is given.
 use mathlib.Core.Path.{_≡_, refl}
 use mathlib.Core.Logic.{_≢_}
-use mathlib.Core.Bool.{Bool, true, false, cond}
-use mathlib.Core.List.{List, [], _∷_}
-use Prim.Native.Nat.{ℕ, _<_}
+use mathlib.Core.Bool.{Bool, true, false, cond, not, false≢true}
+use mathlib.Core.List.{List, [], _∷_, map}
+use Prim.Native.Nat.{ℕ, zero, suc, _<_}
 use native.Mathlib.Omega.{arith}
 use lib.IntN.{ℤ}
+use lib.ListN.{getD}
 use Rattle.literals.specs.Refusals.{numberOf}
 use Rattle.literals.specs.declared.refusal.Refusal.{Refusal}
+use Rattle.literals.proofs.Refusals.{number-some}
+use Rattle.formula.specs.Parse.{Parsed, good, bad, wholeOf}
+use Rattle.formula.specs.Answers.{isGood}
+use Rattle.formula.proofs.Faults.{UpTo}
 use Rattle.board.specs.Faults.{Fault, firstFault, ifDone, numberIn}
-use Rattle.formula.specs.Parse.{wholeOf}
-use Rattle.board.specs.Rules.{placeTold, ruleFaults, ruled}
+use Rattle.board.specs.Rules.{whyOf, placeTold, ruleFaults, ruled}
 use Rattle.board.specs.declared.Board.{Board}
 use Rattle.board.specs.declared.Outcome.{Outcome}
 use Rattle.board.specs.declared.Outcome.the-variants.{Done, Refused}
 use Rattle.board.specs.declared.rules.Addition.{Addition}
 
+pub refused-not-done : {X : Type 0} {why : Refusal} → Refused why ≡ Done → X
+refused-not-done e = let z : _≡_ {A = ℕ} 0 1 = cc in absurd (omega arith)
+
 -- an answer made by `ifDone` tells the outcome it was made by, if both its parts do
-pub told-by : {A : Type 0} (tell : A → Outcome) (good : A) (refused : Refusal → A) (o : Outcome) → (o ≡ Done → tell good ≡ o)
-    → ((why : Refusal) → o ≡ Refused why → tell (refused why) ≡ o) → tell (ifDone o good refused) ≡ o
-told-by tell good refused Done g r = g refl
-told-by tell good refused (Refused why) g r = r why refl
+pub told-by : {A : Type 0} (tell : A → Outcome) (done : A) (refused : Refusal → A) (o : Outcome) → (o ≡ Done → tell done ≡ o)
+    → ((why : Refusal) → o ≡ Refused why → tell (refused why) ≡ o) → tell (ifDone o done refused) ≡ o
+told-by tell done refused Done d r = d refl
+told-by tell done refused (Refused why) d r = r why refl
 
 pub rule-told : (table : List ℤ) (b : Board) (bytes : List ℕ) → ruled table b bytes .outcome ≡ firstFault (ruleFaults table b bytes)
 unfolding ruled
@@ -36,6 +43,28 @@ rule-place table b bytes = go (firstFault (ruleFaults table b bytes)) refl
         → ruled table b bytes .place ≡ placeTold (ruled table b bytes .outcome) (wholeOf (b .symbols) bytes)
     go Done e = rw e
     go (Refused why) e = rw e
+
+-- 0 is the number of a call that is done and of no other
+pub done-alone : (o : Outcome) → numberIn o ≡ 0 → o ≡ Done
+done-alone Done e = refl
+done-alone (Refused why) e = let some = number-some why in absurd (omega arith)
+
+-- where a call is done, no fault is given
+pub none-given : (faults : List Fault) → firstFault faults ≡ Done → (i : ℕ) → getD (map (λ f. f .given) faults) i false ≡ false
+none-given [] e i = refl
+none-given (f ∷ faults) e i = go (f .given) refl e i (λ h j. none-given faults h j)
+  where
+    go : (t : Bool) → f .given ≡ t → cond t (Refused (f .refusal)) (firstFault faults) ≡ Done → (i : ℕ)
+        → (firstFault faults ≡ Done → (j : ℕ) → getD (map (λ f. f .given) faults) j false ≡ false)
+        → getD (map (λ f. f .given) (f ∷ faults)) i false ≡ false
+    go true g e i rest = refused-not-done e
+    go false g e zero rest = g
+    go false g e (suc i) rest = rest e i
+
+-- a formula that is not read has a fault of the numbers that it is known to be of
+pub fault-not : (last number : ℕ) (p : Parsed) → UpTo last p → last < number → not (isGood p) ≡ true → numberOf (whyOf p) ≢ number
+fault-not last number (good f used) most more g = absurd (false≢true g)
+fault-not last number (bad why at) most more g = λ e. omega arith
 
 -- of some cases, none that is given has this number: so it is not answered
 abbrev pub Without : ℕ → List Fault → Type 0

@@ -1,13 +1,13 @@
--- What explain shows, by what its numbers say: the supporting row's literals, or the empty part at the table's front.
+-- What explain tells and shows: a rank from 1 to 2S, and the supporting row's literals or, where refused, the empty part at the table's front.
 use mathlib.Core.Path.{_≡_, refl, sym, _∙_}
 use mathlib.Core.Logic.{_≢_, inl, inr, ⊎-elim}
-use mathlib.Core.Bool.{Bool, true, false, cond, not, _||_}
-use mathlib.Core.List.{List, [], _∷_, map}
-use Prim.Native.Nat.{ℕ, zero, suc, _+_, _-_, _*_, _≤_, _<_}
+use mathlib.Core.Bool.{true, false, not, _||_}
+use mathlib.Core.List.{List}
+use Prim.Native.Nat.{ℕ, _+_, _-_, _*_, _≤_, _<_}
 use native.Mathlib.Omega.{arith}
 use lib.IntN.{ℤ}
 use borrow.Author.Tests.{not-false}
-use lib.ListN.{length, getD}
+use lib.ListN.{length}
 use Rattle.meaning.specs.Tests.{none}
 use Rattle.meaning.specs.Literals.{has}
 use Rattle.meaning.proofs.Tests.{clash}
@@ -17,28 +17,17 @@ use Rattle.literals.specs.Literal.{inRange, placeOf}
 use Rattle.literals.specs.Row.{width, numbersAt, decode}
 use Rattle.literals.specs.declared.refusal.Refusal.{Refusal}
 use Rattle.literals.proofs.Decoding.{length-rows}
-use Rattle.board.specs.Faults.{goodBoard, Fault, firstFault}
+use Rattle.board.specs.Faults.{goodBoard, firstFault}
 use Rattle.board.specs.Furnaces.{heldBy}
-use Rattle.board.specs.Ranking.{rowsOn}
-use Rattle.board.specs.Asking.{derivedOn, rankOn, supportOn, explainFaults, reasoned, explained}
+use Rattle.board.specs.Ranking.{rowsOn, derivedOn, rankOn, supportOn}
+use Rattle.board.specs.Asking.{explainFaults, reasoned, explained}
 use Rattle.board.specs.declared.Board.{Board}
 use Rattle.board.specs.declared.Outcome.{Outcome}
 use Rattle.board.specs.declared.Outcome.the-variants.{Done, Refused}
 use Rattle.board.proofs.Goodness.{Good, good-is}
+use Rattle.board.proofs.Answered.{none-given}
 use Rattle.board.proofs.Arguments.{place-fits}
 use Rattle.board.proofs.Ranked.{hidden}
-
--- where a call is done, no fault is given
-pub none-given : (faults : List Fault) → firstFault faults ≡ Done → (i : ℕ) → getD (map (λ f. f .given) faults) i false ≡ false
-none-given [] e i = refl
-none-given (f ∷ faults) e i = go (f .given) refl e i (λ h j. none-given faults h j)
-  where
-    go : (t : Bool) → f .given ≡ t → cond t (Refused (f .refusal)) (firstFault faults) ≡ Done → (i : ℕ)
-        → (firstFault faults ≡ Done → (j : ℕ) → getD (map (λ f. f .given) faults) j false ≡ false)
-        → getD (map (λ f. f .given) (f ∷ faults)) i false ≡ false
-    go true g e i rest = let z : _≡_ {A = ℕ} 0 1 = cc in absurd (omega arith)
-    go false g e zero rest = g
-    go false g e (suc i) rest = rest e i
 
 module _ (table : List ℤ) (b : Board) (furnace : ℕ) (l : ℤ) where
   -- the numbers have the call's outcome
@@ -67,22 +56,35 @@ module _ (table : List ℤ) (b : Board) (furnace : ℕ) (l : ℤ) where
     unfolding explainFaults
     tests =
         let given = none-given (explainFaults table b furnace l) done in
-        (good-is table b (not-false (goodBoard table b) (given 0)), not-false (inRange (b .symbols) l) (given 2), given 4)
+        (good-is table b (not-false (goodBoard table b) (given 0)), not-false (inRange (b .symbols) l) (given 2), given 3)
+
+    low : placeOf l < 2 * b .symbols
+    low = place-fits (b .symbols) l (tests .1)
+
+    small : 2 * b .symbols < none
+    small = omega (arith, tests .0 .sound .symbols)
+
+    -- the literal has a rank, from 1 to 2S
+    rank-range : (1 ≤ rankOn table b furnace (placeOf l)) × (rankOn table b furnace (placeOf l) ≤ 2 * b .symbols)
+    rank-range =
+        let hides = hidden (2 * b .symbols) (rowsOn table b) (heldBy b furnace) small (placeOf l) low in
+        let some : rankOn table b furnace (placeOf l) ≢ 0 = λ e. clash (hides (inl e)) (tests .2) in
+        let is = rankOf-is (2 * b .symbols) (rowsOn table b) (heldBy b furnace) (placeOf l) small in
+        (omega arith, ⊎-elim (λ f. f .0) (λ f. clash (hides (inr (f .0))) (tests .2)) is)
+
+    pub rank-told : (1 ≤ reasoned table b furnace l .rank) × (reasoned table b furnace l .rank ≤ 2 * b .symbols)
+    unfolding reasoned
+    rank-told = rw done rank-range
 
     -- the row is one of those in use
     pub row-used : (reasoned table b furnace l .row < b .rows) × (b .rows ≤ 2048) × (width * b .rows ≤ length table)
     row-used =
         let good = tests .0 in
-        let n = 2 * b .symbols in
-        let rows = rowsOn table b in
         let p = placeOf l in
-        let low : p < n = place-fits (b .symbols) l (tests .1) in
-        let small : n < none = omega (arith, good .sound .symbols) in
-        let some : rankOn table b furnace p ≢ 0 = λ e. clash (hidden n rows (heldBy b furnace) small p low (inl e)) (tests .2) in
-        let below : rankOn table b furnace p < none =
-        ⊎-elim (λ f. omega (arith, f .0)) (λ f. clash (hidden n rows (heldBy b furnace) small p low (inr (f .0))) (tests .2)) (rankOf-is n rows (heldBy b furnace) p small) in
+        let rows = rowsOn table b in
+        let range = rank-range in
         let used = length-rows (b .rows) table in
-        let given = supportOf-is n rows (heldBy b furnace) (rankOn table b furnace p - 1) p low small (omega (arith, used, good .sound .rows)) (omega arith) (omega arith) .0 in
+        let given = supportOf-is (2 * b .symbols) rows (heldBy b furnace) (rankOn table b furnace p - 1) p low small (omega (arith, used, good .sound .rows)) (omega arith) (omega (arith, small)) .0 in
         (omega (arith, row-is, used, given), good .sound .rows, good .sound .room)
 
     pub row-shown : explained table b furnace l

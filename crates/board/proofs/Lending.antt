@@ -9,11 +9,11 @@ use lib.IntN.{ℤ}
 use lib.ListN.{length, take, drop, getD, replicate, length-append, length-replicate}
 use lib.Seq.{length-take-le, take-at, getD-take}
 use Rattle.meaning.specs.Tests.{none, tabulate}
-use Rattle.meaning.specs.Rounds.{rankOf, ranksOf, rankAbove, supportOf, supportsOf}
+use Rattle.meaning.specs.Rounds.{rankOf, ranksOf, supportOf, supportsOf}
 use Rattle.meaning.proofs.Tables.{length-tabulate, tabulate-same}
 use Rattle.literals.specs.Row.{Fit}
 use Rattle.board.specs.Furnaces.{heldBy}
-use Rattle.board.specs.Ranking.{rowsOn, tooHigh}
+use Rattle.board.specs.Ranking.{rowsOn}
 use Rattle.board.specs.declared.Board.{Board}
 use Rattle.board.proofs.Goodness.{Good}
 use Rattle.findings.proofs.RankTables.{length-ranksOf, getD-ranksOf}
@@ -32,9 +32,6 @@ module _ (table : List ℤ) (b : Board) (big : List ℕ) (room : 2 * b .symbols 
     pub filled-is : {filled : List ℕ} → filled ≡ ranksOf (length (take (2 * b .symbols) big)) (rowsOn table b) held
         → filled ≡ ranksOf (2 * b .symbols) (rowsOn table b) (heldBy b furnace)
     filled-is e = e ∙ ap₂ (λ n h. ranksOf n (rowsOn table b) h) part-long same
-
-    pub high-is : {high : Bool} → high ≡ rankAbove (length (take (2 * b .symbols) big)) (rowsOn table b) held → high ≡ tooHigh table b furnace
-    high-is e = e ∙ ap₂ (λ n h. rankAbove n (rowsOn table b) h) part-long same
 
     pub supports-are : (count from : ℕ) {filled : List ℕ}
         → filled ≡ tabulate count (λ i. supportOf (length (take (2 * b .symbols) big)) (rowsOn table b) held (from + i))

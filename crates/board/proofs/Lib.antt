@@ -7,9 +7,9 @@ pub mod Ranked
 pub mod Copying
 pub mod Lending
 pub mod Traced
+pub mod Answered
 pub mod Explaining
 pub mod Settled
 pub mod Adding
-pub mod Answered
 pub mod Grounded
 mod Unique

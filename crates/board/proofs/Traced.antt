@@ -8,19 +8,18 @@ use lib.IntN.{ℤ}
 use lib.ListN.{length, take, drop, replicate, length-replicate}
 use lib.Seq.{length-take-le}
 use Rattle.meaning.specs.Tests.{none}
-use Rattle.meaning.specs.Rounds.{ranksOf, rankAbove}
+use Rattle.meaning.specs.Rounds.{ranksOf}
 use Rattle.literals.specs.Row.{Fit}
 use Rattle.findings.specs.Reach.{reachedAsked}
 use Rattle.findings.proofs.Filling.{part-same}
 use Rattle.board.specs.Furnaces.{heldBy}
-use Rattle.board.specs.Ranking.{rowsOn, tooHigh}
+use Rattle.board.specs.Ranking.{rowsOn}
 use Rattle.board.specs.declared.Board.{Board}
 use Rattle.board.proofs.Goodness.{Good}
-use Rattle.board.proofs.Lending.{rows-fit, high-is, Front, front-of, RanksIn, ranks-room, ranks-long, ranks-back}
+use Rattle.board.proofs.Lending.{rows-fit, Front, front-of, RanksIn, ranks-room, ranks-long, ranks-back}
 
--- what comes back: whether a rank is too high, the ranks, and the premises reached from p
-pub record Traced (table : List ℤ) (b : Board) (furnace : ℕ) (p : ℕ) (high : Bool) (list : List ℕ) (reached : List Bool) : Type 0 where
-  pub is-high : tooHigh table b furnace ≡ high
+-- what comes back: the ranks, and the premises reached from p
+pub record Traced (table : List ℤ) (b : Board) (furnace : ℕ) (p : ℕ) (list : List ℕ) (reached : List Bool) : Type 0 where
   pub ranks : RanksIn table b furnace list
   pub marks : Front (2 * b .symbols) (reachedAsked (2 * b .symbols) (rowsOn table b) (heldBy b furnace) p) reached
 
@@ -51,16 +50,14 @@ module _ (table : List ℤ) (b : Board) (g : Good table b) where
 
   -- ---- as they come back
 
-  pub come-back : (furnace p : ℕ) {held : List Bool} {high : Bool} {ranks : List ℕ} {marks : List Bool} → held ≡ heldBy b furnace
-      → high ≡ rankAbove (length (take (2 * b .symbols) (replicate 400 none))) (rowsOn table b) held
+  pub come-back : (furnace p : ℕ) {held : List Bool} {ranks : List ℕ} {marks : List Bool} → held ≡ heldBy b furnace
       → ranks ≡ ranksOf (length (take (2 * b .symbols) (replicate 400 none))) (rowsOn table b) held
       → marks ≡ reachedAsked (length (take (2 * b .symbols) (replicate 400 none))) (rowsOn table b) held p
       → length marks ≡ length (take (2 * b .symbols) (replicate 400 false))
-      → Traced table b furnace p high (ranks ++ drop (2 * b .symbols) (replicate 400 none)) (marks ++ drop (2 * b .symbols) (replicate 400 false))
-  come-back furnace p {high = high} {ranks} {marks} same told are reached long =
+      → Traced table b furnace p (ranks ++ drop (2 * b .symbols) (replicate 400 none)) (marks ++ drop (2 * b .symbols) (replicate 400 false))
+  come-back furnace p {ranks = ranks} {marks} same are reached long =
       let front = front-of (2 * b .symbols) marks (drop (2 * b .symbols) (replicate 400 false)) (long ∙ marks-long) in
       record {
-        is-high = sym (high-is table b (replicate 400 none) (ranks-room table b g) furnace same told);
         ranks = ranks-back table b g furnace same are;
         marks =
             record {

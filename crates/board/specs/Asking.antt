@@ -8,27 +8,16 @@ use lib.ListN.{length, take, drop}
 use denote.Ref.{RefT, ptr, now}
 use Rattle.meaning.specs.Tests.{none}
 use Rattle.meaning.specs.Literals.{opp, has, conflict}
-use Rattle.meaning.specs.Rounds.{derived, rankOf, supportOf}
 use Rattle.literals.specs.Literal.{inRange, placeOf}
 use Rattle.literals.specs.Row.{width, numbersAt, decode}
-use Rattle.literals.specs.declared.refusal.Refusal.the-variants.{BadBoard, BadLiteral, RankTooHigh, NothingToShow, BadFurnace}
+use Rattle.literals.specs.declared.refusal.Refusal.the-variants.{BadBoard, BadLiteral, NothingToShow, BadFurnace}
 use Rattle.board.specs.Furnaces.{isFurnace, heldBy}
 use Rattle.board.specs.Faults.{goodBoard, Fault, firstFault, ifDone}
-use Rattle.board.specs.Ranking.{rowsOn, tooHigh}
+use Rattle.board.specs.Ranking.{derivedOn, rankOn, supportOn}
 use Rattle.board.specs.declared.Board.{Board}
 use Rattle.board.specs.declared.asking.Standing.{Standing}
 use Rattle.board.specs.declared.asking.Standing.the-variants.{Conflict, Stands, RuledOut, Open, Refused}
 use Rattle.board.specs.declared.asking.Reason.{Reason}
-
--- the derived literals, the rank and the support on a board, for a furnace
-abbrev pub derivedOn : List ℤ → Board → (furnace : ℕ) → List Bool
-derivedOn table b furnace = derived (2 * b .symbols) (rowsOn table b) (heldBy b furnace)
-
-abbrev pub rankOn : List ℤ → Board → (furnace : ℕ) → ℕ → ℕ
-rankOn table b furnace p = rankOf (2 * b .symbols) (rowsOn table b) (heldBy b furnace) p
-
-abbrev pub supportOn : List ℤ → Board → (furnace : ℕ) → ℕ → ℕ
-supportOn table b furnace p = supportOf (2 * b .symbols) (rowsOn table b) (heldBy b furnace) p
 
 -- ---- "Ask answers for one literal: conflict, if the board is in conflict; else stands, if derived; ruled out, if the opposite is
 -- derived; else open." Here and in what follows, what is derived is so for the furnace that is named (02, Ticket 6).
@@ -38,7 +27,6 @@ askFaults table b furnace l =
     record { given = not (goodBoard table b); refusal = BadBoard }
     ∷ record { given = not (isFurnace furnace); refusal = BadFurnace }
     ∷ record { given = not (inRange (b .symbols) l); refusal = BadLiteral }
-    ∷ record { given = tooHigh table b furnace; refusal = RankTooHigh }
     ∷ []
 
 abbrev pub standing : List Bool → ℕ → Standing
@@ -55,7 +43,6 @@ explainFaults table b furnace l =
     record { given = not (goodBoard table b); refusal = BadBoard }
     ∷ record { given = not (isFurnace furnace); refusal = BadFurnace }
     ∷ record { given = not (inRange (b .symbols) l); refusal = BadLiteral }
-    ∷ record { given = tooHigh table b furnace; refusal = RankTooHigh }
     ∷ record { given = not (has (derivedOn table b furnace) (placeOf l)) || has (heldBy b furnace) (placeOf l); refusal = NothingToShow }
     ∷ []
 

@@ -35,8 +35,8 @@ opened S = changed (firstFault (openFaults S)) (emptyBoard 0) (emptyBoard S)
 abbrev pub withFlag : Board → (furnace : ℕ) → ℤ → Bool → Board
 withFlag b furnace l flag = withHeld b furnace (set (heldBy b furnace) (placeOf l) flag)
 
--- "Order: 1, then 2 for a given literal, 13, 14, then 10, 11 or 12", and 16 "just after 1": hold and withdraw are refused where the premise is
--- already as it shall be
+-- "Order: 1, then 2 for a given literal, 13, .. then 10, 11 or 12": 16 stands "just after 1" (02, Ticket 6), and 14 is struck out (Ticket 7). Hold
+-- and withdraw are refused where the premise is already as it shall be
 unfoldable pub flagFaults : List ℤ → Board → (furnace : ℕ) → ℤ → (flag : Bool) → (already : Refusal) → List Fault
 flagFaults table b furnace l flag already =
     record { given = not (goodBoard table b); refusal = BadBoard }

@@ -8,12 +8,11 @@ use lib.ListN.{length}
 use Rattle.meaning.specs.Literals.{has, conflict}
 use Rattle.meaning.specs.Ground.{ground, blame}
 use Rattle.literals.specs.Literal.{inRange, placeOf}
-use Rattle.literals.specs.declared.refusal.Refusal.the-variants.{BadBoard, BadLiteral, TableTooShort, RankTooHigh, NothingToShow, BadFurnace}
+use Rattle.literals.specs.declared.refusal.Refusal.the-variants.{BadBoard, BadLiteral, TableTooShort, NothingToShow, BadFurnace}
 use Rattle.board.specs.Furnaces.{isFurnace, heldBy}
 use Rattle.board.specs.Faults.{goodBoard, Fault, firstFault}
 use Rattle.board.specs.Settling.{over}
-use Rattle.board.specs.Ranking.{rowsOn, tooHigh}
-use Rattle.board.specs.Asking.{derivedOn}
+use Rattle.board.specs.Ranking.{rowsOn, derivedOn}
 use Rattle.board.specs.declared.Board.{Board}
 use Rattle.board.specs.declared.Outcome.{Outcome}
 
@@ -28,7 +27,6 @@ groundFaults table b furnace l lent =
     ∷ record { given = not (isFurnace furnace); refusal = BadFurnace }
     ∷ record { given = not (inRange (b .symbols) l); refusal = BadLiteral }
     ∷ record { given = not (leb (2 * b .symbols) lent); refusal = TableTooShort }
-    ∷ record { given = tooHigh table b furnace; refusal = RankTooHigh }
     ∷ record { given = not (has (derivedOn table b furnace) (placeOf l)); refusal = NothingToShow }
     ∷ []
 
@@ -45,7 +43,6 @@ blameFaults table b furnace lent =
     record { given = not (goodBoard table b); refusal = BadBoard }
     ∷ record { given = not (isFurnace furnace); refusal = BadFurnace }
     ∷ record { given = not (leb (2 * b .symbols) lent); refusal = TableTooShort }
-    ∷ record { given = tooHigh table b furnace; refusal = RankTooHigh }
     ∷ record { given = not (conflict (derivedOn table b furnace)); refusal = NothingToShow }
     ∷ []
 

@@ -61,7 +61,7 @@ pub fn ask(board: Board, table: &[i16], furnace: u8, l: i16) -> Standing
             let held = premises(&board.first, &board.second, furnace);
             let mut ranks = [NONE; 400];
             let mut none = [NONE; 1];
-            let high = rounds::propagation::propagate(
+            rounds::propagation::propagate(
                 table,
                 board.rows,
                 held,
@@ -69,9 +69,6 @@ pub fn ask(board: Board, table: &[i16], furnace: u8, l: i16) -> Standing
                 0,
                 &mut none[..0],
             );
-            if high {
-                return Standing::Refused(Refusal::RankTooHigh);
-            }
             standing_by(&ranks[..places], l)
         }
     }
@@ -98,7 +95,7 @@ pub fn explain_numbers(board: Board, table: &[i16], furnace: u8, l: i16) -> Reas
             let held = premises(&board.first, &board.second, furnace);
             let mut ranks = [NONE; 400];
             let mut row = [NONE; 1];
-            let high = rounds::propagation::propagate(
+            rounds::propagation::propagate(
                 table,
                 board.rows,
                 held,
@@ -106,9 +103,6 @@ pub fn explain_numbers(board: Board, table: &[i16], furnace: u8, l: i16) -> Reas
                 p,
                 &mut row[..1],
             );
-            if high {
-                return unexplained(Refusal::RankTooHigh);
-            }
             let rank = ranks[p];
             if rank == 0 {
                 return unexplained(Refusal::NothingToShow);

@@ -43,7 +43,7 @@ pub fn ground(board: Board, table: &[i16], furnace: u8, l: i16, marks: &mut [u8]
             let held = premises(&board.first, &board.second, furnace);
             let mut ranks = [NONE; 400];
             let mut reached = [false; 400];
-            let high = rounds::propagation::trace(
+            rounds::propagation::trace(
                 table,
                 board.rows,
                 held,
@@ -51,9 +51,6 @@ pub fn ground(board: Board, table: &[i16], furnace: u8, l: i16, marks: &mut [u8]
                 p,
                 &mut reached[..places],
             );
-            if high {
-                return Outcome::Refused(Refusal::RankTooHigh);
-            }
             if ranks[p] == NONE {
                 return Outcome::Refused(Refusal::NothingToShow);
             }
@@ -81,7 +78,7 @@ pub fn blame(board: Board, table: &[i16], furnace: u8, marks: &mut [u8]) -> Outc
     let held = premises(&board.first, &board.second, furnace);
     let mut ranks = [NONE; 400];
     let mut reached = [false; 400];
-    let high = rounds::propagation::trace(
+    rounds::propagation::trace(
         table,
         board.rows,
         held,
@@ -89,9 +86,6 @@ pub fn blame(board: Board, table: &[i16], furnace: u8, marks: &mut [u8]) -> Outc
         NONE as usize,
         &mut reached[..places],
     );
-    if high {
-        return Outcome::Refused(Refusal::RankTooHigh);
-    }
     if findings::labels::first_clash(&ranks[..places]) == NONE as usize {
         return Outcome::Refused(Refusal::NothingToShow);
     }

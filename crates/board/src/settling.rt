@@ -1,7 +1,7 @@
 // Settle: labels, ranks and supports into three lent tables.
 
 ghost use mathlib.Core.Path.{_≡_};
-ghost use Rattle.board.specs.Settling.{settleOutcome, settledLabels, settledRanks, settledSupports};
+ghost use Rattle.board.specs.Settling.{settleOutcome, settledLabels, settledRanks, settledSupports, RanksBounded};
 use crate::Board;
 use crate::Outcome;
 use crate::furnaces::is_furnace;
@@ -9,8 +9,8 @@ use crate::furnaces::premises;
 use crate::testing::good;
 use literals::refusal::Refusal;
 
-// Writes the labels, ranks and supports of a furnace. The ranks and supports go straight into the lent tables: refusal 14, the one that only
-// they could bring, is never given, as `meaning` proves.
+// Writes the labels, ranks and supports of a furnace, straight into the lent tables, since every test comes before. Each rank written is at most 2S
+// or 65535.
 pub fn settle(
     board: Board,
     table: &[i16],
@@ -23,6 +23,7 @@ pub fn settle(
     ensures { λ _. ⌜ now (labels .exit) ≡ settledLabels (now (table .entry)) board furnace (now (labels .entry)) (now (ranks .entry)) (now (supports .entry)) ⌝ }
     ensures { λ _. ⌜ now (ranks .exit) ≡ settledRanks (now (table .entry)) board furnace (now (labels .entry)) (now (ranks .entry)) (now (supports .entry)) ⌝ }
     ensures { λ _. ⌜ now (supports .exit) ≡ settledSupports (now (table .entry)) board furnace (now (labels .entry)) (now (ranks .entry)) (now (supports .entry)) ⌝ }
+    ensures { λ r. ⌜ (r ≡ Outcome.Done → RanksBounded (board .symbols) (now (ranks .exit))) ⌝ }
 {
     if !good(board, table) {
         return Outcome::Refused(Refusal::BadBoard);
@@ -36,7 +37,7 @@ pub fn settle(
         return Outcome::Refused(Refusal::TableTooShort);
     }
     let held = premises(&board.first, &board.second, furnace);
-    let high = rounds::propagation::propagate(
+    rounds::propagation::propagate(
         table,
         board.rows,
         held,
@@ -44,9 +45,6 @@ pub fn settle(
         0,
         &mut supports[..places],
     );
-    if high {
-        return Outcome::Refused(Refusal::RankTooHigh);
-    }
     findings::labels::write_labels(&ranks[..places], &mut labels[..symbols]);
     Outcome::Done
 }

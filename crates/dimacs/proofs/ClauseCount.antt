@@ -13,7 +13,7 @@ use Rattle.board.specs.Faults.{goodBoard, firstFault, ifDone}
 use Rattle.board.specs.declared.Board.{Board}
 use Rattle.board.specs.declared.Outcome.{Outcome}
 use Rattle.board.specs.declared.Outcome.the-variants.{Done, Refused}
-use Rattle.board.proofs.Explaining.{none-given}
+use Rattle.board.proofs.Answered.{none-given}
 use Rattle.board.proofs.Goodness.{good-is}
 use Rattle.dimacs.specs.Words.{beyond, numberOf, words}
 use Rattle.dimacs.specs.Form.{Parsed, good, broken, bodyOf, body, clausesIn, clausesOf, counted, countsIn}

@@ -18,7 +18,7 @@ use Rattle.literals.specs.Literal.{inRange}
 use Rattle.board.specs.Faults.{Fault, firstFault, ifDone}
 use Rattle.board.specs.declared.Outcome.{Outcome}
 use Rattle.board.specs.declared.Outcome.the-variants.{Done, Refused}
-use Rattle.board.proofs.Explaining.{none-given}
+use Rattle.board.proofs.Answered.{refused-not-done, none-given}
 use Rattle.dimacs.specs.Clauses.{claim, oneOf, rowsOfClause, clauseFaults, clausesFaults, passed}
 
 -- the faults of two lists: the first of the first, and only where there is none the first of the second
@@ -38,7 +38,7 @@ done-append fs gs e = go (firstFault fs) (sym (first-append fs gs) ∙ e)
   where
     go : (o : Outcome) → ifDone o (firstFault gs) (λ why. Refused why) ≡ Done → (o ≡ Done) × (firstFault gs ≡ Done)
     go Done h = (refl, h)
-    go (Refused why) h = let z : _≡_ {A = ℕ} 0 1 = cc in absurd (omega arith)
+    go (Refused why) h = refused-not-done h
 
 -- ---- one clause
 

@@ -18,15 +18,13 @@ use Rattle.literals.specs.declared.refusal.Refusal.{Refusal}
 use Rattle.literals.specs.declared.refusal.Refusal.the-variants.{BadLiteral, TooManySymbols, NoAssignment, TableFull}
 use Rattle.board.specs.declared.Outcome.{Outcome}
 use Rattle.board.specs.declared.Outcome.the-variants.{Done, Refused}
+use Rattle.board.proofs.Answered.{refused-not-done}
 use Rattle.dimacs.specs.Surveying.{withClause}
 use Rattle.dimacs.specs.declared.gathering.Kept.{Kept}
 use Rattle.dimacs.specs.declared.survey.Survey.{Survey}
 use Rattle.dimacs.specs.Gathering.{KeptOf, gatheredRows, foundFault, gathered}
 
 -- ---- a clause that is not at fault
-
-pub refused-not-done : {X : Type 0} {why : Refusal} → Refused why ≡ Done → X
-refused-not-done e = let z : _≡_ {A = ℕ} 0 1 = cc in absurd (omega arith)
 
 some-literal : (c : List ℤ) → eqb (length (gathered [] c)) 0 ≡ false → 1 ≤ length c
 unfolding gathered

@@ -15,6 +15,7 @@ use Rattle.implicates.specs.Appending.{appended}
 use Rattle.implicates.proofs.Appending.{appended-more, appended-none, length-appended}
 use Rattle.board.specs.Faults.{firstFault}
 use Rattle.board.specs.declared.Outcome.the-variants.{Done}
+use Rattle.board.proofs.Answered.{refused-not-done}
 use Rattle.dimacs.specs.Words.{words}
 use Rattle.dimacs.specs.Form.{Parsed, good, broken, isGood, clausesIn, clausesOf, clauseThen}
 use Rattle.dimacs.specs.Clauses.{clausesFaults, rowsOfClause}
@@ -25,7 +26,7 @@ use Rattle.dimacs.proofs.FirstFaults.{both-done}
 use Rattle.dimacs.proofs.ClauseRules.{clause-rows}
 use Rattle.dimacs.proofs.FoundFaults.{clause-fault}
 use Rattle.dimacs.proofs.Clauses.{first-clause, no-clause}
-use Rattle.dimacs.proofs.Judging.{faultless, refused-not-done}
+use Rattle.dimacs.proofs.Judging.{faultless}
 use Rattle.dimacs.proofs.SmallPlaces.{places-small}
 
 -- ---- a text without a fault keeps the form, and its clauses are without one

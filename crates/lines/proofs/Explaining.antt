@@ -7,7 +7,8 @@ use lib.ListN.{length}
 use Rattle.literals.specs.Literal.{placeOf}
 use Rattle.literals.specs.Row.{width, numbersAt, decode}
 use Rattle.board.specs.Faults.{firstFault, ifDone}
-use Rattle.board.specs.Asking.{explainFaults, explained, Span, supportOn}
+use Rattle.board.specs.Ranking.{supportOn}
+use Rattle.board.specs.Asking.{explainFaults, explained, Span}
 use Rattle.literals.proofs.Counting.{count-few}
 use Rattle.board.specs.declared.Board.{Board}
 use Rattle.board.specs.declared.Outcome.{Outcome}

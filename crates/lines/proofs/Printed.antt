@@ -9,7 +9,7 @@ use Rattle.board.specs.declared.Board.{Board}
 use Rattle.meaning.specs.Clauses.{hit, implicate, prime, ofSize}
 use Rattle.meaning.specs.Formulae.{value, occurs, symbolsOf}
 use Rattle.meaning.specs.Literals.{opp}
-use Rattle.meaning.specs.Rounds.{gives, next, reached, rankBy, firstGiver, supportAt, supportOf, rankAbove}
+use Rattle.meaning.specs.Rounds.{gives, next, reached, rankBy, firstGiver, supportAt, supportOf}
 use Rattle.literals.specs.Literal.{placeOf, literalAt}
 use Rattle.literals.specs.Row.{numbersAt, zeros, rising, rowSound, rowsSound, decode, rowsIn, encode}
 use Rattle.formula.specs.Parse.{symbolAt, secondOf, bodyOf, parse, wholeOf}
@@ -58,5 +58,5 @@ cases =
     ∷ []
 
 printed : map (λ (c : Case). linesOf (length (c .input)) 1 start (replicate 16384 (pos 0)) (c .input)) cases ≡ map (λ (c : Case). c .lines) cases
-unfolding hit implicate prime ofSize value occurs symbolsOf opp gives next reached rankBy firstGiver supportAt supportOf rankAbove placeOf literalAt numbersAt zeros rising rowSound rowsSound decode rowsIn encode symbolAt secondOf bodyOf parse wholeOf appended isFurnace heldBy withHeld premisesFit goodBoard openFaults opened flagFaults flagChanged ruleFaults ruled ruledTable askFaults asked explainFaults reasoned explained digitsOf literalList literalIn formulaLength commandSaid commandTable said saidTable linesOf
+unfolding hit implicate prime ofSize value occurs symbolsOf opp gives next reached rankBy firstGiver supportAt supportOf placeOf literalAt numbersAt zeros rising rowSound rowsSound decode rowsIn encode symbolAt secondOf bodyOf parse wholeOf appended isFurnace heldBy withHeld premisesFit goodBoard openFaults opened flagFaults flagChanged ruleFaults ruled ruledTable askFaults asked explainFaults reasoned explained digitsOf literalList literalIn formulaLength commandSaid commandTable said saidTable linesOf
 printed = refl

@@ -8,5 +8,6 @@ pub mod Differing
 pub mod Encoding
 pub mod Counting
 pub mod Scanning
+pub mod Refusals
 mod Examples
 mod Unique

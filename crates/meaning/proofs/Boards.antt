@@ -1,5 +1,5 @@
--- 01's boards: what 01 says of each board "Marked P: to be proved" and of the journal's, and that the definitions say the same; and two of 02's
--- Ticket 4.
+-- 01's boards: what 01 says of each board "Marked P: to be proved" and of the journal's, and that the definitions say the same; and three of 02's,
+-- two of Ticket 4 and one of Ticket 7.
 use mathlib.Core.Path.{_≡_, refl}
 use mathlib.Core.Bool.{Bool, true, false, cond}
 use mathlib.Core.List.{List, [], _∷_, map}
@@ -143,6 +143,10 @@ consequence =
 abbrev equals : Board
 equals = board 4 (imp four one ∷ imp four (neg one) ∷ []) (hold (plus 3) ∷ hold (minus 3) ∷ hold (plus 2) ∷ hold (minus 2) ∷ hold (plus 4) ∷ [])
 
+-- a rule of one literal, a chain from it, and 3 denied at its end: the opposites follow, back along the chain
+abbrev chain-and-back : Board
+chain-and-back = board 3 (one ∷ imp one two ∷ imp two three ∷ imp two (neg three) ∷ []) []
+
 abbrev journal : List Call → Board
 journal calls = board 4 (imp one two ∷ imp (and two three) four ∷ []) calls
 
@@ -186,6 +190,10 @@ boards =
     ∷ (took equals, taken 1 1 1)
     ∷ (takes equals, taken 2 0 0)
     ∷ (blamed-on equals, marks (plus 2 ∷ minus 2 ∷ []))
+    -- 02, Ticket 7: "No rank can exceed 2S", 6 here; they go past S, to 5
+    ∷ (settled chain-and-back, conflict-with-labels (3 ∷ 3 ∷ 3 ∷ []))
+    ∷ (explained chain-and-back (plus 3), rank-row 3 2 (minus 2 ∷ plus 3 ∷ []))
+    ∷ (explained chain-and-back (minus 1), rank-row 5 1 (minus 1 ∷ plus 2 ∷ []))
     -- the journal: "2 rule rows 0 1", "3 rule rows 1 1", "6 ask stands", "7 why rank 2 row 1: -2 -3 4", of the literal 4
     ∷ (rule 4 (imp one two), appends ((minus 1 ∷ plus 2 ∷ []) ∷ []))
     ∷ (rule 4 (imp (and two three) four), appends ((minus 2 ∷ minus 3 ∷ plus 4 ∷ []) ∷ []))
@@ -200,7 +208,7 @@ boards =
     ∷ (second-way (journal (hold (plus 1) ∷ hold (plus 3) ∷ withdraw (plus 1) ∷ hold (minus 3) ∷ [])), conflict-with-labels (3 ∷ 3 ∷ 3 ∷ 3 ∷ []))
     ∷ []
 
--- the definitions answer each question as 01 does, and as 02 does for blame; what blame took before is answered by 01's sentence
+-- the definitions answer each question as 01 does, and as 02 does for blame and ranks; what blame took before is answered by 01's sentence
 boards-hold : map (λ b. tell (b .0)) boards ≡ map (λ b. b .1) boards
 unfolding tell called held rows found marked ranked opp value occurs symbolsOf hit implicate prime ofSize gives next reached rankBy firstGiver supportAt supportOf reachesIn reaches ground largerRank blamed blame forces
 boards-hold = refl

@@ -1,21 +1,21 @@
--- Laws of ranks: what they are, the rule of the rounds in 01's words, and that no rank is above the number of places.
+-- Laws of ranks: what they are, the rule of the rounds in 01's words, and that no rank is above 2S.
 use mathlib.Core.Path.{_≡_, refl, sym, ap, _∙_}
 use mathlib.Core.Logic.{_≢_, _⊎_, inl, inr, ⊎-elim}
 use mathlib.Core.Bool.{Bool, true, false, cond, not, _&&_, _||_}
 use mathlib.Core.List.{List, List·Memᴰ as In}
-use Prim.Native.Nat.{ℕ, zero, suc, _+_, _-_, _≤_, _<_, zero-le}
+use Prim.Native.Nat.{ℕ, zero, suc, _+_, _-_, _*_, _≤_, _<_, zero-le}
 use native.Mathlib.Omega.{arith}
 use lib.Dec.{ltb, eqb}
 use lib.ListN.{length}
 use borrow.Author.Tests.{lt-ltb, le-ltb, ltb-true, ne-eqb, eqb-true, eqb-false, not-true}
 use Rattle.meaning.specs.Tests.{any, from, none, first}
 use Rattle.meaning.specs.Literals.{opp, has, Within}
-use Rattle.meaning.specs.Rounds.{gives, byRows, reached, after, derived, rankBy, rankOf, rankAbove}
-use Rattle.meaning.specs.Promises.{GivenIn, RankGiven, RankZero, RankRule, RoundsEnd, DerivedRanked, RankBound, RankAboveNever}
-use Rattle.meaning.proofs.Tests.{true-or-false, both-true, and-intro, not-intro, false-of, clash, or-right, any-found, any-at, from-in, in-from}
+use Rattle.meaning.specs.Rounds.{gives, byRows, reached, after, derived, rankBy, rankOf}
+use Rattle.meaning.specs.Promises.{GivenIn, RankGiven, RankZero, RankRule, RoundsEnd, DerivedRanked, RankBound}
+use Rattle.meaning.proofs.Tests.{true-or-false, both-true, and-intro, not-intro, false-of, clash, or-right, any-found, any-at, in-from}
 use Rattle.meaning.proofs.Tables.{le-or-lt, FirstIs, first-is, first-only, getD-tabulate}
 use Rattle.meaning.proofs.Literals.{has-below, same-set}
-use Rattle.meaning.proofs.Rounds.{reached-length, next-at, next-keeps, closed, settled, earlier, stays}
+use Rattle.meaning.proofs.Rounds.{reached-length, next-at, next-keeps, settled, earlier, stays}
 use Rattle.meaning.proofs.Gives.{gives-words, gives-of}
 
 -- no round after as many as there are places adds anything
@@ -181,28 +181,10 @@ rank-given places rows held p k small low = (to, back)
         (λ f. clash (g .0) (f .1 k)) (rankOf-is places rows held p small)
 
 pub rank-bound : RankBound
-rank-bound places rows held p k g =
+rank-bound S rows held p k g =
     ⊎-elim (λ l. l)
-    (λ l. (let e = last-round places rows held k (omega arith) in clash (rw e at (g .0)) (g .1 places l)))
-    (le-or-lt k places)
-
-pub rank-above-never : RankAboveNever
-unfolding rankAbove
-rank-above-never places rows held = false-of _ never
-  where
-    now : List Bool
-    now = derived places rows held
-
-    adds : ℕ → Bool
-    adds p = not (has now p) && byRows rows now p
-
-    never : any (λ p. not (has now p) && byRows rows now p) (from 0 places) ≡ true → ⊥
-    never e =
-        let f = any-found adds (from 0 places) e in
-        let p = f .0 in
-        let w = both-true (not (has now p)) (byRows rows now p) (f .2) in
-        let b = from-in 0 places p (f .1) in
-        clash (closed places (byRows rows) held p (omega arith) (w .1)) (not-true (has now p) (w .0))
+    (λ l. (let e = last-round (2 * S) rows held k (omega arith) in clash (rw e at (g .0)) (g .1 (2 * S) l)))
+    (le-or-lt k (2 * S))
 
 -- a round gives some literal its rank, or nothing is added from there on
 pub rounds-end : RoundsEnd

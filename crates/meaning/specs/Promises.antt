@@ -11,7 +11,7 @@ use Rattle.meaning.specs.Tests.{any, all, none}
 use Rattle.meaning.specs.Literals.{place, opp, has, Within, conflict}
 use Rattle.meaning.specs.Formulae.{Formula, ruleOf}
 use Rattle.meaning.specs.Clauses.{Digit, prime, primesInOrder, rowsOf, allRows, InOrder}
-use Rattle.meaning.specs.Rounds.{after, derived, rankOf, supportOf, label, rankAbove}
+use Rattle.meaning.specs.Rounds.{after, derived, rankOf, supportOf, label}
 use Rattle.meaning.specs.Ground.{reaches, largerRank, blamed, blame}
 use Rattle.meaning.specs.LeavingOff.{violation, WorksTo, LeavesOff}
 use Rattle.meaning.specs.SecondWay.{Forces, accepted, rulesOf, firstWay, secondWay}
@@ -65,13 +65,9 @@ DerivedRanked =
     (places : ℕ) (rows : List (List ℕ)) (held : List Bool) (p : ℕ) → places < none
     → (rankOf places rows held p < none) ↔ (has (derived places rows held) p ≡ true)
 
--- no rank is above the number of places, however many rounds are run
+-- 02, Ticket 7: "No rank can exceed 2S", however many rounds are run
 abbrev pub RankBound : Type 0
-RankBound = (places : ℕ) (rows : List (List ℕ)) (held : List Bool) (p k : ℕ) → GivenIn places rows held p k → k ≤ places
-
--- so the test behind 14, "a literal would need a rank above 2S", never holds
-abbrev pub RankAboveNever : Type 0
-RankAboveNever = (places : ℕ) (rows : List (List ℕ)) (held : List Bool) → rankAbove places rows held ≡ false
+RankBound = (S : ℕ) (rows : List (List ℕ)) (held : List Bool) (p k : ℕ) → GivenIn (2 * S) rows held p k → k ≤ 2 * S
 
 -- row r gives the literal p its rank: it contains it, and the opposite of each other literal has a smaller rank
 abbrev pub GaveRank : ℕ → List (List ℕ) → List Bool → ℕ → ℕ → Type 0

@@ -1,10 +1,10 @@
 -- 01, "Rounds of propagation". Rows are lists of places, `places` is 2S, and `held` is the set of held premises.
-use mathlib.Core.Bool.{Bool, true, false, cond, not, _&&_, _||_}
+use mathlib.Core.Bool.{Bool, true, false, cond, _&&_, _||_}
 use mathlib.Core.List.{List, []}
 use Prim.Native.Nat.{ℕ, zero, suc, _*_}
 use lib.Dec.{eqb}
 use lib.ListN.{length, getD}
-use Rattle.meaning.specs.Tests.{any, all, member, from, tabulate, none, first}
+use Rattle.meaning.specs.Tests.{any, all, member, tabulate, none, first}
 use Rattle.meaning.specs.Literals.{place, opp, has}
 
 -- "some row in use contains L and the opposite of each other literal of that row has a rank below k": `known` are the literals
@@ -75,8 +75,3 @@ supportsOf places rows held = tabulate places (supportOf places rows held)
 
 unfoldable pub labelsOf : ℕ → List (List ℕ) → List Bool → List ℕ
 labelsOf symbols rows held = tabulate symbols (λ i. label (derived (2 * symbols) rows held) (suc i))
-
--- refusal 14, "a literal would need a rank above 2S": after round 2S some row gives a literal that has no rank
-unfoldable pub rankAbove : ℕ → List (List ℕ) → List Bool → Bool
-rankAbove places rows held =
-    any (λ p. not (has (derived places rows held) p) && byRows rows (derived places rows held) p) (from 0 places)

@@ -16,7 +16,7 @@ use Rattle.board.specs.Rules.{breaksAt, ruleFaults, rowsOfBytes, ruled}
 use Rattle.board.specs.declared.Board.{Board}
 use Rattle.board.specs.declared.Outcome.{Outcome}
 use Rattle.board.specs.declared.Outcome.the-variants.{Done, Refused}
-use Rattle.board.proofs.Explaining.{none-given}
+use Rattle.board.proofs.Answered.{none-given}
 use Rattle.dimacs.specs.Reading.{readAnswer, readFaults}
 use Rattle.dimacs.proofs.ClauseCount.{read-fits, told-few}
 use Rattle.chains.specs.Form.{wholeText}

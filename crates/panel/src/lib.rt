@@ -7,7 +7,7 @@ ghost use Prim.Native.Nat.{_-_};
 ghost use Rattle.board.specs.Faults.{numberIn};
 ghost use Rattle.board.specs.Changes.{opened, held, withdrawn};
 ghost use Rattle.board.specs.Rules.{ruled, ruledTable};
-ghost use Rattle.board.specs.Settling.{settleOutcome, settledLabels, settledRanks, settledSupports};
+ghost use Rattle.board.specs.Settling.{settleOutcome, settledLabels, settledRanks, settledSupports, RanksBounded};
 ghost use Rattle.board.specs.Asking.{asked, reasoned, explained};
 ghost use Rattle.board.specs.Grounds.{groundOutcome, groundMarks, blameOutcome, blameMarks};
 ghost use Rattle.dimacs.specs.Reading.{readAnswer, readTable};
@@ -192,6 +192,7 @@ pub extern "C" fn tup_settle(
     ensures { λ _. ⌜ now (labels .exit) ≡ settledLabels (now (table .entry)) (boardIn given) furnace (now (labels .entry)) (now (ranks .entry)) (now (supports .entry)) ⌝ }
     ensures { λ _. ⌜ now (ranks .exit) ≡ settledRanks (now (table .entry)) (boardIn given) furnace (now (labels .entry)) (now (ranks .entry)) (now (supports .entry)) ⌝ }
     ensures { λ _. ⌜ now (supports .exit) ≡ settledSupports (now (table .entry)) (boardIn given) furnace (now (labels .entry)) (now (ranks .entry)) (now (supports .entry)) ⌝ }
+    ensures { λ r. ⌜ (r ≡ 0 → RanksBounded (given .symbols) (now (ranks .exit))) ⌝ }
 {
     let outcome = board::settling::settle(board_in(given), table, furnace, labels, ranks, supports);
     number_of(outcome)

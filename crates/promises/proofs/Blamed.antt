@@ -21,13 +21,13 @@ use Rattle.literals.specs.Literal.{placeOf}
 use Rattle.literals.proofs.Decoding.{length-rows}
 use Rattle.board.specs.Furnaces.{isFurnace, heldBy, withHeld}
 use Rattle.board.specs.Faults.{goodBoard, Fault}
-use Rattle.board.specs.Asking.{derivedOn}
+use Rattle.board.specs.Ranking.{derivedOn}
 use Rattle.board.specs.Grounds.{byteOf, blameFaults, blameOutcome, blameMarks}
 use Rattle.board.specs.Changes.{withFlag}
 use Rattle.board.specs.declared.Outcome.the-variants.{Done}
 use Rattle.board.proofs.TwoSets.{held-own, held-other}
 use Rattle.board.proofs.Goodness.{Good, good-is}
-use Rattle.board.proofs.Explaining.{none-given}
+use Rattle.board.proofs.Answered.{none-given}
 use Rattle.promises.specs.Calls.{Call, opens, adds, holds, withdraws, asks, explains, settles, grounds, blames, reads, writes}
 use Rattle.promises.specs.Calls.{readsText, addsText, writesText, World, front, answer, outcome, after, run, notOpen}
 use Rattle.promises.specs.Demands.{rowsOfWorld, premisesOf, derivedSet, Appends, BlameTakes, Marked, Spares, then, BlameMarksHeld}
@@ -75,7 +75,7 @@ module _ (w : World) (lent furnace : ℕ) (marks : List ℕ) (e : outcome w (bla
 
   in-conflict : conflict (derivedSet w furnace) ≡ true
   unfolding blameFaults
-  in-conflict = rw (rows-read w lent (not-given 0)) at (not-false (conflict (derivedOn (front w lent) (w .board) furnace)) (not-given 4))
+  in-conflict = rw (rows-read w lent (not-given 0)) at (not-false (conflict (derivedOn (front w lent) (w .board) furnace)) (not-given 3))
 
   small : 2 * S < none
   small = omega (arith, good .sound .symbols)

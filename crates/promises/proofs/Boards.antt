@@ -9,7 +9,7 @@ use lib.ListN.{replicate, take}
 use Rattle.meaning.specs.Literals.{place, opp}
 use Rattle.meaning.specs.Formulae.{value, occurs, symbolsOf}
 use Rattle.meaning.specs.Clauses.{hit, implicate, prime, ofSize}
-use Rattle.meaning.specs.Rounds.{gives, next, reached, rankBy, firstGiver, supportAt, supportOf, labelsOf, rankAbove}
+use Rattle.meaning.specs.Rounds.{gives, next, reached, rankBy, firstGiver, supportAt, supportOf, labelsOf}
 use Rattle.meaning.specs.Ground.{reachesIn, reaches, largerRank, blamed, blame}
 use Rattle.literals.specs.Literal.{placeOf, literalAt}
 use Rattle.literals.specs.Row.{numbersAt, zeros, rising, rowSound, rowsSound, decode, rowsIn, encode}
@@ -274,5 +274,5 @@ abbrev due : List Call × List (Question × Answer) → List ℕ × List Answer
 due b = (map (λ c. 0) (b .0), map (λ q. q .1) (b .1))
 
 boards-hold : map found boards ≡ map due boards
-unfolding tell answer outcome after opp value occurs symbolsOf hit implicate prime ofSize gives next reached rankBy firstGiver supportAt supportOf labelsOf rankAbove reachesIn reaches largerRank blamed blame placeOf literalAt numbersAt zeros rising rowSound rowsSound decode rowsIn encode symbolAt secondOf bodyOf parse wholeOf appended isFurnace heldBy withHeld premisesFit goodBoard openFaults opened flagFaults flagChanged ruleFaults ruled ruledTable settleFaults settleOutcome settledLabels askFaults asked explainFaults reasoned blameFaults blameOutcome blameMarks digitsOf upTo since wordsIn decimal numberOf literalOf pastComments startsWith countsIn headerIn clausesIn parseText oneOf clauseFaults clausesFaults passed textFaults readFaults readAnswer readTable spaced clauseLines textOf literalsOf clausesAt textOn writeFaults writeOutcome writeAnswer writeBytes bytesOf lead unitOf fromMark goOn more atClose closed bracketAt wholeText unitText spelled readTextFaults readTextOutcome readTextAnswer readTextBytes ruledText ruledTextTable writeTextFaults writeTextOutcome writeTextAnswer writeTextBytes
+unfolding tell answer outcome after opp value occurs symbolsOf hit implicate prime ofSize gives next reached rankBy firstGiver supportAt supportOf labelsOf reachesIn reaches largerRank blamed blame placeOf literalAt numbersAt zeros rising rowSound rowsSound decode rowsIn encode symbolAt secondOf bodyOf parse wholeOf appended isFurnace heldBy withHeld premisesFit goodBoard openFaults opened flagFaults flagChanged ruleFaults ruled ruledTable settleFaults settleOutcome settledLabels askFaults asked explainFaults reasoned blameFaults blameOutcome blameMarks digitsOf upTo since wordsIn decimal numberOf literalOf pastComments startsWith countsIn headerIn clausesIn parseText oneOf clauseFaults clausesFaults passed textFaults readFaults readAnswer readTable spaced clauseLines textOf literalsOf clausesAt textOn writeFaults writeOutcome writeAnswer writeBytes bytesOf lead unitOf fromMark goOn more atClose closed bracketAt wholeText unitText spelled readTextFaults readTextOutcome readTextAnswer readTextBytes ruledText ruledTextTable writeTextFaults writeTextOutcome writeTextAnswer writeTextBytes
 boards-hold = refl

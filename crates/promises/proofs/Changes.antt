@@ -9,7 +9,7 @@ use Rattle.literals.specs.Literal.{inRange}
 use Rattle.board.specs.Furnaces.{isFurnace}
 use Rattle.board.specs.Changes.{opened, withFlag, flagFaults, flagChanged, holdFaults, withdrawFaults}
 use Rattle.board.specs.declared.Outcome.the-variants.{Done}
-use Rattle.board.proofs.Explaining.{none-given}
+use Rattle.board.proofs.Answered.{none-given}
 use Rattle.promises.specs.Calls.{opens, holds, withdraws, World, front, faults, outcome, after}
 use Rattle.promises.specs.Demands.{OpenLeaves, HoldPuts, WithdrawTakes}
 use Rattle.promises.proofs.Refusals.{cases}

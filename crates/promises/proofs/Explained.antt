@@ -13,7 +13,8 @@ use Rattle.board.specs.Faults.{firstFault}
 use Rattle.board.specs.Ranking.{rowsOn}
 use Rattle.board.specs.Asking.{explainFaults, reasoned, explained}
 use Rattle.board.specs.declared.Outcome.the-variants.{Done}
-use Rattle.board.proofs.Explaining.{none-given, row-used}
+use Rattle.board.proofs.Answered.{none-given}
+use Rattle.board.proofs.Explaining.{row-used}
 use Rattle.promises.specs.Calls.{explains, World, front, faults, outcome}
 use Rattle.promises.specs.Demands.{rowsOfWorld, rankIn, supportIn, ExplainTells}
 use Rattle.promises.proofs.Refusals.{cases}

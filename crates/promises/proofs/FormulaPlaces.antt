@@ -11,19 +11,19 @@ use lib.IntN.{ℤ}
 use lib.ListN.{length, drop}
 use Rattle.meaning.proofs.Tests.{clash}
 use Rattle.literals.specs.Refusals.{numberOf}
-use Rattle.literals.specs.Row.{rowsLent}
 use Rattle.literals.specs.declared.refusal.Refusal.{Refusal}
 use Rattle.literals.specs.declared.refusal.Refusal.the-variants.{BadBoard, BadText}
 use Rattle.formula.specs.Parse.{Parsed, good, bad, wholeOf}
 use Rattle.formula.specs.Answers.{isGood}
 use Rattle.formula.proofs.Breaking.{first-fault}
+use Rattle.formula.proofs.Faults.{whole-faults}
 use Rattle.board.specs.Faults.{Fault, firstFault, goodBoard, numberIn}
 use Rattle.board.specs.Rules.{whyOf, breaksAt, noPlace, placeTold, ruleFaults}
 use Rattle.board.specs.declared.Board.{Board}
 use Rattle.board.specs.declared.Outcome.{Outcome}
 use Rattle.board.specs.declared.Outcome.the-variants.{Refused}
 use Rattle.board.proofs.Goodness.{good-is}
-use Rattle.board.proofs.Answered.{Without, never-answered, rule-told, rule-place}
+use Rattle.board.proofs.Answered.{fault-not, Without, never-answered, rule-told, rule-place}
 use Rattle.chains.specs.Form.{wholeText}
 use Rattle.chains.specs.Promises.{Offends}
 use Rattle.chains.proofs.Offences.{first-offence}
@@ -36,7 +36,6 @@ use Rattle.promises.specs.Calls.{front, answer, outcome}
 use Rattle.promises.specs.Demands.{TextPlaced, TextPlaces, WriteTextPlaces}
 use Rattle.promises.proofs.RuleTexts.{rule-text-told}
 use Rattle.promises.proofs.Places.{none-told}
-use Rattle.promises.proofs.Fourteen.{bytes-not}
 
 -- ---- the tests of a text: the board's, the form's, the bytes', and others that are of other numbers
 
@@ -129,8 +128,9 @@ rule-text-place table b text = go (textRefused table b text) refl
     go false r =
         let bytes = bytesIn text in
         let told = rule-told table b bytes in
-        let later = bytes-not 15 (omega arith) (b .symbols) (b .rows) (rowsLent table) bytes in
-        let other = never-answered 15 (ruleFaults table b bytes) (omega arith) (λ g e. omega arith, later) in
+        let read = fault-not 6 15 (wholeOf (b .symbols) bytes) (whole-faults (b .symbols) bytes) (omega arith) in
+        let none : Without 15 (ruleFaults table b bytes) = (λ g e. omega arith, (read, (λ g e. omega arith, (λ g e. omega arith, (λ g e. omega arith, tt))))) in
+        let other = never-answered 15 (ruleFaults table b bytes) (omega arith) none in
         rw (r, told, ne-eqb (numberIn (firstFault (ruleFaults table b bytes))) 15 other) (rule-place table b bytes ∙ rw told)
 
 pub text-places : TextPlaces

@@ -11,7 +11,7 @@ use Rattle.formula.specs.Answers.{isGood}
 use Rattle.board.specs.Faults.{goodBoard}
 use Rattle.board.specs.declared.Outcome.the-variants.{Done}
 use Rattle.board.proofs.Goodness.{good-is}
-use Rattle.board.proofs.Explaining.{none-given}
+use Rattle.board.proofs.Answered.{none-given}
 use Rattle.text.specs.Reading.{readTextFaults, readTextOutcome, readTextAnswer, readTextBytes}
 use Rattle.text.specs.Writing.{textIn, writeTextFaults, writeTextOutcome, writeTextAnswer, writeTextBytes}
 use Rattle.text.specs.Promises.{ReadsAs}

@@ -1,7 +1,6 @@
 -- The demands, proved.
 pub mod RuleTexts
 pub mod Refusals
-pub mod Fourteen
 pub mod Changes
 mod Lent
 mod Tested
@@ -14,6 +13,7 @@ pub mod Blamed
 pub mod Texts
 pub mod FormulaTexts
 pub mod Explained
+pub mod Bounded
 mod History
 pub mod Good
 pub mod Ways

@@ -14,12 +14,13 @@ use Rattle.board.specs.Faults.{Fault, firstFault, numberIn}
 use Rattle.board.specs.Changes.{opened, flagChanged}
 use Rattle.board.specs.Rules.{ruled, ruledTable}
 use Rattle.board.specs.Settling.{settleOutcome, settledLabels, settledRanks, settledSupports}
-use Rattle.board.specs.Asking.{derivedOn, askFaults, asked, standing, explainFaults, reasoned, explained}
+use Rattle.board.specs.Ranking.{derivedOn}
+use Rattle.board.specs.Asking.{askFaults, asked, standing, explainFaults, reasoned, explained}
 use Rattle.board.specs.Grounds.{groundOutcome, groundMarks, blameOutcome, blameMarks}
 use Rattle.board.specs.declared.Outcome.{Outcome}
 use Rattle.board.specs.declared.asking.Reason.{Reason}
 use Rattle.board.specs.declared.Outcome.the-variants.{Done, Refused}
-use Rattle.board.proofs.Answered.{told-by, rule-told}
+use Rattle.board.proofs.Answered.{refused-not-done, told-by, rule-told}
 use Rattle.dimacs.specs.Reading.{readFaults, readAnswer, readTable}
 use Rattle.dimacs.specs.Writing.{writeOutcome, writeAnswer, writeBytes}
 use Rattle.dimacs.specs.declared.reading.Reading.{Reading}
@@ -96,7 +97,7 @@ none-of (x ∷ fs) e f m = go (x .given) refl e (in-cons m) (λ d i. none-of fs 
   where
     go : (g : Bool) → x .given ≡ g → cond g (Refused (x .refusal)) (firstFault fs) ≡ Done → (f ≡ x) ⊎ In f fs
         → (firstFault fs ≡ Done → In f fs → f .given ≡ false) → f .given ≡ false
-    go true g e i rest = let z : _≡_ {A = ℕ} 0 1 = cc in absurd (omega arith)
+    go true g e i rest = refused-not-done e
     go false g e (inl q) rest = rw q g
     go false g e (inr i) rest = rest e i
 

@@ -24,7 +24,7 @@ use Rattle.board.specs.Faults.{goodBoard, firstFault}
 use Rattle.board.specs.Rules.{ruleFaults, withRows, ruled, ruledTable}
 use Rattle.board.specs.declared.Outcome.the-variants.{Done}
 use Rattle.board.proofs.Goodness.{Good, good-is}
-use Rattle.board.proofs.Explaining.{none-given}
+use Rattle.board.proofs.Answered.{none-given}
 use Rattle.dimacs.specs.Form.{clausesOf, parseText}
 use Rattle.dimacs.specs.Reading.{formulaeIn, readFaults, readAnswer, readTable}
 use Rattle.dimacs.proofs.FirstFaults.{clauses-accepted}

@@ -14,7 +14,7 @@ use Rattle.board.specs.Faults.{goodBoard}
 use Rattle.board.specs.Changes.{emptyBoard, openFaults, opened}
 use Rattle.board.specs.declared.Outcome.the-variants.{Done}
 use Rattle.board.proofs.Goodness.{Good, good-is}
-use Rattle.board.proofs.Explaining.{none-given}
+use Rattle.board.proofs.Answered.{none-given}
 use Rattle.dimacs.specs.Writing.{textOn, writeFaults, writeOutcome, writeAnswer, writeBytes}
 use Rattle.dimacs.specs.declared.reading.Reading.{Reading}
 use Rattle.dimacs.proofs.SameRows.{same-rows}

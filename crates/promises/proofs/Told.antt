@@ -19,7 +19,7 @@ use Rattle.board.specs.Asking.{askFaults, asked}
 use Rattle.board.specs.Grounds.{byteOf, groundFaults, groundOutcome, groundMarks, blameFaults, blameOutcome, blameMarks}
 use Rattle.board.specs.declared.Outcome.the-variants.{Done}
 use Rattle.board.proofs.Goodness.{good-is}
-use Rattle.board.proofs.Explaining.{none-given}
+use Rattle.board.proofs.Answered.{none-given}
 use Rattle.dimacs.specs.Writing.{literalsOf, clauseAt, clausesAt, textOf, textOn, writeFaults, writeOutcome, writeAnswer, writeBytes}
 use Rattle.promises.specs.Calls.{asks, settles, World, front, faults, answer, outcome, run}
 use Rattle.promises.specs.Demands.{rowsOfWorld, premisesOf, derivedSet, rankIn, supportIn, Tells, SettleTells, SettleSpares}

@@ -26,9 +26,9 @@ use Rattle.board.specs.Furnaces.{heldBy}
 use Rattle.board.specs.Faults.{Fault, firstFault, numberIn, goodBoard}
 use Rattle.board.specs.Changes.{emptyBoard, withFlag}
 use Rattle.board.specs.Rules.{noPlace, ruled}
-use Rattle.board.specs.Settling.{settledLabels, settledRanks, settledSupports}
-use Rattle.board.specs.Ranking.{rowsOn}
-use Rattle.board.specs.Asking.{derivedOn, rankOn, supportOn, asked, standing, reasoned, explained}
+use Rattle.board.specs.Settling.{settledLabels, settledRanks, settledSupports, RanksBounded}
+use Rattle.board.specs.Ranking.{rowsOn, derivedOn, rankOn, supportOn}
+use Rattle.board.specs.Asking.{asked, standing, reasoned, explained}
 use Rattle.board.specs.Grounds.{byteOf, groundMarks, blameMarks}
 use Rattle.board.specs.declared.Outcome.the-variants.{Done, Refused}
 use Rattle.dimacs.specs.Form.{isGood, clausesOf, parseText}
@@ -56,10 +56,6 @@ RefusedExactly = (w : World) (c : Call) (number : ℕ) → 0 < number → (numbe
 -- and that it is done exactly if no case is given
 abbrev pub DoneExactly : Type 0
 DoneExactly = (w : World) (c : Call) → (outcome w c ≡ Done) ↔ ((f : Fault) → In f (faults w c) → f .given ≡ false)
-
--- "a literal would need a rank above 2S" is so of no board
-abbrev pub NeverFourteen : Type 0
-NeverFourteen = (w : World) (c : Call) → numberIn (outcome w c) ≢ 14
 
 -- what a refused call leaves: board and table as they were, "except that a refused open returns a board with S = 0, no rows in use
 -- and no premises"
@@ -297,6 +293,16 @@ pub record Explains (w : World) (lent furnace : ℕ) (l : ℤ) : Type 0 where
 
 abbrev pub ExplainTells : Type 0
 ExplainTells = (w : World) (lent furnace : ℕ) (l : ℤ) → outcome w (explains lent furnace l) ≡ Done → Explains w lent furnace l
+
+-- 02, Ticket 7: "No rank can exceed 2S": none that settle writes, and not the one that explain tells, which is of no premise and so not 0
+pub record Bounded (w : World) (lent furnace : ℕ) : Type 0 where
+  pub settle : (labels ranks supports : List ℕ) → outcome w (settles lent furnace labels ranks supports) ≡ Done
+      → RanksBounded (w .board .symbols) (settledRanks (front w lent) (w .board) furnace labels ranks supports)
+  pub explain : (l : ℤ) → outcome w (explains lent furnace l) ≡ Done
+      → (1 ≤ reasoned (front w lent) (w .board) furnace l .rank) × (reasoned (front w lent) (w .board) furnace l .rank ≤ 2 * w .board .symbols)
+
+abbrev pub NoRankAbove : Type 0
+NoRankAbove = (w : World) (lent furnace : ℕ) → Bounded w lent furnace
 
 abbrev pub GroundTells : Type 0
 GroundTells =

@@ -5,7 +5,7 @@ ghost use mathlib.Core.Bool.{false};
 ghost use Prim.Native.Nat.{_+_, _*_, _≤_};
 ghost use lib.ListN.{length, replicate};
 ghost use Rattle.meaning.specs.Tests.{none, tabulate};
-ghost use Rattle.meaning.specs.Rounds.{ranksOf, rankAbove, supportOf};
+ghost use Rattle.meaning.specs.Rounds.{ranksOf, supportOf};
 ghost use Rattle.literals.specs.Row.{width, rowsIn, Fit};
 ghost use Rattle.findings.specs.Reach.{reachedAsked};
 use crate::ranks::rank_all;
@@ -27,8 +27,7 @@ const FEW_ROWS: usize = 64;
 
 const FEW_CELLS: usize = 512;
 
-// Propagates, with room for the index, the queue and the rows' counts. Each round but the last puts a place into the queue, so that a rank
-// above the number of places would make it longer than there are places; it never is.
+// Propagates, with room for the index, the queue and the rows' counts.
 fn propagate_in(
     table: &[i16],
     rows: usize,
@@ -42,24 +41,22 @@ fn propagate_in(
     links: &mut [u16],
     queue: &mut [u16],
     counts: &mut [u8],
-) -> bool
+)
     requires { ⌜ Fit (length (now ranks)) rows (now table) ⌝ }
     requires { ⌜ (length (now ranks) ≤ length (now held)) × (from + length (now supports) ≤ length (now ranks)) ⌝ }
     requires { ⌜ (length (now marks) ≡ length (now ranks) → now marks ≡ replicate (length (now ranks)) false) ⌝ }
     requires { ⌜ now heads ≡ replicate (length (now ranks)) none ⌝ }
     requires { ⌜ (length (now links) ≡ width * rows) × (length (now ranks) ≤ length (now queue)) × (length (now counts) ≡ rows) ⌝ }
-    ensures { λ r. ⌜ r ≡ rankAbove (length (now (ranks .entry))) (rowsIn rows (now (table .entry))) (now (held .entry)) ⌝ }
-    ensures { λ r. ⌜ now (ranks .exit) ≡ ranksOf (length (now (ranks .entry))) (rowsIn rows (now (table .entry))) (now (held .entry)) ⌝ }
-    ensures { λ r. ⌜ now (supports .exit) ≡ tabulate (length (now (supports .entry))) (λ i. supportOf (length (now (ranks .entry))) (rowsIn rows (now (table .entry))) (now (held .entry)) (from + i)) ⌝ }
-    ensures { λ r. ⌜ (length (now (marks .entry)) ≡ length (now (ranks .entry)) → now (marks .exit) ≡ reachedAsked (length (now (ranks .entry))) (rowsIn rows (now (table .entry))) (now (held .entry)) p) ⌝ }
+    ensures { λ _. ⌜ now (ranks .exit) ≡ ranksOf (length (now (ranks .entry))) (rowsIn rows (now (table .entry))) (now (held .entry)) ⌝ }
+    ensures { λ _. ⌜ now (supports .exit) ≡ tabulate (length (now (supports .entry))) (λ i. supportOf (length (now (ranks .entry))) (rowsIn rows (now (table .entry))) (now (held .entry)) (from + i)) ⌝ }
+    ensures { λ _. ⌜ (length (now (marks .entry)) ≡ length (now (ranks .entry)) → now (marks .exit) ≡ reachedAsked (length (now (ranks .entry))) (rowsIn rows (now (table .entry))) (now (held .entry)) p) ⌝ }
 {
     index::fill(table, rows, heads, links, counts);
     let end = rank_all(table, rows, heads, links, held, ranks, queue, counts);
-    write_supports(table, rows, heads, links, ranks, queue, end, from, supports);
     if marks.len() == ranks.len() {
         reach_asked(table, rows, heads, links, held, ranks, p, marks);
     }
-    ranks.len() < end
+    write_supports(table, rows, heads, links, ranks, queue, end, from, supports);
 }
 
 // Propagates: the ranks of the literals; the supports of as many places from `from` on as are lent; and, where a mark for each place is lent, what
@@ -73,14 +70,13 @@ fn propagate_all(
     supports: &mut [u16],
     p: usize,
     marks: &mut [bool],
-) -> bool
+)
     requires { ⌜ Fit (length (now ranks)) rows (now table) ⌝ }
     requires { ⌜ (length (now ranks) ≤ length (now held)) × (from + length (now supports) ≤ length (now ranks)) ⌝ }
     requires { ⌜ (length (now marks) ≡ length (now ranks) → now marks ≡ replicate (length (now ranks)) false) ⌝ }
-    ensures { λ r. ⌜ r ≡ rankAbove (length (now (ranks .entry))) (rowsIn rows (now (table .entry))) (now (held .entry)) ⌝ }
-    ensures { λ r. ⌜ now (ranks .exit) ≡ ranksOf (length (now (ranks .entry))) (rowsIn rows (now (table .entry))) (now (held .entry)) ⌝ }
-    ensures { λ r. ⌜ now (supports .exit) ≡ tabulate (length (now (supports .entry))) (λ i. supportOf (length (now (ranks .entry))) (rowsIn rows (now (table .entry))) (now (held .entry)) (from + i)) ⌝ }
-    ensures { λ r. ⌜ (length (now (marks .entry)) ≡ length (now (ranks .entry)) → now (marks .exit) ≡ reachedAsked (length (now (ranks .entry))) (rowsIn rows (now (table .entry))) (now (held .entry)) p) ⌝ }
+    ensures { λ _. ⌜ now (ranks .exit) ≡ ranksOf (length (now (ranks .entry))) (rowsIn rows (now (table .entry))) (now (held .entry)) ⌝ }
+    ensures { λ _. ⌜ now (supports .exit) ≡ tabulate (length (now (supports .entry))) (λ i. supportOf (length (now (ranks .entry))) (rowsIn rows (now (table .entry))) (now (held .entry)) (from + i)) ⌝ }
+    ensures { λ _. ⌜ (length (now (marks .entry)) ≡ length (now (ranks .entry)) → now (marks .exit) ≡ reachedAsked (length (now (ranks .entry))) (rowsIn rows (now (table .entry))) (now (held .entry)) p) ⌝ }
 {
     let places = ranks.len();
     let cells = WIDTH * rows;
@@ -89,7 +85,7 @@ fn propagate_all(
     if rows <= FEW_ROWS {
         let mut links = [0; FEW_CELLS];
         let mut counts = [0; FEW_ROWS];
-        return propagate_in(
+        propagate_in(
             table,
             rows,
             held,
@@ -103,6 +99,7 @@ fn propagate_all(
             &mut queue[..places],
             &mut counts[..rows],
         );
+        return;
     }
     let mut links = [0; CELLS];
     let mut counts = [0; ROWS];
@@ -119,11 +116,11 @@ fn propagate_all(
         &mut links[..cells],
         &mut queue[..places],
         &mut counts[..rows],
-    )
+    );
 }
 
-// The ranks of the literals, and the supports of as many places from `from` on as are lent. Says whether a literal would need a rank
-// above the number of places: refusal 14, which `meaning` proves is never given. Without rows there is nothing to index. `board` has tested the rows.
+// The ranks of the literals, and the supports of as many places from `from` on as are lent. Without rows there is nothing to index. `board` has
+// tested the rows.
 pub fn propagate(
     table: &[i16],
     rows: usize,
@@ -131,25 +128,24 @@ pub fn propagate(
     ranks: &mut [u16],
     from: usize,
     supports: &mut [u16],
-) -> bool
+)
     requires { ⌜ Fit (length (now ranks)) rows (now table) ⌝ }
     requires { ⌜ (length (now ranks) ≤ length (now held)) × (from + length (now supports) ≤ length (now ranks)) ⌝ }
-    ensures { λ r. ⌜ r ≡ rankAbove (length (now (ranks .entry))) (rowsIn rows (now (table .entry))) (now (held .entry)) ⌝ }
-    ensures { λ r. ⌜ now (ranks .exit) ≡ ranksOf (length (now (ranks .entry))) (rowsIn rows (now (table .entry))) (now (held .entry)) ⌝ }
-    ensures { λ r. ⌜ now (supports .exit) ≡ tabulate (length (now (supports .entry))) (λ i. supportOf (length (now (ranks .entry))) (rowsIn rows (now (table .entry))) (now (held .entry)) (from + i)) ⌝ }
+    ensures { λ _. ⌜ now (ranks .exit) ≡ ranksOf (length (now (ranks .entry))) (rowsIn rows (now (table .entry))) (now (held .entry)) ⌝ }
+    ensures { λ _. ⌜ now (supports .exit) ≡ tabulate (length (now (supports .entry))) (λ i. supportOf (length (now (ranks .entry))) (rowsIn rows (now (table .entry))) (now (held .entry)) (from + i)) ⌝ }
 {
     if rows == 0 {
         start_ranks(held, ranks);
         clear(supports);
-        return false;
+        return;
     }
     let mut none = [false; 1];
-    propagate_all(table, rows, held, ranks, from, supports, 0, &mut none[..0])
+    propagate_all(table, rows, held, ranks, from, supports, 0, &mut none[..0]);
 }
 
 // The ranks of the literals, and the premises that the literal at p reaches; where p is no place, those that either literal of the
-// symbol that blame takes reaches, or none where there is no such symbol. Says whether a rank would be too high, as `propagate` does. `board` has
-// tested the rows, and lends a mark for each place, none of them set.
+// symbol that blame takes reaches, or none where there is no such symbol. `board` has tested the rows, and lends a mark for each place, none of them
+// set.
 pub fn trace(
     table: &[i16],
     rows: usize,
@@ -157,14 +153,13 @@ pub fn trace(
     ranks: &mut [u16],
     p: usize,
     marks: &mut [bool],
-) -> bool
+)
     requires { ⌜ Fit (length (now ranks)) rows (now table) ⌝ }
     requires { ⌜ (length (now ranks) ≤ length (now held)) × (length (now marks) ≡ length (now ranks)) ⌝ }
     requires { ⌜ now marks ≡ replicate (length (now ranks)) false ⌝ }
-    ensures { λ r. ⌜ r ≡ rankAbove (length (now (ranks .entry))) (rowsIn rows (now (table .entry))) (now (held .entry)) ⌝ }
-    ensures { λ r. ⌜ now (ranks .exit) ≡ ranksOf (length (now (ranks .entry))) (rowsIn rows (now (table .entry))) (now (held .entry)) ⌝ }
-    ensures { λ r. ⌜ now (marks .exit) ≡ reachedAsked (length (now (ranks .entry))) (rowsIn rows (now (table .entry))) (now (held .entry)) p ⌝ }
+    ensures { λ _. ⌜ now (ranks .exit) ≡ ranksOf (length (now (ranks .entry))) (rowsIn rows (now (table .entry))) (now (held .entry)) ⌝ }
+    ensures { λ _. ⌜ now (marks .exit) ≡ reachedAsked (length (now (ranks .entry))) (rowsIn rows (now (table .entry))) (now (held .entry)) p ⌝ }
 {
     let mut none = [NONE; 1];
-    propagate_all(table, rows, held, ranks, 0, &mut none[..0], p, marks)
+    propagate_all(table, rows, held, ranks, 0, &mut none[..0], p, marks);
 }

@@ -16,7 +16,7 @@ use Rattle.board.specs.declared.Board.{Board}
 use Rattle.board.specs.declared.Outcome.{Outcome}
 use Rattle.board.specs.declared.Outcome.the-variants.{Done, Refused}
 use Rattle.board.specs.declared.rules.Addition.{Addition}
-use Rattle.board.proofs.Explaining.{none-given}
+use Rattle.board.proofs.Answered.{none-given}
 use Rattle.chains.specs.Form.{wholeText}
 use Rattle.text.specs.Reading.{bytesIn}
 use Rattle.text.specs.Adding.{ruledText}

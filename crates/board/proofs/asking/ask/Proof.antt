@@ -12,12 +12,12 @@ use Rattle.literals.proofs.Signed.{back-abs}
 use Rattle.findings.specs.Ranks.{below}
 use Rattle.findings.proofs.Final.{below-derived}
 use Rattle.board.specs.Furnaces.{heldBy}
-use Rattle.board.specs.Ranking.{rowsOn, tooHigh}
+use Rattle.board.specs.Ranking.{rowsOn}
 use Rattle.board.specs.Asking.{askFaults, asked, standing}
 use Rattle.board.proofs.TwoSets.{held-long}
 use Rattle.board.proofs.Arguments.{range-facts}
 use Rattle.board.proofs.Placing.{PlacedAt, placed-at, placed-refused}
-use Rattle.board.proofs.Lending.{rows-fit, high-is, RanksIn, ranks-room, ranks-long, ranks-back}
+use Rattle.board.proofs.Lending.{rows-fit, RanksIn, ranks-room, ranks-long, ranks-back}
 use Rattle.board.proofs.asking.ask.Statement.{statement}
 use Rattle.board.proofs.asking.ask.Tie as tie
 
@@ -45,17 +45,11 @@ long c =
     let s = start (tested c) in
     held-long (s .args .t1) (s .args .furnace) 400 (at (tested c) .is-furnace) (search needs) (search needs) (same c)
 
--- the ranks, and whether one is too high
+-- the ranks
 front : (c : tie.After-propagate) → let s = start (tested (chosen c)) in
     RanksIn (s .args .table .now) (s .args .t1) (s .args .furnace)
     (c .propagate .last .1 .1 .1 .0 ++ drop (2 * s .args .t1 .symbols) (replicate 400 none))
-front c = let h = chosen c in ranks-back _ _ (at (tested h) .good) _ (same h) (c .propagate .ensures .1 .0)
-
-high : (c : tie.After-propagate) → let s = start (tested (chosen c)) in
-    tooHigh (s .args .table .now) (s .args .t1) (s .args .furnace) ≡ c .propagate .result
-high c =
-    let h = chosen c in
-    sym (high-is _ _ (replicate 400 none) (ranks-room _ _ (at (tested h) .good)) _ (same h) (c .propagate .ensures .0))
+front c = let h = chosen c in ranks-back _ _ (at (tested h) .good) _ (same h) (c .propagate .ensures .0)
 
 mul-places : tie.Need-mul-places
 mul-places c = omega (arith, at c .good .sound .symbols)
@@ -73,22 +67,15 @@ propagate-requires c κs =
     let part = ranks-long _ _ g in
     (rows-fit _ _ (replicate 400 none) (ranks-room _ _ g) g, (omega (arith, part, long h, g .sound .symbols), omega (arith, part)))
 
-returns : tie.Need-returns
-unfolding asked askFaults
-returns c =
-    let r = c .before .before .before in
-    let p = at (tested (chosen r)) in
-    rw (p .is-good, p .is-furnace, p .in-range, high r ∙ c .if1 .taken)
-
 array-share-prefix-ranks : tie.Need-array-share-prefix-ranks
-array-share-prefix-ranks c = front (c .before .before .before) .room
+array-share-prefix-ranks c = front (c .before .before) .room
 
 slice-aggregate-standing-by : tie.Need-slice-aggregate-standing-by
-slice-aggregate-standing-by c = sym (front (c .before .before .before .before) .long)
+slice-aggregate-standing-by c = sym (front (c .before .before .before) .long)
 
 standing-by-requires : tie.Need-standing-by-requires
 standing-by-requires c κs =
-    let r = c .before .before .before .before in
+    let r = c .before .before .before in
     let w = tested (chosen r) in
     let p = at w in
     let s = start w in
@@ -97,25 +84,24 @@ standing-by-requires c κs =
     let back = back-abs (s .fits .l) in
     (omega (arith, back, range .0), omega (arith, back, size, range .1), omega (arith, size, p .good .sound .symbols))
 
-returns-2 : tie.Need-returns-2
+returns : tie.Need-returns
 unfolding asked askFaults
-returns-2 c =
+returns c =
     let w = c .before in
     let s = w .before .before .before in
     let own = drop 3 (askFaults (s .args .table .now) (s .args .t1) (s .args .furnace) (s .args .l)) in
     rw (placed-refused _ _ _ (s .fits .l) (w .before .before .place-on .ensures) (w .why .given .1) own)
 
-returns-3 : tie.Need-returns-3
+returns-2 : tie.Need-returns-2
 unfolding asked askFaults
-returns-3 c =
-    let e = c .before .before in
-    let r = e .before .before .before in
+returns-2 c =
+    let r = c .before .before .before .before in
     let w = tested (chosen r) in
     let p = at w in
     let s = start w in
     let b = s .args .t1 in
     let stands = rw (toZ-ofZ (s .fits .l)) at (c .standing-by .ensures) in
-    rw (p .is-good, p .is-furnace, p .in-range, high r ∙ e .if1 .left)
+    rw (p .is-good, p .is-furnace, p .in-range)
     (stands
     ∙ ap (λ known. standing known (placeOf (s .args .l)))
     (ap (below none) (front r .is)
@@ -135,9 +121,8 @@ ask-spec =
     (λ c. search needs)
     (λ c. search needs)
     propagate-requires
-    returns
     array-share-prefix-ranks
     slice-aggregate-standing-by
     standing-by-requires
-    returns-2
-    returns-3)
+    returns
+    returns-2)

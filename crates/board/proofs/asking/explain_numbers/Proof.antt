@@ -9,13 +9,13 @@ use lib.ListN.{length, drop, getD, replicate}
 use Rattle.meaning.specs.Tests.{none}
 use Rattle.meaning.specs.Rounds.{rankOf}
 use Rattle.board.specs.Furnaces.{heldBy}
-use Rattle.board.specs.Ranking.{rowsOn, tooHigh}
+use Rattle.board.specs.Ranking.{rowsOn}
 use Rattle.board.specs.Asking.{explainFaults, reasoned}
 use Rattle.board.specs.declared.Outcome.the-variants.{Done}
 use Rattle.board.proofs.TwoSets.{held-long}
 use Rattle.board.proofs.Placing.{PlacedAt, placed-at, placed-refused}
 use Rattle.board.proofs.Ranked.{hidden, shown}
-use Rattle.board.proofs.Lending.{rows-fit, high-is, supports-are, one-support, RanksIn, rank-at, ranks-room, ranks-long, ranks-back}
+use Rattle.board.proofs.Lending.{rows-fit, supports-are, one-support, RanksIn, rank-at, ranks-room, ranks-long, ranks-back}
 use Rattle.board.proofs.asking.explain_numbers.Statement.{statement}
 use Rattle.board.proofs.asking.explain_numbers.Tie as tie
 
@@ -47,18 +47,14 @@ long c =
     let s = start (tested c) in
     held-long (s .args .t1) (s .args .furnace) 400 (at (tested c) .is-furnace) (search needs) (search needs) (same c)
 
--- the ranks, and whether one is too high
+-- the ranks
 room : (c : tie.After-propagate) → 2 * start (tested (chosen c)) .args .t1 .symbols ≤ length (replicate 400 none)
 room c = ranks-room _ _ (at (tested (chosen c)) .good)
 
 front : (c : tie.After-propagate) → let s = start (tested (chosen c)) in
     RanksIn (s .args .table .now) (s .args .t1) (s .args .furnace)
     (c .propagate .last .1 .1 .1 .0 ++ drop (2 * s .args .t1 .symbols) (replicate 400 none))
-front c = let h = chosen c in ranks-back _ _ (at (tested h) .good) _ (same h) (c .propagate .ensures .1 .0)
-
-high : (c : tie.After-propagate) → let s = start (tested (chosen c)) in
-    tooHigh (s .args .table .now) (s .args .t1) (s .args .furnace) ≡ c .propagate .result
-high c = sym (high-is _ _ (replicate 400 none) (room c) _ (same (chosen c)) (c .propagate .ensures .0))
+front c = let h = chosen c in ranks-back _ _ (at (tested h) .good) _ (same h) (c .propagate .ensures .0)
 
 -- the literal's rank
 rank : (c : tie.After-propagate) → let w = tested (chosen c) in let s = start w in let b = s .args .t1 in
@@ -83,52 +79,42 @@ propagate-requires c κs =
     let part = ranks-long _ _ g in
     (rows-fit _ _ (replicate 400 none) (ranks-room _ _ g) g, (omega (arith, part, long h, g .sound .symbols), omega (arith, part, p .low)))
 
+mul-rank : tie.Need-mul-rank
+mul-rank c = let p = at (tested (chosen (c .before .before))) in omega (arith, p .low, p .good .sound .symbols)
+
+array-read-rank : tie.Need-array-read-rank
+array-read-rank c = let p = at (tested (chosen (c .before .before))) in omega (arith, p .low, p .good .sound .symbols)
+
 returns : tie.Need-returns
 unfolding reasoned explainFaults
 returns c =
     let r = c .before .before .before .before in
-    let p = at (tested (chosen r)) in
-    rw (p .is-good, p .is-furnace, p .in-range, high r ∙ c .before .if1 .taken) (c .unexplained2 .ensures)
-
-mul-rank : tie.Need-mul-rank
-mul-rank c = let p = at (tested (chosen (c .before .before .before))) in omega (arith, p .low, p .good .sound .symbols)
-
-array-read-rank : tie.Need-array-read-rank
-array-read-rank c = let p = at (tested (chosen (c .before .before .before))) in omega (arith, p .low, p .good .sound .symbols)
+    let w = tested (chosen r) in
+    let p = at w in
+    let hides = hidden _ _ _ (small w) (w .p .given .0 .0) (p .low) (inl (sym (rank r) ∙ c .before .if1 .taken)) in
+    rw (p .is-good, p .is-furnace, p .in-range, ← p .place, hides) (c .unexplained2 .ensures)
 
 returns-2 : tie.Need-returns-2
 unfolding reasoned explainFaults
 returns-2 c =
-    let e = c .before .before in
-    let r = e .before .before .before in
+    let r = c .before .before .before .before .before in
     let w = tested (chosen r) in
     let p = at w in
-    let hides = hidden _ _ _ (small w) (w .p .given .0 .0) (p .low) (inl (sym (rank r) ∙ c .before .if2 .taken)) in
-    rw (p .is-good, p .is-furnace, p .in-range, high r ∙ e .if1 .left, ← p .place, hides) (c .unexplained3 .ensures)
+    let hides = hidden _ _ _ (small w) (w .p .given .0 .0) (p .low) (inr (sym (rank r) ∙ c .before .if2 .taken)) in
+    rw (p .is-good, p .is-furnace, p .in-range, ← p .place, hides) (c .unexplained3 .ensures)
 
 returns-3 : tie.Need-returns-3
 unfolding reasoned explainFaults
 returns-3 c =
-    let e = c .before .before .before in
-    let r = e .before .before .before in
-    let w = tested (chosen r) in
-    let p = at w in
-    let hides = hidden _ _ _ (small w) (w .p .given .0 .0) (p .low) (inr (sym (rank r) ∙ c .before .if3 .taken)) in
-    rw (p .is-good, p .is-furnace, p .in-range, high r ∙ e .if1 .left, ← p .place, hides) (c .unexplained4 .ensures)
-
-returns-4 : tie.Need-returns-4
-unfolding reasoned explainFaults
-returns-4 c =
     let w = c .before .before in
     let s = w .before .before .before in
     let own = drop 3 (explainFaults (s .args .table .now) (s .args .t1) (s .args .furnace) (s .args .l)) in
     rw (placed-refused _ _ _ (s .fits .l) (w .before .before .place-on .ensures) (w .why .given .1) own) (c .unexplained .ensures)
 
-returns-5 : tie.Need-returns-5
+returns-4 : tie.Need-returns-4
 unfolding reasoned explainFaults
-returns-5 c =
-    let e = c .before .before in
-    let r = e .before .before .before in
+returns-4 c =
+    let r = c .before .before .before .before in
     let w = tested (chosen r) in
     let p = at w in
     let q = w .p .given .0 .0 in
@@ -137,11 +123,11 @@ returns-5 c =
     let table = s .args .table .now in
     let held = heldBy b (s .args .furnace) in
     let shows =
-    shown (2 * b .symbols) (rowsOn table b) held (small w) q (p .low) (λ e. c .before .if2 .left (rank r ∙ e)) (λ e. c .if3 .left (rank r ∙ e)) in
-    rw (p .is-good, p .is-furnace, p .in-range, high r ∙ e .if1 .left, ← p .place, shows)
+    shown (2 * b .symbols) (rowsOn table b) held (small w) q (p .low) (λ e. c .before .if1 .left (rank r ∙ e)) (λ e. c .if2 .left (rank r ∙ e)) in
+    rw (p .is-good, p .is-furnace, p .in-range, ← p .place, shows)
     (ap₂ (λ (rank row : ℕ). record { outcome = Done; rank = rank; row = row }) (rank r)
     (one-support (2 * b .symbols) (rowsOn table b) held q
-    (supports-are table b (replicate 400 none) (room r) (s .args .furnace) (same (chosen r)) 1 q (r .propagate .ensures .1 .1))))
+    (supports-are table b (replicate 400 none) (room r) (s .args .furnace) (same (chosen r)) 1 q (r .propagate .ensures .1))))
 
 pub explain-numbers-spec : {M : Type 1} → statement M
 explain-numbers-spec =
@@ -157,14 +143,12 @@ explain-numbers-spec =
     slice-aggregate-propagate
     (λ c. search needs)
     propagate-requires
-    (λ c κs. search needs)
-    returns
     mul-rank
     array-read-rank
     (λ c κs. search needs)
-    returns-2
+    returns
     (λ c κs. search needs)
-    returns-3
+    returns-2
     (λ c. search needs)
-    returns-4
-    returns-5)
+    returns-3
+    returns-4)

@@ -10,7 +10,7 @@ use borrow.Author.Tests.{not-true, not-false, le-leb, lt-leb}
 use lib.ListN.{length, drop, replicate}
 use Rattle.meaning.specs.Tests.{none, first}
 use Rattle.meaning.specs.Rounds.{ranksOf}
-use Rattle.literals.specs.declared.refusal.Refusal.the-variants.{BadBoard, BadFurnace, TableTooShort, RankTooHigh, NothingToShow}
+use Rattle.literals.specs.declared.refusal.Refusal.the-variants.{BadBoard, BadFurnace, TableTooShort, NothingToShow}
 use Rattle.findings.specs.Ranks.{clashIn}
 use Rattle.findings.proofs.Clashes.{clash-final, conflict-none, conflict-some}
 use Rattle.board.specs.Furnaces.{isFurnace, heldBy}
@@ -70,19 +70,19 @@ long c =
 
 -- the ranks and the marks as they come back
 back : (c : tie.After-trace) → let s = start (tested c) in let n = 2 * s .args .t1 .symbols in
-    Traced (s .args .table .now) (s .args .t1) (s .args .furnace) none (c .trace .result)
+    Traced (s .args .table .now) (s .args .t1) (s .args .furnace) none
     (c .trace .last .1 .1 .1 .0 ++ drop n (replicate 400 none))
     (c .trace .last .1 .1 .1 .1 .1 .0 ++ drop n (replicate 400 false))
 back c =
     let s = start (tested c) in
     let told = c .trace .ensures in
     come-back (s .args .table .now) (s .args .t1) (good (tested c)) (s .args .furnace) none
-    (same (chosen c)) (told .0) (told .1 .0) (told .1 .1)
+    (same (chosen c)) (told .0) (told .1)
     (c .trace .kept .1 .1 .1 .1 .1 .0)
 
 -- a symbol that clashes
 abbrev tracing : tie.After-first-clash → tie.After-trace
-tracing c = c .before .before .before .before .before
+tracing c = c .before .before .before .before
 
 clash : (c : tie.After-first-clash) → let s = start (tested (tracing c)) in let b = s .args .t1 in
     c .first-clash .result ≡ first (clashIn (ranksOf (2 * b .symbols) (rowsOn (s .args .table .now) b) (heldBy b (s .args .furnace)))) (b .symbols)
@@ -122,34 +122,26 @@ slice-aggregate-trace-2 c = sym (marks-long _ _ (good (passed (c .before .before
 trace-requires : tie.Need-trace-requires
 trace-requires c κs = let h = c .before .before in can-trace _ _ (good (passed h)) (h .premises .result .now) (long h)
 
-returns-4 : tie.Need-returns-4
-unfolding blameOutcome blameFaults
-returns-4 c =
-    let r = c .before .before .before in
-    blame-refused _ _ _ _ RankTooHigh
-    (rw (is-good (tested r), furnace (tested r), le-leb _ _ (enough r), back r .is-high ∙ c .if4 .taken))
-
 array-share-prefix-ranks : tie.Need-array-share-prefix-ranks
-array-share-prefix-ranks c = back (c .before .before .before) .ranks .room
+array-share-prefix-ranks c = back (c .before .before) .ranks .room
 
 slice-aggregate-first-clash : tie.Need-slice-aggregate-first-clash
-slice-aggregate-first-clash c = sym (back (c .before .before .before .before) .ranks .long)
+slice-aggregate-first-clash c = sym (back (c .before .before .before) .ranks .long)
 
 first-clash-requires : tie.Need-first-clash-requires
 first-clash-requires c κs =
-    let r = c .before .before .before .before in
+    let r = c .before .before .before in
     omega (arith, back r .ranks .long, good (tested r) .sound .symbols)
 
-returns-5 : tie.Need-returns-5
+returns-4 : tie.Need-returns-4
 unfolding blameOutcome blameFaults
-returns-5 c =
+returns-4 c =
     let f = c .before in
-    let e = f .before .before in
     let r = tracing f in
     let g = tested r in
-    let clear = conflict-none _ _ _ (small g) (sym (clash f) ∙ c .if5 .taken) in
+    let clear = conflict-none _ _ _ (small g) (sym (clash f) ∙ c .if4 .taken) in
     blame-refused _ _ _ _ NothingToShow
-    (rw (is-good g, furnace g, le-leb _ _ (enough r), back r .is-high ∙ e .if4 .left, clear))
+    (rw (is-good g, furnace g, le-leb _ _ (enough r), clear))
 
 array-share-prefix-reached : tie.Need-array-share-prefix-reached
 array-share-prefix-reached c = back (tracing (c .before)) .marks .room
@@ -162,23 +154,22 @@ write-marks-requires c κs =
     let r = tracing (c .before .before .before) in
     omega (arith, back r .marks .long, enough r)
 
-returns-6 : tie.Need-returns-6
+returns-5 : tie.Need-returns-5
 unfolding blameOutcome blameFaults
-returns-6 c =
+returns-5 c =
     let m = c .before .before in
     let z = m .before .before .before in
     let f = z .before in
-    let e = f .before .before in
     let r = tracing f in
     let g = tested r in
     let s = start g in
     let b = s .args .t1 in
     let rows = rowsOn (s .args .table .now) b in
     let held = heldBy b (s .args .furnace) in
-    let some : first (clashIn (ranksOf (2 * b .symbols) rows held)) (b .symbols) ≡ none → ⊥ = λ e. z .if5 .left (clash f ∙ e) in
+    let some : first (clashIn (ranksOf (2 * b .symbols) rows held)) (b .symbols) ≡ none → ⊥ = λ e. z .if4 .left (clash f ∙ e) in
     let shows = conflict-some (b .symbols) rows held (small g) some in
     blame-done (s .args .table .now) b (s .args .furnace) (s .args .marks .now) none (small g) (omega (arith, small g)) some
-    (rw (is-good g, furnace g, le-leb _ _ (enough r), back r .is-high ∙ e .if4 .left, shows))
+    (rw (is-good g, furnace g, le-leb _ _ (enough r), shows))
     (back r .marks .is)
     (m .write-marks .ensures)
 
@@ -199,14 +190,13 @@ blame-spec =
     array-borrow-prefix-reached
     slice-aggregate-trace-2
     trace-requires
-    returns-4
     array-share-prefix-ranks
     slice-aggregate-first-clash
     first-clash-requires
     (λ c. search needs)
-    returns-5
+    returns-4
     array-share-prefix-reached
     slice-aggregate-write-marks
     write-marks-requires
     (λ c. search needs)
-    returns-6)
+    returns-5)

@@ -9,7 +9,7 @@ use borrow.Author.Tests.{le-leb, lt-leb}
 use lib.ListN.{length, drop, getD, replicate}
 use Rattle.meaning.specs.Tests.{none}
 use Rattle.meaning.specs.Rounds.{rankOf}
-use Rattle.literals.specs.declared.refusal.Refusal.the-variants.{TableTooShort, RankTooHigh, NothingToShow}
+use Rattle.literals.specs.declared.refusal.Refusal.the-variants.{TableTooShort, NothingToShow}
 use Rattle.board.specs.Furnaces.{heldBy}
 use Rattle.board.specs.Ranking.{rowsOn}
 use Rattle.board.specs.Grounds.{groundFaults, groundOutcome}
@@ -58,7 +58,7 @@ long c =
 
 -- the ranks and the marks as they come back
 back : (c : tie.After-trace) → let w = tested c in let s = start w in let n = 2 * s .args .t1 .symbols in
-    Traced (s .args .table .now) (s .args .t1) (s .args .furnace) (w .p .given .0 .0) (c .trace .result)
+    Traced (s .args .table .now) (s .args .t1) (s .args .furnace) (w .p .given .0 .0)
     (c .trace .last .1 .1 .1 .0 ++ drop n (replicate 400 none))
     (c .trace .last .1 .1 .1 .1 .1 .0 ++ drop n (replicate 400 false))
 back c =
@@ -66,7 +66,7 @@ back c =
     let s = start w in
     let told = c .trace .ensures in
     come-back (s .args .table .now) (s .args .t1) (at w .good) (s .args .furnace) (w .p .given .0 .0)
-    (same (chosen c)) (told .0) (told .1 .0) (told .1 .1)
+    (same (chosen c)) (told .0) (told .1)
     (c .trace .kept .1 .1 .1 .1 .1 .0)
 
 -- the literal's rank
@@ -99,63 +99,53 @@ slice-aggregate-trace-2 c = sym (marks-long _ _ (at (placed (c .before .before))
 trace-requires : tie.Need-trace-requires
 trace-requires c κs = let h = c .before .before in can-trace _ _ (at (placed h) .good) (h .premises .result .now) (long h)
 
+mul-if2 : tie.Need-mul-if2
+mul-if2 c = let p = at (tested (c .before .before)) in omega (arith, p .low, p .good .sound .symbols)
+
+array-read-if2 : tie.Need-array-read-if2
+array-read-if2 c = let p = at (tested (c .before .before)) in omega (arith, p .low, p .good .sound .symbols)
+
 returns-2 : tie.Need-returns-2
 unfolding groundOutcome groundFaults
 returns-2 c =
     let r = c .before .before .before in
-    let p = at (tested r) in
-    ground-refused _ _ _ _ _ RankTooHigh
-    (rw (p .is-good, p .is-furnace, p .in-range, le-leb _ _ (enough r), back r .is-high ∙ c .if2 .taken))
+    let w = tested r in
+    let p = at w in
+    let hides = not-derived _ _ _ (small w) (w .p .given .0 .0) (sym (rank r) ∙ c .if2 .taken) in
+    ground-refused _ _ _ _ _ NothingToShow
+    (rw (p .is-good, p .is-furnace, p .in-range, le-leb _ _ (enough r), ← p .place, hides))
 
-mul-if3 : tie.Need-mul-if3
-mul-if3 c = let p = at (tested (c .before .before .before)) in omega (arith, p .low, p .good .sound .symbols)
+array-share-prefix-reached : tie.Need-array-share-prefix-reached
+array-share-prefix-reached c = back (c .before .before .before) .marks .room
 
-array-read-if3 : tie.Need-array-read-if3
-array-read-if3 c = let p = at (tested (c .before .before .before)) in omega (arith, p .low, p .good .sound .symbols)
+slice-aggregate-write-marks : tie.Need-slice-aggregate-write-marks
+slice-aggregate-write-marks c = sym (back (c .before .before .before .before) .marks .long)
+
+write-marks-requires : tie.Need-write-marks-requires
+write-marks-requires c κs =
+    let r = c .before .before .before .before .before in
+    omega (arith, back r .marks .long, enough r)
 
 returns-3 : tie.Need-returns-3
 unfolding groundOutcome groundFaults
 returns-3 c =
-    let e = c .before in
-    let r = e .before .before .before in
-    let w = tested r in
-    let p = at w in
-    let hides = not-derived _ _ _ (small w) (w .p .given .0 .0) (sym (rank r) ∙ c .if3 .taken) in
-    ground-refused _ _ _ _ _ NothingToShow
-    (rw (p .is-good, p .is-furnace, p .in-range, le-leb _ _ (enough r), back r .is-high ∙ e .if2 .left, ← p .place, hides))
-
-array-share-prefix-reached : tie.Need-array-share-prefix-reached
-array-share-prefix-reached c = back (c .before .before .before .before) .marks .room
-
-slice-aggregate-write-marks : tie.Need-slice-aggregate-write-marks
-slice-aggregate-write-marks c = sym (back (c .before .before .before .before .before) .marks .long)
-
-write-marks-requires : tie.Need-write-marks-requires
-write-marks-requires c κs =
-    let r = c .before .before .before .before .before .before in
-    omega (arith, back r .marks .long, enough r)
-
-returns-4 : tie.Need-returns-4
-unfolding groundOutcome groundFaults
-returns-4 c =
     let w = c .before in
     let s = w .before .before .before .before in
     let own = drop 3 (groundFaults (s .args .table .now) (s .args .t1) (s .args .furnace) (s .args .l) _) in
     ground-refused _ _ _ _ _ _ (placed-refused _ _ _ (s .fits .l) (w .before .before .place-on .ensures) (w .why .given .1) own)
 
-returns-5 : tie.Need-returns-5
+returns-4 : tie.Need-returns-4
 unfolding groundOutcome groundFaults
-returns-5 c =
+returns-4 c =
     let m = c .before .before in
     let z = m .before .before .before in
-    let e = z .before in
-    let r = e .before .before .before in
+    let r = z .before .before .before in
     let w = tested r in
     let p = at w in
     let s = start w in
-    let shows = is-derived _ _ _ (small w) (w .p .given .0 .0) (λ e. z .if3 .left (rank r ∙ e)) in
+    let shows = is-derived _ _ _ (small w) (w .p .given .0 .0) (λ e. z .if2 .left (rank r ∙ e)) in
     ground-done (s .args .table .now) (s .args .t1) (s .args .furnace) (s .args .marks .now) (s .args .l) (w .p .given .0 .0) (p .place) (p .low)
-    (rw (p .is-good, p .is-furnace, p .in-range, le-leb _ _ (enough r), back r .is-high ∙ e .if2 .left, ← p .place, shows))
+    (rw (p .is-good, p .is-furnace, p .in-range, le-leb _ _ (enough r), ← p .place, shows))
     (back r .marks .is)
     (m .write-marks .ensures)
 
@@ -174,13 +164,12 @@ ground-spec =
     array-borrow-prefix-reached
     slice-aggregate-trace-2
     trace-requires
+    mul-if2
+    array-read-if2
     returns-2
-    mul-if3
-    array-read-if3
-    returns-3
     array-share-prefix-reached
     slice-aggregate-write-marks
     write-marks-requires
-    returns-4
+    returns-3
     (λ c. search needs)
-    returns-5)
+    returns-4)

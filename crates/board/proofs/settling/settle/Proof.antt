@@ -2,7 +2,7 @@
 use borrow.Author.Needs.{needs}
 use mathlib.Core.Path.{_≡_, sym, ap₂, _∙_}
 use mathlib.Core.Logic.{⊎-elim}
-use mathlib.Core.Bool.{true, true≢false}
+use mathlib.Core.Bool.{true}
 use mathlib.Core.List.{_++_}
 use native.Mathlib.Omega.{arith}
 use Prim.Native.Nat.{_*_, _≤_}
@@ -10,7 +10,6 @@ use borrow.Author.Tests.{not-true, not-false, ltb-true, ltb-false, le-leb, lt-le
 use lib.ListN.{length, take, drop}
 use lib.Seq.{length-take-le}
 use Rattle.meaning.specs.Rounds.{ranksOf}
-use Rattle.meaning.proofs.Ranks.{rank-above-never}
 use Rattle.literals.specs.declared.refusal.Refusal.the-variants.{BadBoard, TableTooShort, BadFurnace}
 use Rattle.findings.specs.Ranks.{labelsFrom}
 use Rattle.board.specs.Furnaces.{isFurnace, heldBy}
@@ -73,10 +72,6 @@ supports-part : (c : tie.Else5) → let s = start (first c) in let b = s .args .
     length (take (2 * b .symbols) (s .args .supports .now)) ≡ 2 * b .symbols
 supports-part c = length-take-le _ _ (long c .2)
 
--- the test that a rank is too high never passes
-never : (c : tie.Then6) → ⊥
-never c = true≢false (sym (c .if6 .taken) ∙ c .before .before .before .before .before .propagate .ensures .0 ∙ rank-above-never _ _ _)
-
 -- the ranks, as they come back
 front : (c : tie.After-propagate) → let s = start (first (tested c)) in let n = 2 * s .args .t1 .symbols in
     Front n (c .propagate .last .1 .1 .1 .0) (c .propagate .last .1 .1 .1 .0 ++ drop n (s .args .ranks .now))
@@ -92,7 +87,7 @@ ranks-are : (c : tie.After-propagate) → let s = start (first (tested c)) in le
 ranks-are c =
     let e = tested c in
     let s = start (first e) in
-    filled-is (s .args .table .now) (s .args .t1) (s .args .ranks .now) (long e .1) (s .args .furnace) (same (chosen c)) (c .propagate .ensures .1 .0)
+    filled-is (s .args .table .now) (s .args .t1) (s .args .ranks .now) (long e .1) (s .args .furnace) (same (chosen c)) (c .propagate .ensures .0)
 
 returns : tie.Need-returns
 unfolding settleOutcome settleFaults
@@ -149,27 +144,27 @@ propagate-requires c κs =
     )
 
 slice-reshare-prefix-write-labels : tie.Need-slice-reshare-prefix-write-labels
-slice-reshare-prefix-write-labels c = front (c .before .before .before .before .before) .room
+slice-reshare-prefix-write-labels c = front (c .before .before .before .before) .room
 
 slice-aggregate-write-labels : tie.Need-slice-aggregate-write-labels
-slice-aggregate-write-labels c = sym (front (c .before .before .before .before .before .before) .long)
+slice-aggregate-write-labels c = sym (front (c .before .before .before .before .before) .long)
 
 slice-relend-prefix-write-labels : tie.Need-slice-relend-prefix-write-labels
-slice-relend-prefix-write-labels c = long (tested (c .before .before .before .before .before .before)) .0
+slice-relend-prefix-write-labels c = long (tested (c .before .before .before .before .before)) .0
 
 slice-aggregate-write-labels-2 : tie.Need-slice-aggregate-write-labels-2
-slice-aggregate-write-labels-2 c = sym (labels-part (tested (c .before .before .before .before .before .before .before)))
+slice-aggregate-write-labels-2 c = sym (labels-part (tested (c .before .before .before .before .before .before)))
 
 write-labels-requires : tie.Need-write-labels-requires
 write-labels-requires c κs =
-    let r = c .before .before .before .before .before .before .before in
+    let r = c .before .before .before .before .before .before in
     omega (arith, front r .long, labels-part (tested r))
 
-returns-5 : tie.Need-returns-5
+returns-4 : tie.Need-returns-4
 unfolding settleOutcome settleFaults
-returns-5 c =
+returns-4 c =
     let w = c .before .before in
-    let r = w .before .before .before .before .before .before .before .before in
+    let r = w .before .before .before .before .before .before .before in
     let e = tested r in
     let g = first e in
     let s = start g in
@@ -177,13 +172,12 @@ returns-5 c =
     let table = s .args .table .now in
     let held = heldBy b (s .args .furnace) in
     settle-done table b (s .args .furnace) (s .args .labels .now) (s .args .ranks .now) (s .args .supports .now) (omega (arith, good g .sound .symbols))
-    (rw
-    (is-good g, furnace g, le-leb _ _ (long e .0), le-leb _ _ (long e .1), le-leb _ _ (long e .2), rank-above-never (2 * b .symbols) (rowsOn table b) held))
+    (rw (is-good g, furnace g, le-leb _ _ (long e .0), le-leb _ _ (long e .1), le-leb _ _ (long e .2)))
     (w .write-labels .ensures ∙ ap₂ labelsFrom (labels-part e) (front r .is ∙ ranks-are r))
     (ranks-are r)
     (all-supports (2 * b .symbols) (rowsOn table b) held (supports-part e)
     (supports-are table b (s .args .ranks .now) (long e .1) (s .args .furnace) (same (chosen r)) (length (take (2 * b .symbols) (s .args .supports .now))) 0
-    (r .propagate .ensures .1 .1)))
+    (r .propagate .ensures .1)))
 
 pub settle-spec : {M : Type 1} → statement M
 settle-spec =
@@ -201,9 +195,6 @@ settle-spec =
     slice-relend-prefix-propagate-2
     slice-aggregate-propagate-2
     propagate-requires
-    (λ c. absurd (never c))
-    (λ c. absurd (never c))
-    (λ c. absurd (never c))
     slice-reshare-prefix-write-labels
     slice-aggregate-write-labels
     slice-relend-prefix-write-labels
@@ -212,4 +203,4 @@ settle-spec =
     (λ c. search needs)
     (λ c. search needs)
     (λ c. search needs)
-    returns-5)
+    returns-4)

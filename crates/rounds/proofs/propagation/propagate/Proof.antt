@@ -1,9 +1,8 @@
 -- `rounds::propagation::propagate` meets its contract: without rows only the premises have a rank, and nothing has a support.
 use borrow.Author.Needs.{needs}
-use mathlib.Core.Path.{sym, _∙_}
+use mathlib.Core.Path.{_∙_}
 use native.Mathlib.Omega.{arith}
 use lib.ListN.{length}
-use Rattle.meaning.proofs.Ranks.{rank-above-never}
 use Rattle.literals.specs.Row.{rowsIn}
 use Rattle.literals.proofs.Scanning.{few-places}
 use Rattle.findings.proofs.Final.{no-supports}
@@ -24,8 +23,8 @@ returns c =
     let a = s .args in
     let places = length (a .ranks .now) in
     rw (t .if1 .taken) (
-      sym (rank-above-never places (rowsIn 0 (a .table .now)) (a .held .now)),
-      (r .start-ranks .ensures ∙ no-rows places (a .held .now) (omega (arith, few-places (s .pre .0))), e .clear .ensures ∙ no-supports places (a .held .now) (length (a .supports .now)) (a .from)),
+      r .start-ranks .ensures ∙ no-rows places (a .held .now) (omega (arith, few-places (s .pre .0))),
+      e .clear .ensures ∙ no-supports places (a .held .now) (length (a .supports .now)) (a .from),
     )
 
 propagate-all-requires : tie.Need-propagate-all-requires

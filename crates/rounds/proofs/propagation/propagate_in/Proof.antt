@@ -1,11 +1,9 @@
 -- `rounds::propagation::propagate_in` meets its contract: the index is filled, the ranks are written by it, and the supports and marks from both.
 use borrow.Author.Needs.{needs}
-use borrow.Author.Tests.{le-ltb}
 use mathlib.Core.Path.{_≡_, sym, ap, _∙_}
 use mathlib.Core.Logic.{⊎-elim}
 use native.Mathlib.Omega.{arith}
 use lib.ListN.{length, length-replicate}
-use Rattle.meaning.proofs.Ranks.{rank-above-never}
 use Rattle.literals.specs.Row.{rowsIn, Fit}
 use Rattle.literals.proofs.Scanning.{few-places}
 use Rattle.index.specs.Index.{headsOf, Index}
@@ -39,7 +37,11 @@ same : (r : tie.After-rank-all) → length (r .rank-all .last .1 .1 .1 .1 .1 .0)
 same r = r .rank-all .kept .1 .1 .1 .1 .1 .0
 
 abbrev ranking : tie.After-write-supports → tie.After-rank-all
-ranking w = w .before .before .before .before .before .before .before .before .before .before .before .before
+ranking w = w .before .before .before .before .before .before .before .before .before .before .before .before .before
+
+-- where what is reached is marked, or nothing is asked
+abbrev marked : tie.After-write-supports → tie.Joined1
+marked w = w .before .before .before .before .before .before
 
 fill-requires : tie.Need-fill-requires
 fill-requires c κs =
@@ -54,20 +56,10 @@ rank-all-requires c κs =
     let s = start f in
     (s .pre .0, (index f, ((s .pre .1 .0 .0, s .pre .1 .1 .1 .1 .1), f .fill .ensures .1 .1)))
 
-write-supports-requires : tie.Need-write-supports-requires
-write-supports-requires c κs =
-    let r = c .before .before .before .before .before .before .before .before .before .before .before in
-    let f = filling r in
-    let s = start f in
-    let fit : Fit (length (r .rank-all .last .1 .1 .1 .1 .1 .0)) (s .args .rows) (s .args .table .now) = rw (same r) (s .pre .0) in
-    let all = r .rank-all .ensures .1 in
-    let queue = r .rank-all .kept .1 .1 .1 .1 .1 .1 .0 in
-    (fit, (rw (same r) (index f), (omega (arith, s .pre .1 .0 .1, same r), (all, omega (arith, all .few, same r, s .pre .1 .1 .1 .1 .1, queue)))))
-
 reach-asked-requires : tie.Need-reach-asked-requires
 reach-asked-requires c κs =
     let t = c .before .before .before .before in
-    let r = ranking (t .before .before .before) in
+    let r = t .before .before .before .before .before .before .before in
     let f = filling r in
     let s = start f in
     let a = s .args in
@@ -75,29 +67,37 @@ reach-asked-requires c κs =
     let fit : Fit (length (a .marks .now)) (a .rows) (a .table .now) = rw l (s .pre .0) in
     (fit, (rw l (index f), (omega (arith, l, s .pre .1 .0 .0), (rw l (r .rank-all .ensures .0), rw l (s .pre .1 .1 .0 l)))))
 
+write-supports-requires : tie.Need-write-supports-requires
+write-supports-requires c κs =
+    let r = c .before .before .before .before .before .before .before .before .before .before .before .before in
+    let f = filling r in
+    let s = start f in
+    let fit : Fit (length (r .rank-all .last .1 .1 .1 .1 .1 .0)) (s .args .rows) (s .args .table .now) = rw (same r) (s .pre .0) in
+    let all = r .rank-all .ensures .1 in
+    let queue = r .rank-all .kept .1 .1 .1 .1 .1 .1 .0 in
+    (fit, (rw (same r) (index f), (omega (arith, s .pre .1 .0 .1, same r), (all, omega (arith, all .few, same r, s .pre .1 .1 .1 .1 .1, queue)))))
+
 same-length-3 : tie.Need-same-length-3
-same-length-3 c = ⊎-elim (λ y. ap length (y .8) ∙ y .5 .kept .1 .1 .1 .1 .1 .1 .1 .0) (λ n. ap length (n .1)) (c .if1 .came)
+same-length-3 c =
+    ⊎-elim (λ y. ap length (y .8) ∙ y .5 .kept .1 .1 .1 .1 .1 .1 .1 .0) (λ n. ap length (n .1)) (marked (c .before .before) .if1 .came)
 
 returns : tie.Need-returns
 returns c =
-    let w = c .before .before .before in
+    let w = c .before .before in
     let r = ranking w in
     let s = start (filling r) in
     let a = s .args in
     let places = length (a .ranks .now) in
     let rows = rowsIn (a .rows) (a .table .now) in
-    let told = r .rank-all .ensures in (
-      le-ltb (length (r .rank-all .last .1 .1 .1 .1 .1 .0)) (r .rank-all .result) (told .1 .few) ∙ sym (rank-above-never places rows (a .held .now)),
+    let ranks = r .rank-all .ensures .0 in (
+      ranks,
       (
-        told .0,
-        (
-          w .write-supports .ensures
-              ∙ supports-are places rows (a .held .now) (omega (arith, few-places (s .pre .0))) (told .0) (length (a .supports .now)) (a .from) (s .pre .1 .0 .1),
-          λ all. ⊎-elim
-              (λ y. y .8 ∙ y .5 .ensures ∙ ap (λ n. reachedAsked n rows (a .held .now) (a .p)) all)
-              (λ n. absurd (n .0 .left (all ∙ sym (same r))))
-              (c .if1 .came),
-        ),
+        w .write-supports .ensures
+            ∙ supports-are places rows (a .held .now) (omega (arith, few-places (s .pre .0))) ranks (length (a .supports .now)) (a .from) (s .pre .1 .0 .1),
+        λ all. ⊎-elim
+            (λ y. y .8 ∙ y .5 .ensures ∙ ap (λ n. reachedAsked n rows (a .held .now) (a .p)) all)
+            (λ n. absurd (n .0 .left (all ∙ sym (same r))))
+            (marked w .if1 .came),
       ),
     )
 
@@ -107,8 +107,8 @@ propagate-in-spec =
     (tie.spec
     fill-requires
     rank-all-requires
-    write-supports-requires
     reach-asked-requires
+    write-supports-requires
     (λ c. search needs)
     (λ c. search needs)
     same-length-3

@@ -14,7 +14,7 @@ returns c =
     let w = c .before .before .before .before .before in
     let s = w .before .before .before .before .before .before .before in
     let told = w .propagate-all .ensures in
-    (told .0, (told .1 .0, told .1 .1 .1 (s .pre .1 .0 .1)))
+    (told .0, told .1 .1 (s .pre .1 .0 .1))
 
 pub trace-spec : {M : Type 1} → statement M
 trace-spec =

@@ -1,0 +1,41 @@
+/* What document 02's Ticket 7 says of every answer, tested on the library's own and without the model: "No rank can exceed 2S", and 14 is out of the
+ * table of refusals. */
+#include <stdio.h>
+
+#include "steps.h"
+
+enum { TAKEN_OUT = 14, LAST_REFUSAL = 16 };
+
+/* True for 0 and the numbers of refusals; notes another one. */
+bool number_is_known(Play *play, unsigned number) {
+    if (number <= LAST_REFUSAL && number != TAKEN_OUT) return true;
+    snprintf(play->difference, sizeof play->difference, "refusal: library %u, and no refusal has that number", number);
+    return false;
+}
+
+/* True if each rank of a good settle is at most 2S, or 65535 for none; notes the first that is not. Where S itself is too large, only the places that
+ * there are count. */
+bool ranks_are_bounded(Play *play, const uint16_t *ranks, unsigned symbols) {
+    unsigned most = 2 * symbols;
+    for (unsigned p = 0; p < most && p < PLACES; p++) {
+        if (ranks[p] <= most || ranks[p] == NONE) continue;
+        snprintf(play->difference, sizeof play->difference, "ranks place %u: library %u, above 2S = %u and not %u", p, ranks[p], most, NONE);
+        return false;
+    }
+    return true;
+}
+
+/* True if the rank of a good explain is from 1 to 2S; notes it where it is not. */
+static bool reason_is_bounded(Play *play, unsigned rank, unsigned symbols) {
+    if (rank >= 1 && rank <= 2 * symbols) return true;
+    snprintf(play->difference, sizeof play->difference, "rank of the reason: library %u, not from 1 to 2S = %u", rank, 2 * symbols);
+    return false;
+}
+
+/* True if nothing that the library told in a step is ruled out, on a board of so many symbols and with these tables written. */
+bool answer_is_bounded(Play *play, const Step *step, const Outcome *told, unsigned symbols, const Tables *tables) {
+    if (!number_is_known(play, told->refusal)) return false;
+    if (told->refusal != 0) return true;
+    if (step->kind == SETTLE) return ranks_are_bounded(play, tables->ranks + GUARD, symbols);
+    return step->kind != EXPLAIN || reason_is_bounded(play, told->rank, symbols);
+}
