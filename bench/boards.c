@@ -5,7 +5,7 @@
 
 #include "plain.h"
 
-enum { WIDTH = TUP_ROW_WIDTH };
+enum { WIDTH = TUP_ROW_WIDTH, LITERALS = TUP_ROW_LITERALS };
 
 static const uint8_t implication[] = {0x14, 0x10, 1, 0x10, 2};
 static const uint8_t parity[] = {0x15, 0x15, 0x15, 0x15, 0x15, 0x15, 0x15, 0x10, 1, 0x10, 2, 0x10, 3, 0x10, 4, 0x10, 5, 0x10, 6, 0x10, 7, 0x10, 8};
@@ -29,9 +29,16 @@ static void start(unsigned symbols) {
     state = 1;
 }
 
+/* The next row, from a rule of its own. */
+static int16_t *add_row(void) {
+    int16_t *row = now.table + WIDTH * now.board.rows++;
+    row[LITERALS] = (int16_t)++now.board.rules;
+    return row;
+}
+
 /* Adds a row of so many literals from symbol `from` on: all but one negated, as an implication has them. */
 static void add_random_row(unsigned from, unsigned length) {
-    int16_t *row = now.table + WIDTH * now.board.rows++;
+    int16_t *row = add_row();
     unsigned symbols = now.board.symbols - from + 1, head = draw(length), used = 0;
     for (unsigned i = 0; i < symbols && used < length; i++) {
         if (draw(symbols - i) >= length - used) continue;
@@ -42,7 +49,7 @@ static void add_random_row(unsigned from, unsigned length) {
 
 /* Adds the row -i, i+1. */
 static void add_link(unsigned i) {
-    int16_t *row = now.table + WIDTH * now.board.rows++;
+    int16_t *row = add_row();
     row[0] = (int16_t)-(int)i;
     row[1] = (int16_t)(i + 1);
 }

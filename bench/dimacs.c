@@ -6,7 +6,7 @@
 
 #include "plain.h"
 
-enum { WIDTH = TUP_ROW_WIDTH, LARGEST = 32767 };
+enum { WIDTH = TUP_ROW_WIDTH, LITERALS = TUP_ROW_LITERALS, LARGEST = 32767 };
 
 /* ---- Reading ---- */
 
@@ -18,7 +18,7 @@ typedef struct reader {
 
 /* A clause: its literals by rising symbols, each once. */
 typedef struct clause {
-    int16_t literal[WIDTH];
+    int16_t literal[LITERALS];
     unsigned count;
     bool beyond, many, always; /* a symbol beyond S; a ninth symbol; a literal and its opposite */
 } clause;
@@ -92,7 +92,7 @@ static inline void insert(clause *c, int literal, int symbols) {
         c->always |= c->literal[i - 1] != literal;
         return;
     }
-    if (c->count == WIDTH) {
+    if (c->count == LITERALS) {
         c->many = true;
         return;
     }
@@ -111,12 +111,18 @@ static inline bool read_clause(reader *in, clause *c, int symbols) {
     }
 }
 
-/* The refusal of a clause where so many rows are in use. */
-static inline uint8_t clause_refusal(const clause *c, size_t rows, size_t lent) {
+/* Writes the clause as a row from the rule of this number. */
+static inline void write_row(const clause *c, int rule, int16_t *row) {
+    memcpy(row, c->literal, sizeof c->literal);
+    row[LITERALS] = (int16_t)rule;
+}
+
+/* The refusal of a clause where so many rows are in use and so many rules are counted. */
+static inline uint8_t clause_refusal(const clause *c, size_t rows, size_t lent, int rules) {
     if (c->beyond) return 2;
     if (c->many) return 7;
     if (c->count == 0) return 8;
-    return !c->always && rows >= lent ? 9 : 0;
+    return (!c->always && rows >= lent) || rules == TUP_MOST_RULES ? 9 : 0;
 }
 
 /* A reading refused after so many clauses. */
@@ -128,6 +134,7 @@ static tup_reading refused(uint8_t refusal, size_t clauses, const tup_board *boa
 static tup_reading done(tup_board board, int clauses, size_t rows) {
     tup_reading reading = {.refusal = 0, .clauses = (uint16_t)clauses, .added = (uint16_t)(rows - board.rows), .board = board};
     reading.board.rows = (uint16_t)rows;
+    reading.board.rules = (uint16_t)(board.rules + clauses);
     plain_tidy(&reading.board);
     return reading;
 }
@@ -144,7 +151,7 @@ tup_reading plain_read_dimacs(tup_board board, int16_t *table, size_t numbers, c
     for (int n = 0; n < in.clauses; n++) {
         if (!read_clause(&in, &c, board.symbols)) return refused(15, 0, &board);
         if (fault != 0) continue;
-        fault = clause_refusal(&c, rows, lent);
+        fault = clause_refusal(&c, rows, lent, board.rules + n);
         at_fault = n;
         rows += !c.always;
     }
@@ -154,7 +161,7 @@ tup_reading plain_read_dimacs(tup_board board, int16_t *table, size_t numbers, c
     rows = board.rows;
     for (int n = 0; n < in.clauses; n++) {
         read_clause(&in, &c, board.symbols);
-        if (!c.always) memcpy(table + WIDTH * rows++, c.literal, sizeof c.literal);
+        if (!c.always) write_row(&c, board.rules + n + 1, table + WIDTH * rows++);
     }
     return done(board, in.clauses, rows);
 }
@@ -171,9 +178,9 @@ tup_reading plain_read_dimacs_once(tup_board board, int16_t *table, size_t numbe
     for (int n = 0; n < in.clauses; n++) {
         if (!read_clause(&in, &c, board.symbols)) return refused(15, 0, &board);
         if (fault != 0) continue;
-        fault = clause_refusal(&c, board.rows + added, lent);
+        fault = clause_refusal(&c, board.rows + added, lent, board.rules + n);
         at_fault = n;
-        if (fault == 0 && !c.always) memcpy(aside[added++], c.literal, sizeof c.literal);
+        if (fault == 0 && !c.always) write_row(&c, board.rules + n + 1, aside[added++]);
     }
     if (more(&in)) return refused(15, 0, &board);
     if (fault != 0) return refused(fault, (size_t)at_fault, &board);
@@ -200,7 +207,7 @@ static size_t text_size(const tup_board *board, const int16_t *table) {
     size_t size = 8u + digits(board->symbols) + digits(board->rows);
     for (size_t r = 0; r < board->rows; r++) {
         const int16_t *row = table + WIDTH * r;
-        for (int i = 0; i < WIDTH && row[i] != 0; i++) size += digits((unsigned)abs(row[i])) + (row[i] < 0) + 1u;
+        for (int i = 0; i < LITERALS && row[i] != 0; i++) size += digits((unsigned)abs(row[i])) + (row[i] < 0) + 1u;
         size += 2;
     }
     return size;
@@ -217,7 +224,7 @@ tup_writing plain_write_dimacs(tup_board board, const int16_t *table, size_t num
     *at++ = '\n';
     for (size_t r = 0; r < board.rows; r++) {
         const int16_t *row = table + WIDTH * r;
-        for (int i = 0; i < WIDTH && row[i] != 0; i++) {
+        for (int i = 0; i < LITERALS && row[i] != 0; i++) {
             if (row[i] < 0) *at++ = '-';
             at = put_number(at, (unsigned)abs(row[i]));
             *at++ = ' ';

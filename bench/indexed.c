@@ -8,7 +8,8 @@
 
 #include "plain.h"
 
-enum { WIDTH = TUP_ROW_WIDTH, NONE = TUP_NONE, CELLS = TUP_MOST_ROWS * WIDTH };
+/* Cells are the places for literals, counted through all rows. */
+enum { WIDTH = TUP_ROW_WIDTH, LITERALS = TUP_ROW_LITERALS, NONE = TUP_NONE, CELLS = TUP_MOST_ROWS * LITERALS };
 
 /* The memory of a call. */
 typedef struct work {
@@ -41,10 +42,10 @@ static inline void index_rows(work *w, const tup_board *board, const int16_t *ta
     for (size_t r = board->rows; r-- > 0;) {
         const int16_t *row = table + WIDTH * r;
         unsigned i = 0, sum = 0;
-        for (; i < WIDTH && row[i] != 0; i++) {
+        for (; i < LITERALS && row[i] != 0; i++) {
             unsigned p = place(row[i]);
-            w->next[WIDTH * r + i] = w->head[p];
-            w->head[p] = (uint16_t)(WIDTH * r + i);
+            w->next[LITERALS * r + i] = w->head[p];
+            w->head[p] = (uint16_t)(LITERALS * r + i);
             sum ^= p;
         }
         w->left[r] = (uint8_t)i;
@@ -55,13 +56,13 @@ static inline void index_rows(work *w, const tup_board *board, const int16_t *ta
 
 /* Gives rank k to every literal of the row. */
 static inline void give_all(work *w, const int16_t *row, unsigned k, uint16_t *ranks) {
-    for (int i = 0; i < WIDTH && row[i] != 0; i++) give(w, ranks, place(row[i]), k);
+    for (int i = 0; i < LITERALS && row[i] != 0; i++) give(w, ranks, place(row[i]), k);
 }
 
 /* A row with one literal left or none in round k: that one is given the rank, or all are. */
 static inline void look(work *w, const int16_t *row, unsigned k, uint16_t *ranks) {
     int i = 0;
-    for (; i < WIDTH && row[i] != 0; i++) {
+    for (; i < LITERALS && row[i] != 0; i++) {
         if (ranks[place(-row[i])] >= k) {
             give(w, ranks, place(row[i]), k);
             return;
@@ -73,7 +74,7 @@ static inline void look(work *w, const int16_t *row, unsigned k, uint16_t *ranks
 /* Round k for the literal of place p, which is ruled out: counts down the rows that have it. */
 static inline void rule_out(work *w, const int16_t *table, unsigned p, unsigned k, uint16_t *ranks) {
     for (unsigned cell = w->head[p]; cell != NONE; cell = w->next[cell]) {
-        unsigned r = cell / WIDTH;
+        unsigned r = cell / LITERALS;
         if (--w->left[r] <= 1) look(w, table + WIDTH * r, k, ranks);
     }
 }
@@ -81,7 +82,7 @@ static inline void rule_out(work *w, const int16_t *table, unsigned p, unsigned 
 /* The same with sums: the place of the only literal left is known. */
 static inline void rule_out_summing(work *w, const int16_t *table, unsigned p, unsigned k, uint16_t *ranks) {
     for (unsigned cell = w->head[p]; cell != NONE; cell = w->next[cell]) {
-        unsigned r = cell / WIDTH, left = --w->left[r];
+        unsigned r = cell / LITERALS, left = --w->left[r];
         w->sum[r] ^= (uint16_t)p;
         if (left == 1) give(w, ranks, w->sum[r], k);
         else if (left == 0) give_all(w, table + WIDTH * r, k, ranks);
@@ -104,11 +105,11 @@ static void rank_all(work *w, const tup_board *board, const uint8_t *held, const
 static uint16_t support(const work *w, const int16_t *table, const uint16_t *ranks, unsigned p) {
     uint16_t rank = ranks[p];
     for (unsigned cell = w->head[p]; cell != NONE; cell = w->next[cell]) {
-        const int16_t *row = table + WIDTH * (cell / WIDTH);
+        const int16_t *row = table + WIDTH * (cell / LITERALS);
         int i = 0;
-        for (; i < WIDTH && row[i] != 0; i++)
+        for (; i < LITERALS && row[i] != 0; i++)
             if (place(row[i]) != p && ranks[place(-row[i])] >= rank) break;
-        if (i == WIDTH || row[i] == 0) return (uint16_t)(cell / WIDTH);
+        if (i == LITERALS || row[i] == 0) return (uint16_t)(cell / LITERALS);
     }
     return NONE;
 }
@@ -173,7 +174,7 @@ uint8_t indexed_ground(tup_board board, const int16_t *table, size_t numbers, ui
             continue;
         }
         const int16_t *row = table + WIDTH * support(&w, table, ranks, p);
-        for (int i = 0; i < WIDTH && row[i] != 0; i++) {
+        for (int i = 0; i < LITERALS && row[i] != 0; i++) {
             unsigned q = place(-row[i]);
             if (place(row[i]) == p || seen[q]) continue;
             seen[q] = true;

@@ -35,7 +35,7 @@ public:
         for (int s = 0; s < now.board.symbols; s++) newVar();
         for (const int16_t *row = now.table; row < now.table + TUP_ROW_WIDTH * now.board.rows; row += TUP_ROW_WIDTH) {
             clause.clear();
-            for (int i = 0; i < TUP_ROW_WIDTH && row[i] != 0; i++) clause.push(Minisat::mkLit(std::abs(row[i]) - 1, row[i] < 0));
+            for (int i = 0; i < TUP_ROW_LITERALS && row[i] != 0; i++) clause.push(Minisat::mkLit(std::abs(row[i]) - 1, row[i] < 0));
             addClause_(clause);
         }
     }

@@ -5,7 +5,7 @@
 #include <stdlib.h>
 #include <string.h>
 
-enum { WIDTH = TUP_ROW_WIDTH, NONE = TUP_NONE, CLAUSES = 6561, DEEPEST = 16 };
+enum { WIDTH = TUP_ROW_WIDTH, LITERALS = TUP_ROW_LITERALS, NONE = TUP_NONE, CLAUSES = 6561, DEEPEST = 16 };
 
 /* ---- The board ---- */
 
@@ -17,25 +17,30 @@ size_t plain_rows_lent(size_t numbers) {
 /* True if the row holds one to eight literals with rising symbols up to S, and zeros after them. */
 static bool sound(const int16_t *row, int symbols) {
     int before = 0, i = 0;
-    for (; i < WIDTH && row[i] != 0; i++) {
+    for (; i < LITERALS && row[i] != 0; i++) {
         int symbol = abs(row[i]);
         if (symbol <= before || symbol > symbols) return false;
         before = symbol;
     }
     if (i == 0) return false;
-    for (; i < WIDTH; i++)
+    for (; i < LITERALS; i++)
         if (row[i] != 0) return false;
     return true;
 }
 
-/* The test behind refusal 1. */
+/* The test behind refusal 1. The rule numbers of the rows are from 1 to the count, and none is below the one before it. */
 bool plain_good(const tup_board *board, const int16_t *table, size_t numbers) {
+    int least = 1;
     if (board->symbols < 1 || board->symbols > TUP_MOST_SYMBOLS || board->rows > plain_rows_lent(numbers)) return false;
+    if (board->rules > TUP_MOST_RULES) return false;
     for (unsigned f = 0; f < TUP_FURNACES; f++)
         for (size_t p = 2u * board->symbols; p < TUP_PLACES; p++)
             if (board->held[f][p] != 0) return false;
-    for (size_t r = 0; r < board->rows; r++)
-        if (!sound(table + WIDTH * r, board->symbols)) return false;
+    for (size_t r = 0; r < board->rows; r++) {
+        const int16_t *row = table + WIDTH * r;
+        if (!sound(row, board->symbols) || row[LITERALS] < least || row[LITERALS] > board->rules) return false;
+        least = row[LITERALS];
+    }
     return true;
 }
 
@@ -95,7 +100,7 @@ static bool fire(const int16_t *row, unsigned k, uint16_t *ranks) {
     unsigned missing = NONE;
     int i = 0;
     bool any = false;
-    for (; i < WIDTH && row[i] != 0; i++) {
+    for (; i < LITERALS && row[i] != 0; i++) {
         if (ranks[place(opposite(row[i]))] < k) continue;
         if (missing != NONE) return false;
         missing = place(row[i]);
@@ -121,11 +126,11 @@ static uint16_t support(const tup_board *board, const int16_t *table, const uint
         const int16_t *row = table + WIDTH * r;
         bool has = false;
         int i = 0;
-        for (; i < WIDTH && row[i] != 0; i++) {
+        for (; i < LITERALS && row[i] != 0; i++) {
             if (place(row[i]) == p) has = true;
             else if (ranks[place(opposite(row[i]))] >= ranks[p]) break;
         }
-        if (has && (i == WIDTH || row[i] == 0)) return (uint16_t)r;
+        if (has && (i == LITERALS || row[i] == 0)) return (uint16_t)r;
     }
     return NONE;
 }
@@ -178,7 +183,7 @@ tup_answer plain_ask(tup_board board, const int16_t *table, size_t numbers, uint
 
 /* An explain that is refused. */
 static tup_reason no_reason(uint8_t refusal) {
-    return (tup_reason){.refusal = refusal, .literals = 0, .rank = NONE, .row = NONE};
+    return (tup_reason){.refusal = refusal, .literals = 0, .rank = NONE, .row = NONE, .rule = 0};
 }
 
 tup_reason plain_explain(tup_board board, const int16_t *table, size_t numbers, uint8_t furnace, int16_t literal) {
@@ -190,8 +195,8 @@ tup_reason plain_explain(tup_board board, const int16_t *table, size_t numbers, 
     unsigned p = place(literal);
     if (ranks[p] == NONE || ranks[p] == 0) return no_reason(12);
     uint16_t row = support(&board, table, ranks, p);
-    while (count < WIDTH && table[WIDTH * row + count] != 0) count++;
-    return (tup_reason){.refusal = 0, .literals = count, .rank = ranks[p], .row = row};
+    while (count < LITERALS && table[WIDTH * row + count] != 0) count++;
+    return (tup_reason){.refusal = 0, .literals = count, .rank = ranks[p], .row = row, .rule = (uint16_t)table[WIDTH * row + LITERALS]};
 }
 
 /* ---- Grounds ---- */
@@ -220,7 +225,7 @@ static void mark_grounds(search *s, const tup_board *board, const int16_t *table
             continue;
         }
         const int16_t *row = table + WIDTH * support(board, table, ranks, p);
-        for (int i = 0; i < WIDTH && row[i] != 0; i++)
+        for (int i = 0; i < LITERALS && row[i] != 0; i++)
             if (place(row[i]) != p) want(s, place(opposite(row[i])));
     }
 }
@@ -343,7 +348,7 @@ static bool prime(const clauses *c, unsigned n) {
     return true;
 }
 
-/* Writes all prime clauses with `left` more literals, from symbol i on, in the document's order. */
+/* Writes all prime clauses with `left` more literals, from symbol i on, in the document's order, each with the rule's number that the row has. */
 static unsigned collect(const clauses *c, unsigned i, unsigned left, unsigned n, int16_t *row, unsigned filled, int16_t (*out)[WIDTH],
                         unsigned count) {
     if (left == 0) {
@@ -393,10 +398,12 @@ tup_addition plain_rule(tup_board board, int16_t *table, size_t numbers, const u
     memset(c.hit, 0, c.power[c.count]);
     if (!hit_full(&c, formula, bit)) return refused(8, TUP_NO_PLACE, &board);
     spread(&c);
+    row[LITERALS] = (int16_t)(board.rules + 1);
     for (unsigned length = 1; length <= c.count; length++) count = collect(&c, 0, length, 0, row, 0, out, count);
-    if (board.rows + count > plain_rows_lent(numbers)) return refused(9, TUP_NO_PLACE, &board);
+    if (board.rows + count > plain_rows_lent(numbers) || board.rules == TUP_MOST_RULES) return refused(9, TUP_NO_PLACE, &board);
     if (count != 0) memcpy(table + WIDTH * board.rows, out, count * sizeof out[0]);
     board.rows = (uint16_t)(board.rows + count);
+    board.rules++;
     plain_tidy(&board);
     return (tup_addition){.refusal = 0, .place = TUP_NO_PLACE, .added = (uint16_t)count, .board = board};
 }

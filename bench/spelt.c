@@ -121,7 +121,7 @@ static void print_rules(const char *board) {
 /* All rows in use but for a few. */
 static void nearly_full(void) {
     full_board(false);
-    now.board.rows = TUP_MOST_ROWS - FREE_ROWS;
+    now.board.rows = now.board.rules = TUP_MOST_ROWS - FREE_ROWS;
     memset(now.table + TUP_ROW_WIDTH * now.board.rows, 0, FREE_ROWS * TUP_ROW_WIDTH * sizeof now.table[0]);
 }
 

@@ -6,7 +6,8 @@
 
 enum {
     WIDTH = 1240, LEFT = 172, PER_MINUTE = 2, RIGHT = LEFT + PER_MINUTE * SHIFT_ENDS,
-    TOP = 134, LANE = 21, BAR = 13, GROUP_GAP = 26, FURNACE_GAP = 92, FOOT = 72
+    TOP = 134, LANE = 21, BAR = 13, GROUP_GAP = 26, FURNACE_GAP = 92, FOOT = 150,
+    SHOWN = 84, LINE = 16, LINE_LENGTH = 170 /* of the text that a click shows */
 };
 
 /* A furnace's part of the chart: where it begins and ends, where its conclusions begin, and the middle of each symbol's lane, 0 where it has none. */
@@ -100,6 +101,9 @@ static const char styles[] =
     ".conclusion { fill: #5b9bd5 }\n"
     ".conclusion-not { fill: url(#pale-hatch); stroke: #c3ccd5; stroke-width: 0.5 }\n"
     ".conflict { fill: #c62828 }\n"
+    ".shown { display: none }\n"
+    ".shown:target { display: inline }\n"
+    "a { cursor: pointer }\n"
     "</style>\n";
 
 /* Defines a hatching. */
@@ -118,7 +122,7 @@ static void put_head(FILE *out, int height) {
     fputs(styles, out);
     put_box(out, "paper", 0, 0, WIDTH, height);
     put_text(out, "title", 24, 36, "Night shift on two furnaces, 22:00 to 06:00: nothing stands without its ground");
-    put_text(out, "small", 24, 58, "Each bar is a mark on the board. Point at a bar for its row, its rank and the "
+    put_text(out, "small", 24, 58, "Each bar is a mark on the board. Click on a bar for the rule behind it, its row, its rank and the "
                                    "readings it stands on. A hair across a bar: another ground took over.");
     put_text(out, "small", 24, 74, "One rule table serves both furnaces; each has readings of its own.");
 }
@@ -182,17 +186,50 @@ static const char *bar_style(const mark *bar) {
     }
 }
 
-/* Draws one bar, with its row, rank and ground for whoever points at it. */
-static void put_bar(FILE *out, const panel *p, const mark *bar) {
+/* What a bar says: whose mark it is and when it stood, and why. */
+static words bar_words(const panel *p, const mark *bar) {
     static const char *const state[] = {"open", "up", "ruled out", "in conflict"};
+    words line = {0};
+    say(&line, "furnace %d, %s, %s %s to %s: %s", p->of->number, names[bar->symbol], state[bar->label], clock_at(bar->from).text,
+        clock_at(bar->to).text, bar->why.text);
+    return line;
+}
+
+/* Draws bar i, a link to its words, which are the bar's title too for whoever points at it. */
+static void put_bar(FILE *out, const panel *p, int i) {
+    const mark *bar = &p->of->bars[i];
     int end = x_at(bar->to) - (bar->to < SHIFT_ENDS ? 1 : 0); /* a hair between two bars that meet */
-    fprintf(out, "<rect class=\"%s\" x=\"%d\" y=\"%d\" width=\"%d\" height=\"%d\"><title>", bar_style(bar),
-            x_at(bar->from), p->lane[bar->symbol] - BAR / 2, end - x_at(bar->from), BAR);
-    fprintf(out, "furnace %d, ", p->of->number);
-    put_escaped(out, names[bar->symbol]);
-    fprintf(out, ", %s %s to %s: ", state[bar->label], clock_at(bar->from).text, clock_at(bar->to).text);
-    put_escaped(out, bar->why.text);
-    fputs("</title></rect>\n", out);
+    fprintf(out, "<a href=\"#mark-%d-%d\"><rect class=\"%s\" x=\"%d\" y=\"%d\" width=\"%d\" height=\"%d\"><title>", p->of->number, i,
+            bar_style(bar), x_at(bar->from), p->lane[bar->symbol] - BAR / 2, end - x_at(bar->from), BAR);
+    put_escaped(out, bar_words(p, bar).text);
+    fputs("</title></rect></a>\n", out);
+}
+
+/* How many characters of a text make its next line: as many words as fit, or all that is left. */
+static int line_length(const char *text) {
+    int fits = 0;
+    for (int i = 0; i <= LINE_LENGTH; i++) {
+        if (text[i] == '\0') {
+            return i;
+        }
+        fits = text[i] == ' ' ? i : fits;
+    }
+    return fits > 0 ? fits : LINE_LENGTH;
+}
+
+/* Writes the words of bar i at the foot of the picture, over as many lines as they take. They show once the bar is clicked on. */
+static void put_shown(FILE *out, const panel *p, int i, int top) {
+    words whole = bar_words(p, &p->of->bars[i]);
+    const char *rest = whole.text;
+    fprintf(out, "<g class=\"shown\" id=\"mark-%d-%d\">\n", p->of->number, i);
+    for (int y = top; *rest != '\0'; y += LINE) {
+        words line = {0};
+        int length = line_length(rest);
+        say(&line, "%.*s", length, rest);
+        put_text(out, "plain", 24, y, line.text);
+        rest += length + (rest[length] == ' ' ? 1 : 0);
+    }
+    fputs("</g>\n", out);
 }
 
 /* Draws the minute at which the thermocouple was struck off, and notes what went with it. */
@@ -224,7 +261,7 @@ static void put_panel(FILE *out, const panel *p) {
     put_grid(out, p);
     put_conflicts(out, p);
     for (int i = 0; i < p->of->bar_count; i++) {
-        put_bar(out, p, &p->of->bars[i]);
+        put_bar(out, p, i);
     }
     if (p->of->number == STRUCK_FURNACE) {
         put_strike(out, p);
@@ -264,6 +301,11 @@ static void put_chart(FILE *out, const screen *s) {
         put_panel(out, &panels[i]);
     }
     put_legend(out, bottom);
+    for (int i = 0; i < TUP_FURNACES; i++) {
+        for (int k = 0; k < panels[i].of->bar_count; k++) {
+            put_shown(out, &panels[i], k, bottom + SHOWN);
+        }
+    }
     fputs("</svg>\n", out);
 }
 

@@ -1,5 +1,5 @@
 /* The March case on a trend screen of two furnaces: a night shift's readings go to the board minute by minute, each change of
- * a mark is printed with its ground, and the shift is drawn as a chart. Of readings, marks and answers, those that name no
+ * a mark is printed with its rule and its ground, and the shift is drawn as a chart. Of readings, marks and answers, those that name no
  * furnace are furnace 1's.
  *
  * The screen owner's rule is that nothing stands on a chart without its ground. "crown hot" and "overfired" lean on each
@@ -187,7 +187,7 @@ static void say_literal(words *line, int literal) {
 /* Says a row of the clause table. */
 static void say_row(words *line, const screen *s, int row) {
     const int16_t *literals = s->table + row * TUP_ROW_WIDTH;
-    for (int i = 0; i < TUP_ROW_WIDTH && literals[i] != 0; i++) {
+    for (int i = 0; i < TUP_ROW_LITERALS && literals[i] != 0; i++) {
         say(line, "%s", i > 0 ? " or " : "");
         say_literal(line, literals[i]);
     }
@@ -221,6 +221,24 @@ static void say_refusal(const char *text, tup_addition addition) {
     printf("\n");
 }
 
+/* Keeps an accepted rule by its number, the count of rules on the board that came back, and prints its rows. A rule that is always true has none. */
+static void keep_rule(screen *s, const char *meaning, tup_addition addition) {
+    int number = addition.board.rules, first = addition.board.rows - addition.added;
+    if (number > MOST_RULES) {
+        stop("the screen has no room for another rule");
+    }
+    s->rules[number] = (kept_rule){meaning, first, addition.added};
+    printf("rule %d: %s\n", number, meaning);
+    for (int row = first; row < first + addition.added; row++) {
+        words line = {0};
+        say_row(&line, s, row);
+        printf("  row %d: %s\n", row, line.text);
+    }
+    if (addition.added == 0) {
+        printf("  no row: always true\n");
+    }
+}
+
 /* Adds a rule, its text written with symbols for each %d, and prints the rows that it wrote, or why it was refused. */
 static void rule(screen *s, const char *meaning, const char *text, ...) {
     char whole[ROOM];
@@ -232,20 +250,14 @@ static void rule(screen *s, const char *meaning, const char *text, ...) {
         stop("a rule's text is too long");
     }
     tup_addition addition = tup_rule_text(s->board, s->table, NUMBERS, (const uint8_t *)whole, (size_t)length);
-    int before = s->board.rows;
     s->board = addition.board; /* a refused rule hands the board back as it was */
-    printf("rule: %s", meaning);
     if (addition.refusal != TUP_DONE) {
+        printf("rule: %s", meaning);
         say_refusal(whole, addition);
         s->rules_refused++;
         return;
     }
-    printf("\n");
-    for (int row = before; row < before + addition.added; row++) {
-        words line = {0};
-        say_row(&line, s, row);
-        printf("  row %d: %s\n", row, line.text);
-    }
+    keep_rule(s, meaning, addition);
 }
 
 /* The crown. The second and third rule are the two conclusions that lean on each other. */
@@ -270,6 +282,7 @@ static void add_gas_rules(screen *s) {
 
 /* Damper, draught and flame. */
 static void add_draught_rules(screen *s) {
+    rule(s, "(says nothing, and counts) the damper is open, or it is not", "%d | -%d", DAMPER_OPEN, DAMPER_OPEN);
     rule(s, "the damper is open or shut, and not both", "%d = -%d", DAMPER_OPEN, DAMPER_SHUT);
     rule(s, "the draught is good just when the damper is open", "%d = %d", DRAUGHT_GOOD, DAMPER_OPEN);
     rule(s, "low oxygen, or high gas flow without draught, means a reducing flame", "(%d | (%d & -%d)) > %d",
@@ -305,15 +318,17 @@ static void find_ground(const screen *s, const furnace *f, int literal, uint8_t 
     must_be_done("ground", tup_ground(s->board, s->table, NUMBERS, f->number, (int16_t)literal, marks, PLACES));
 }
 
-/* Says why a derived literal stands: the reading itself, or rank, supporting row and ground. */
+/* Says why a derived literal stands: the reading itself, or rank, the rule behind it by its own sentence, which is found by the rule's number, the
+ * supporting row, and the ground. */
 static void say_why(words *line, const screen *s, const furnace *f, int literal) {
     if (holds(s, f, literal)) {
         say(line, "a held reading");
         return;
     }
-    int place = place_of(literal), row = f->settled.supports[place];
-    say(line, "rank %d, row %d (", f->settled.ranks[place], row);
-    say_row(line, s, row);
+    tup_reason reason = tup_explain(s->board, s->table, NUMBERS, f->number, (int16_t)literal);
+    must_be_done("explain", reason.refusal);
+    say(line, "rank %d, by \"%s\" (row %d: ", reason.rank, s->rules[reason.rule].sentence, reason.row);
+    say_row(line, s, reason.row);
     say(line, "), ground: ");
     uint8_t marks[PLACES];
     find_ground(s, f, literal, marks);
@@ -436,12 +451,22 @@ static bool ground_carries(const screen *s, const furnace *f, int literal) {
     return refusal == TUP_DONE;
 }
 
-/* Checks the owner's rule for every literal that is derived and not held. */
+/* Whether the rule that explain names for a literal is the one whose rows the supporting row is among. */
+static bool sentence_is_its_own(const screen *s, const furnace *f, int literal) {
+    tup_reason reason = tup_explain(s->board, s->table, NUMBERS, f->number, (int16_t)literal);
+    must_be_done("explain", reason.refusal);
+    const kept_rule *named = &s->rules[reason.rule];
+    return named->first_row <= reason.row && reason.row < named->first_row + named->rows;
+}
+
+/* Checks the owner's rule for every literal that is derived and not held, and the sentence that is shown for it. */
 static void check_grounds(screen *s, const furnace *f) {
     for (int place = 0; place < PLACES; place++) {
         if (f->settled.ranks[place] != TUP_NONE && !holds(s, f, literal_at(place))) {
             s->grounds.made++;
             s->grounds.failed += ground_carries(s, f, literal_at(place)) ? 0 : 1;
+            s->sentences.made++;
+            s->sentences.failed += sentence_is_its_own(s, f, literal_at(place)) ? 0 : 1;
         }
     }
 }
@@ -586,6 +611,7 @@ static void print_summary(const screen *s) {
     printf("refused: %d rules, %d readings\n", s->rules_refused, s->readings_refused);
     printf("every mark had its ground, every conflict its readings to blame: %s (%d and %d checks)\n",
            s->grounds.failed + s->blames.failed == 0 ? "yes" : "NO", s->grounds.made, s->blames.made);
+    printf("every conclusion's row was one of the rule named for it: %s (%d checks)\n", s->sentences.failed == 0 ? "yes" : "NO", s->sentences.made);
     printf("no reading of one furnace moved the other: %s (%d checks)\n", s->others.failed == 0 ? "yes" : "NO", s->others.made);
 }
 
@@ -621,5 +647,5 @@ int main(int count, char **arguments) {
     if (!write_chart(count > 1 ? arguments[1] : "trend.svg", &s)) {
         stop("the picture could not be written");
     }
-    return s.grounds.failed + s.blames.failed + s.others.failed == 0 ? EXIT_SUCCESS : EXIT_FAILURE;
+    return s.grounds.failed + s.blames.failed + s.others.failed + s.sentences.failed == 0 ? EXIT_SUCCESS : EXIT_FAILURE;
 }

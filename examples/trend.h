@@ -28,7 +28,10 @@ enum { SHIFT_ENDS = AT(6, 0), STRUCK_OFF = AT(3, 10), STRUCK_FURNACE = 1 };
 
 /* ---- The screen ---- */
 
-enum { ROWS = 64, NUMBERS = ROWS * TUP_ROW_WIDTH, PLACES = 2 * SYMBOLS, MOST_BARS = 256, MOST_CONFLICTS = 32, ROOM = 512 };
+enum {
+    ROWS = 64, NUMBERS = ROWS * TUP_ROW_WIDTH, PLACES = 2 * SYMBOLS,
+    MOST_RULES = 64, MOST_BARS = 256, MOST_CONFLICTS = 32, ROOM = 768
+};
 
 /* A line of text being put together. */
 typedef struct words {
@@ -67,18 +70,25 @@ typedef struct furnace {
     bool in_conflict;
 } furnace;
 
+/* A rule that the board has accepted: its sentence, and its rows in the table. */
+typedef struct kept_rule {
+    const char *sentence;
+    int first_row, rows;
+} kept_rule;
+
 /* Checks of one kind. */
 typedef struct tally {
     int made, failed;
 } tally;
 
-/* The board with the table lent to it, and the furnaces that run its rules. */
+/* The board with the table lent to it, its rules by their numbers, and the furnaces that run them. */
 typedef struct screen {
     tup_board board;
     int16_t table[NUMBERS];
+    kept_rule rules[MOST_RULES + 1]; /* rules are numbered from 1 */
     furnace furnaces[TUP_FURNACES];
     int rules_refused, readings_refused;
-    tally grounds, blames, others;
+    tally grounds, blames, others, sentences;
 } screen;
 
 /* Gives up with a reason. */

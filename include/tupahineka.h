@@ -1,18 +1,23 @@
 /* Tupahineka: a proved truth-maintenance board behind a trend screen. The nine calls of document 01 for C and C++, with the places of
  * document 02's first ticket, the two calls for DIMACS text of its second, blame as its fourth has it, the three calls for formulae in plain text
- * of its fifth, the two furnaces of its sixth, and without refusal 14, which its seventh took out.
+ * of its fifth, the two furnaces of its sixth, without refusal 14, which its seventh took out, and with the number of its rule in each row, as its
+ * eighth asks.
  *
  * Two furnaces run the same rules: a board has one S and one table of rows, and for each furnace a set of premises of its own. A call that changes
  * premises, or answers by them, names its furnace, 1 or 2, right after the table and its count. What is held and withdrawn for one furnace changes
  * no answer for the other, and none of a call that names no furnace.
  *
  * Link with libpanel.a (`make lib`). Every call ends, takes any numbers, and tests its own input. A call that is refused
- * returns one of the numbers below, hands the board back as it was given (a refused tup_open: S = 0, no rows, no premises)
+ * returns one of the numbers below, hands the board back as it was given (a refused tup_open: S = 0, no rows, no rules, no premises)
  * and writes nothing. No call keeps a pointer, allocates, or touches anything but what it is lent.
  *
  * What the caller must still honour, since no library can test it:
  * - a pointer is valid for as many elements as the count after it says (with a count of 0 it may be null);
  * - a table that a call writes does not overlap another one lent to the same call.
+ *
+ * The clause table: row r, from 0, is the nine numbers from table + 9 * r on: one to eight literals with rising symbols, zeros after them up to the
+ * eighth, and the number of the rule that the row is from. Rules are numbered from 1 in the order in which they were accepted since the board was
+ * opened, those with no rows too. A table lends as many rows as its count divided by 9, and at most 2,048.
  *
  * Places of literals: +s has place 2(s-1), and -s the next one. Places of bytes: see tup_addition and tup_spelling. */
 #ifndef TUPAHINEKA_H
@@ -29,8 +34,10 @@ enum {
     TUP_MOST_SYMBOLS = 200,    /* S is from 1 to this */
     TUP_PLACES = 400,          /* two for each symbol */
     TUP_FURNACES = 2,          /* furnaces are numbered from 1 */
-    TUP_ROW_WIDTH = 8,         /* numbers in a row of the clause table */
+    TUP_ROW_WIDTH = 9,         /* numbers in a row of the clause table */
+    TUP_ROW_LITERALS = 8,      /* of them places for literals; the last is the rule's number */
     TUP_MOST_ROWS = 2048,      /* rows used of a longer table */
+    TUP_MOST_RULES = 32767,    /* rules accepted since the board was opened */
     TUP_NONE = 65535,          /* no rank, no support, no row */
     TUP_MOST_TEXT = 86031,     /* no text that tup_write_dimacs writes has more bytes */
     TUP_MOST_FORMULA = 98303,  /* no formula has more bytes */
@@ -43,7 +50,8 @@ enum {
 /* Numbers of the refusals; 0 is a call that is done. 14, a rank above 2S, was taken out, since no rank can exceed 2S: the number stays unused. */
 enum {
     TUP_DONE = 0,
-    TUP_BAD_BOARD = 1,        /* S outside 1 to 200, rows in use exceed rows lent, a row in use not sound, a premise of either furnace beyond S */
+    TUP_BAD_BOARD = 1,        /* S outside 1 to 200, more than 32,767 rules, rows in use exceed rows lent, a premise of either furnace beyond S, or a
+                               * row in use not sound: its literals, or a rule number outside 1 to the count of rules or below the row before's */
     TUP_BAD_LITERAL = 2,      /* a literal or symbol is 0 or beyond S; at open, the count is outside 1 to 200 */
     TUP_CUT_SHORT = 3,        /* the formula's bytes end where a kind or body is due */
     TUP_UNKNOWN_KIND = 4,     /* the byte where a kind is due is none */
@@ -51,7 +59,7 @@ enum {
     TUP_BYTES_LEFT_OVER = 6,  /* bytes follow the complete formula */
     TUP_TOO_MANY_SYMBOLS = 7, /* more than 8 different symbols */
     TUP_NO_ASSIGNMENT = 8,    /* no assignment satisfies the rule */
-    TUP_TABLE_FULL = 9,       /* rows in use plus its prime implicates exceed rows lent */
+    TUP_TABLE_FULL = 9,       /* rows in use plus its prime implicates exceed rows lent, or 32,767 rules are counted */
     TUP_ALREADY_HELD = 10,
     TUP_NOT_HELD = 11,
     TUP_NOTHING_TO_SHOW = 12, /* explain: not derived, or held; ground: not derived; blame: no conflict */
@@ -64,12 +72,13 @@ enum {
 /* How a literal stands. */
 enum { TUP_OPEN = 0, TUP_STANDS = 1, TUP_RULED_OUT = 2, TUP_CONFLICT = 3 };
 
-/* A board: S, the rows of the clause table in use, and for each furnace and each place a byte, 0 where the furnace does not hold the literal. Any
- * bytes are taken. A call that is done and hands a board back writes its held bytes, of both furnaces, as 0 and 1, whatever bytes other than 0 it
- * was given; a refused call hands back the very bytes that it was given. */
+/* A board: S, the rows of the clause table in use, the rules accepted since it was opened, and for each furnace and each place a byte, 0 where the
+ * furnace does not hold the literal. Any bytes are taken. A call that is done and hands a board back writes its held bytes, of both furnaces, as 0
+ * and 1, whatever bytes other than 0 it was given; a refused call hands back the very bytes that it was given. */
 typedef struct tup_board {
     uint16_t symbols;
     uint16_t rows;
+    uint16_t rules;
     uint8_t held[TUP_FURNACES][TUP_PLACES]; /* the premises of furnace f are held[f - 1] */
 } tup_board;
 
@@ -116,29 +125,32 @@ typedef struct tup_answer {
     uint8_t standing; /* TUP_OPEN where refused */
 } tup_answer;
 
-/* Look at the refusal before computing table + 8 * row: a refused explain's row, 65535, would lead far outside the table. */
+/* Look at the refusal before computing table + 9 * row: a refused explain's row, 65535, would lead far outside the table. */
 typedef struct tup_reason {
     uint8_t refusal;
-    uint8_t literals; /* how many literals the supporting row has, at table + 8 * row; 0 where refused */
+    uint8_t literals; /* how many literals the supporting row has, at table + 9 * row; 0 where refused */
     uint16_t rank;    /* TUP_NONE, 65535, where refused */
     uint16_t row;     /* TUP_NONE, 65535, where refused */
+    uint16_t rule;    /* the number of the rule that the row is from; 0 where refused */
 } tup_reason;
 
-/* Opens a board of S symbols with no rows in use and no premises of either furnace. Refused: 2. */
+/* Opens a board of S symbols with no rows in use, no rules counted and no premises of either furnace. Refused: 2. */
 tup_change tup_open(uint16_t symbols);
 
-/* Adds a rule, given in formula bytes: appends all its prime implicates, and no other row, to the table. Refused: 1, 2 to 6 (each with
- * its place), 7, 8, 9. */
+/* Adds a rule, given in formula bytes: appends all its prime implicates, and no other row, to the table, each with the rule's number, which is the
+ * count of rules in the board handed back. A rule that is always true has no rows and is counted. Refused: 1, 2 to 6 (each with its place), 7, 8,
+ * 9. */
 tup_addition tup_rule(tup_board board, int16_t *table, size_t numbers, const uint8_t *formula, size_t bytes);
 
 /* Reads DIMACS CNF text and adds each clause as one rule, in order: the clause itself as a row, its literals by rising symbols and each once, or no
- * row where it has a literal and its opposite. All of the text or nothing is added: the whole text is tested before the table is written. The
- * header may count more variables than S or fewer. Refused: 1; 15 for anything in the whole text; then for the first clause at fault 2, 7, 8 (no
- * literal) or 9, which counts the rows of the clauses before it. */
+ * row where it has a literal and its opposite; it is counted either way. All of the text or nothing is added: the whole text is tested before the
+ * table is written. The header may count more variables than S or fewer. Refused: 1; 15 for anything in the whole text; then for the first clause at
+ * fault 2, 7, 8 (no literal) or 9, which counts the rows of the clauses before it, and these clauses as rules. */
 tup_reading tup_read_dimacs(tup_board board, int16_t *table, size_t numbers, const uint8_t *text, size_t bytes);
 
 /* Writes the rows in use as DIMACS CNF text: `p cnf`, S and the count of rows; then a line for each row in row order, single blanks, 0 last. Every
- * line ends with a line feed, and there is no byte 0 at the end. Refused: 1, 13 (the text is longer than `bytes`). */
+ * line ends with a line feed, and there is no byte 0 at the end. Rule numbers are left out: read back onto a new board, the literals of each row are
+ * the same, and row r, from 0, is from rule r + 1. Refused: 1, 13 (the text is longer than `bytes`). */
 tup_writing tup_write_dimacs(tup_board board, const int16_t *table, size_t numbers, uint8_t *text, size_t bytes);
 
 /* Formulae in plain text. A unit is a symbol's number, `-` and a unit, or a chain in round brackets. A chain is a unit alone; units joined by `&`
@@ -176,7 +188,8 @@ uint8_t tup_settle(tup_board board, const int16_t *table, size_t numbers, uint8_
 /* How a literal stands. Refused: 1, 16, 2. */
 tup_answer tup_ask(tup_board board, const int16_t *table, size_t numbers, uint8_t furnace, int16_t literal);
 
-/* Why a derived literal that is not held stands: its rank, from 1 to 2S, and its supporting row. Refused: 1, 16, 2, 12. */
+/* Why a derived literal that is not held stands: its rank, from 1 to 2S, its supporting row, and the number of the rule that the row is from.
+ * Refused: 1, 16, 2, 12. */
 tup_reason tup_explain(tup_board board, const int16_t *table, size_t numbers, uint8_t furnace, int16_t literal);
 
 /* Writes 2S bytes, 1 for each premise that the literal stands on, else 0. Refused: 1, 16, 2, 13, 12. */

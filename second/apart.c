@@ -27,12 +27,13 @@ static bool premises_differ(const Runs *runs) {
     return memcmp(runs->whole.held[runs->furnace - 1], runs->without.held[runs->furnace - 1], PLACES) != 0;
 }
 
-/* Compares the boards of the two runs: S, rows in use, and the other furnace's premises. Their bytes need not be the same: a hold that is struck out
- * writes none as 0 and 1. */
+/* Compares the boards of the two runs: S, rows in use, rules counted, and the other furnace's premises. Their bytes need not be the same: a hold that
+ * is struck out writes none as 0 and 1. */
 static bool same_boards(Play *play, const Runs *runs) {
     const uint8_t *whole = runs->whole.held[2 - runs->furnace], *without = runs->without.held[2 - runs->furnace];
     bool alike = same(play, "board: S", NONE, runs->whole.symbols, runs->without.symbols) &&
-                 same(play, "board: rows in use", NONE, runs->whole.rows, runs->without.rows);
+                 same(play, "board: rows in use", NONE, runs->whole.rows, runs->without.rows) &&
+                 same(play, "board: rules counted", NONE, runs->whole.rules, runs->without.rules);
     for (unsigned p = 0; p < PLACES && alike; p++) alike = same(play, "board: the other furnace's premise,", p, whole[p] != 0, without[p] != 0);
     return alike;
 }

@@ -38,7 +38,8 @@ bool same_outcome(Play *play, const Outcome *ours, const Outcome *theirs) {
            same(play, "standing", NONE, theirs->standing, ours->standing) &&
            same(play, "literals of the reason", NONE, theirs->literals, ours->literals) &&
            same(play, "rank of the reason", NONE, theirs->rank, ours->rank) &&
-           same(play, "row of the reason", NONE, theirs->row, ours->row);
+           same(play, "row of the reason", NONE, theirs->row, ours->row) &&
+           same(play, "rule of the reason", NONE, theirs->rule, ours->rule);
 }
 
 _Static_assert(sizeof(bool) == 1, "the model's premises are compared with the library's byte by byte");
@@ -48,7 +49,8 @@ static bool same_board(Play *play, const Step *step) {
     static const char *const held_words[FURNACES] = {"board: furnace 1's held byte,", "board: furnace 2's held byte,"};
     bool fresh = step->kind == OPEN || (step->kind < SETTLE && play->last.refusal == 0);
     bool alike = same(play, "board: S", NONE, play->library_board.symbols, play->board.symbols) &&
-                 same(play, "board: rows in use", NONE, play->library_board.rows, play->board.rows);
+                 same(play, "board: rows in use", NONE, play->library_board.rows, play->board.rows) &&
+                 same(play, "board: rules counted", NONE, play->library_board.rules, play->board.rules);
     const uint8_t *theirs = (const uint8_t *)&play->library_board.held, *ours = (const uint8_t *)&play->given.held;
     if (fresh) ours = (const uint8_t *)&play->board.held;
     if (!alike || memcmp(theirs, ours, sizeof play->given.held) == 0) return alike;
@@ -81,10 +83,15 @@ static bool same_bytes(Play *play, const char *what, const uint8_t *theirs, cons
     return differs(play, what, (long)i - GUARD, theirs[i], ours[i]);
 }
 
+/* Compares the whole clause tables. */
+bool table_agrees(Play *play) {
+    return same_table(play, play->theirs.table, play->ours.table, sizeof play->ours.table);
+}
+
 /* Compares every table, those that the call was not lent included. */
 bool same_tables(Play *play, const Step *step) {
     const Tables *theirs = &play->theirs, *ours = &play->ours;
-    return same_table(play, theirs->table, ours->table, sizeof ours->table) &&
+    return same_table(play, theirs->table, ours->table, play->watched) &&
            same_bytes(play, "labels", theirs->labels, ours->labels, sizeof ours->labels) &&
            same_numbers(play, "ranks", theirs->ranks, ours->ranks, sizeof ours->ranks) &&
            same_numbers(play, "supports", theirs->supports, ours->supports, sizeof ours->supports) &&

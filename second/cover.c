@@ -33,7 +33,8 @@ static const char *const case_words[CASES] = {
 
 static const char *const damage_words[BAD_BOARDS] = {
     "", "S is 0", "S is 201", "S is 65535", "S above 201", "rows in use past lent", "table lent too short", "premise beyond S",
-    "row with 0 in front", "row with 0 inside", "row falling", "row repeating", "row with -32768", "row beyond S"};
+    "32,768 rules", "65,535 rules", "rules above 32,768", "rules below a row's", "row with 0 in front", "row with 0 inside", "row falling",
+    "row repeating", "row with -32768", "row beyond S", "row from rule 0", "row from a rule below 0", "row past the rules", "rule numbers falling"};
 
 /* How a formula breaks, and at which operand: for 2 to 5 the one that was due, for 6 the last one ahead of the bytes too many. */
 enum { BY_2, BY_3_KIND, BY_3_BODY, BY_4, BY_5, BY_6, BREAKS };
@@ -255,6 +256,7 @@ void cover_step(const Play *play, const Step *step) {
     refusals[step->kind][play->last.refusal]++;
     if (step->kind == READ || step->kind == WRITE) cover_text(play, step);
     if (step->kind == TO_TEXT || spells(step->kind)) cover_spelt(play, step);
+    cover_rules(play, step);
     cases[TWO_FAULTS] += step->faults > 1;
     if (play->last.refusal == 0) cover_done(play, step);
     else cover_refused(play, step);
@@ -343,6 +345,7 @@ void cover_print(void) {
     cover_rows_print();
     cover_blames_print();
     cover_furnaces_print();
+    cover_rules_print();
     cover_texts_print();
     cover_spelt_print();
     printf("labels 0, 1, 2, 3: %lu %lu %lu %lu\n", labels_seen[0], labels_seen[1], labels_seen[2], labels_seen[3]);
@@ -351,6 +354,7 @@ void cover_print(void) {
     printf("rules accepted: %lu, rows they added: %lu, most of one rule: %u; the caller's own acts: %lu\n", rules_done, rows_added, most_rows, acts);
     printf("demand 3 compared: %lu boards, of them in conflict: %lu\n", demand_3, cases[DEMAND_3_CONFLICT]);
     cover_furnaces_close();
+    cover_rules_close();
     cover_texts_close();
     cover_spelt_close();
 }
@@ -378,6 +382,7 @@ bool cover_is_whole(void) {
     whole &= cover_rows_are_whole();
     whole &= cover_blames_are_whole();
     whole &= cover_furnaces_are_whole();
+    whole &= cover_rules_are_whole();
     whole &= cover_texts_are_whole();
     whole &= cover_spelt_is_whole();
     for (unsigned k = 0; k < CALLS; k++) {

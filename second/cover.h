@@ -33,6 +33,12 @@ void cover_furnaces_print(void);
 void cover_furnaces_close(void);
 bool cover_furnaces_are_whole(void);
 
+/* coverrules.c: the numbers of rules, and their count. */
+void cover_rules(const Play *play, const Step *step);
+void cover_rules_print(void);
+void cover_rules_close(void);
+bool cover_rules_are_whole(void);
+
 /* covertext.c: the texts read and written. */
 void cover_text(const Play *play, const Step *step);
 void cover_trip(void);

@@ -22,13 +22,13 @@ static unsigned long cases[CASES];
 
 /* A row of a settled board: the ranks of its literals and of their opposites. */
 typedef struct Ranked {
-    unsigned length, rank[WIDTH], opposite[WIDTH];
+    unsigned length, rank[ROW_LITERALS], opposite[ROW_LITERALS];
 } Ranked;
 
 /* The row with its ranks. */
 static Ranked ranked(const int16_t *row, const uint16_t *ranks) {
     Ranked it = {0};
-    for (; it.length < WIDTH && row[it.length] != 0; it.length++) {
+    for (; it.length < ROW_LITERALS && row[it.length] != 0; it.length++) {
         it.rank[it.length] = ranks[place_of(row[it.length])];
         it.opposite[it.length] = ranks[place_of(-row[it.length])];
     }
@@ -48,7 +48,7 @@ static void note_given(const Ranked *it, unsigned i, bool seen[CASES]) {
     unsigned last = 0;
     for (unsigned j = 0; j < it->length; j++) last += j != i && it->opposite[j] + 1 == it->rank[i];
     seen[SINGLE_GIVES] |= it->length == 1;
-    seen[ROW_OF_8] |= it->length == WIDTH;
+    seen[ROW_OF_8] |= it->length == ROW_LITERALS;
     seen[TWO_AT_ONCE] |= last > 1;
     seen[GIVEN_THEN_RULED_OUT] |= it->opposite[i] != NONE && it->opposite[i] >= it->rank[i];
     for (unsigned j = 0; j < i; j++) {
@@ -75,7 +75,7 @@ static void note_row(const Ranked *it, bool seen[CASES]) {
 static void note_order(const Play *play, unsigned place, bool seen[CASES]) {
     const uint16_t *ranks = play->ours.ranks + GUARD, *supports = play->ours.supports + GUARD;
     const int16_t *row = play->ours.table + GUARD + WIDTH * supports[place];
-    for (unsigned i = 0; i < WIDTH && row[i] != 0; i++) {
+    for (unsigned i = 0; i < ROW_LITERALS && row[i] != 0; i++) {
         unsigned waited = place_of(-row[i]);
         if (place_of(row[i]) == place || supports[waited] == NONE || ranks[waited] + 1 != ranks[place]) continue;
         seen[ROW_AFTER] |= supports[place] > supports[waited];

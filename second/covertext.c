@@ -99,14 +99,14 @@ static void cover_read_done(const Play *play, const Step *step) {
 /* Counts a clause at fault: which one, and what is due besides. */
 static void cover_fault(const Play *play, const Step *step) {
     unsigned refusal = play->last.refusal, before = play->last.clauses;
-    bool full = play->board.rows == rows_lent(step->numbers);
+    bool full = play->board.rows == rows_lent(step->numbers), last_rule = play->board.rules + before == MOST_RULES;
     Form form;
     Clause clause;
     if (!text_keeps_form(step->text, step->bytes, &form)) return;
     size_t at = form.body;
     for (unsigned c = 0; c <= before; c++) clause = next_clause(step->text, step->bytes, &at, play->board.symbols);
     (before == 0 ? first_clause : later_clause)[refusal]++;
-    cases[FULL_BY_ITSELF] += refusal == 9 && !full;
+    cases[FULL_BY_ITSELF] += refusal == 9 && !full && !last_rule;
     cases[FULL_MORE_LENT] += refusal == 9 && play->board.rows == MOST_ROWS && step->numbers >= WIDTH * (MOST_ROWS + 1);
     cases[BEYOND_NOT_7] += refusal == 2 && clause_symbols(&clause) > RULE_SYMBOLS;
     cases[MANY_AND_TRUE] += refusal == 7 && clause_always_true(&clause);

@@ -1,5 +1,5 @@
 /* DIMACS text by document 02's Ticket 2 and document 01's "Text, where a ticket takes it": whether a text keeps the form, its clauses one by
- * one, and the text of the rows in use. What can be read twice is read twice. */
+ * one, counted as rules by Ticket 8, and the text of the rows in use. What can be read twice is read twice. */
 #include <stdio.h>
 #include <stdlib.h>
 #include <string.h>
@@ -124,10 +124,10 @@ bool clause_always_true(const Clause *clause) {
     return false;
 }
 
-/* The clause as a row: each literal once, with rising symbols, zeros after them. */
-void clause_row(const Clause *clause, int16_t row[WIDTH]) {
+/* The clause as the literals of a row: each once, with rising symbols, zeros after them. */
+void clause_row(const Clause *clause, int16_t row[ROW_LITERALS]) {
     unsigned used = 0;
-    memset(row, 0, WIDTH * sizeof row[0]);
+    memset(row, 0, ROW_LITERALS * sizeof row[0]);
     for (unsigned p = 0; p < 2 * clause->symbols; p++)
         if (clause->has[p]) row[used++] = (int16_t)literal_at(p);
 }
@@ -144,24 +144,25 @@ Rule clause_rule(const Clause *clause) {
     return rule;
 }
 
-/* What is wrong with one clause where so many rows are in use: "2, 7, 8, 9 as for rules, an empty clause giving 8". */
-static unsigned clause_refusal(const Clause *clause, size_t rows, size_t lent) {
+/* What is wrong with one clause where so many rows are in use and so many rules are counted: "2, 7, 8, 9 as for rules, an empty clause giving 8". */
+static unsigned clause_refusal(const Clause *clause, size_t rows, size_t lent, unsigned rules) {
     if (clause->beyond) return 2;
     if (clause_symbols(clause) > RULE_SYMBOLS) return 7;
     if (clause->words == 0) return 8;
-    return !clause_always_true(clause) && rows + 1 > lent ? 9 : 0;
+    return (!clause_always_true(clause) && rows + 1 > lent) || rules == MOST_RULES ? 9 : 0;
 }
 
-/* Reads the text's clauses as rules, in order, all of them or none. */
+/* Reads the text's clauses as rules, in order, all of them or none. Each is counted, and meets the count that those before it leave. */
 Outcome model_read(Board *board, int16_t *table, size_t numbers, const uint8_t *text, size_t bytes) {
     Form form;
+    int16_t row[ROW_LITERALS];
     if (!board_is_good(board, table, numbers)) return (Outcome){.refusal = 1};
     if (!text_keeps_form(text, bytes, &form)) return (Outcome){.refusal = 15};
     unsigned rows = board->rows;
     size_t at = form.body;
     for (unsigned c = 0; c < form.clauses; c++) {
         Clause clause = next_clause(text, bytes, &at, board->symbols);
-        unsigned refusal = clause_refusal(&clause, rows, rows_lent(numbers));
+        unsigned refusal = clause_refusal(&clause, rows, rows_lent(numbers), board->rules + c);
         if (refusal != 0) return (Outcome){.refusal = refusal, .clauses = c};
         rows += !clause_always_true(&clause);
     }
@@ -169,16 +170,20 @@ Outcome model_read(Board *board, int16_t *table, size_t numbers, const uint8_t *
     at = form.body;
     for (unsigned c = 0; c < form.clauses; c++) {
         Clause clause = next_clause(text, bytes, &at, board->symbols);
-        if (!clause_always_true(&clause)) clause_row(&clause, table + WIDTH * board->rows++);
+        board->rules++;
+        if (clause_always_true(&clause)) continue;
+        clause_row(&clause, row);
+        append_row(board, table, row);
     }
     return done;
 }
 
-/* The text of the rows in use of a good board: the header with S and the rows, then a line a row; returns its length. */
+/* The text of the rows in use of a good board: the header with S and the rows, then a line a row without its rule's number; returns its length. */
 size_t text_of_rows(const Board *board, const int16_t *table, char out[MOST_TEXT + 1]) {
     size_t used = (size_t)sprintf(out, "p cnf %u %u\n", board->symbols, board->rows);
     for (unsigned r = 0; r < board->rows; r++) {
-        for (unsigned i = 0; i < WIDTH && table[WIDTH * r + i] != 0; i++) used += (size_t)sprintf(out + used, "%d ", table[WIDTH * r + i]);
+        const int16_t *row = table + WIDTH * r;
+        for (unsigned i = 0; i < ROW_LITERALS && row[i] != 0; i++) used += (size_t)sprintf(out + used, "%d ", row[i]);
         used += (size_t)sprintf(out + used, "0\n");
     }
     return used;

@@ -1,8 +1,6 @@
 /* The boards to try of document 01 and the places of document 02's Ticket 1: what they say of each, held against the model and the
- * library alike. */
+ * library alike. The first rule of a board has number 1, by Ticket 8. */
 #include "document.h"
-
-#include <string.h>
 
 #include "tries.h"
 
@@ -14,7 +12,7 @@ typedef struct Try {
     unsigned refusal;
     size_t place;
     unsigned rows;
-    int16_t row[3][WIDTH];
+    int16_t row[3][ROW_LITERALS];
 } Try;
 
 /* The longest formula with another end: its last symbol's two bytes, the bytes given, the refusal and its place. */
@@ -94,9 +92,10 @@ static bool try_rule(Play *play, const Try *try) {
     size_t needed = WIDTH * try->rows;
     play_start(play, 1, true);
     bool good = make(play, OPEN, 9, 0) && make_rule(play, try->bytes, try->length, TABLE_LENDABLE, try->refusal, try->place) &&
-                play->board.rows == try->rows && memcmp(play->ours.table + GUARD, try->row, needed * sizeof(int16_t)) == 0 &&
-                make(play, OPEN, 9, 0) && make_rule(play, try->bytes, try->length, needed, try->refusal, try->place) &&
-                make(play, OPEN, 9, 0) && (needed == 0 || make_rule(play, try->bytes, try->length, needed - 1, 9, NO_PLACE));
+                play->board.rows == try->rows && play->board.rules == (try->refusal == 0 ? 1 : 0);
+    for (unsigned r = 0; r < try->rows; r++) good = good && try_has_row(play, r, try->row[r], 1);
+    good = good && make(play, OPEN, 9, 0) && make_rule(play, try->bytes, try->length, needed, try->refusal, try->place) &&
+           make(play, OPEN, 9, 0) && (needed == 0 || make_rule(play, try->bytes, try->length, needed - 1, 9, NO_PLACE));
     return good || wrong(play, try->words);
 }
 
@@ -136,7 +135,7 @@ static bool try_together(Play *play) {
     bool good = make(play, OPEN, 2, 0) && add_rule(play, BYTES("\x14\x10\x01\x10\x02")) &&
                 add_rule(play, BYTES("\x14\x11\x10\x01\x10\x02")) && ask(play, 2, IS_OPEN) &&
                 add_rule(play, BYTES("\x12\x14\x10\x01\x10\x02\x14\x11\x10\x01\x10\x02")) &&
-                ask(play, 2, STANDS) && make(play, EXPLAIN, 2, 0) && play->last.rank == 1;
+                ask(play, 2, STANDS) && make(play, EXPLAIN, 2, 0) && play->last.rank == 1 && play->last.rule == 3;
     return good || wrong(play, "1 implies 2, not 1 implies 2");
 }
 
@@ -162,7 +161,7 @@ static bool try_both_signs(Play *play) {
 static bool try_counts(Play *play) {
     play_start(play, 5, true);
     bool good = make(play, OPEN, 0, 2) && make(play, OPEN, 201, 2) && make(play, OPEN, 200, 0) && make(play, ASK, -32768, 2);
-    try_row(play, (int16_t[WIDTH]){-32768});
+    try_row(play, (int16_t[ROW_LITERALS]){-32768});
     good = good && make(play, ASK, 1, 1) && make(play, ASK, -32768, 1);
     return good || wrong(play, "-32768, S of 0, 200 and 201");
 }

@@ -14,6 +14,16 @@ Step *add_step(Draft *draft, Kind kind) {
     return step;
 }
 
+/* Adds a row of the caller's, still without literals: mostly from a rule of its own, now and then from that of the row just before it, or past rules
+ * that have no row. */
+Step *add_own_row(Draft *draft) {
+    bool after_row = draft->count > 0 && draft->steps[draft->count - 1].kind == APPEND_ROW;
+    unsigned sort = random_below(&draft->random, 100), more = random_between(&draft->random, 2, 9);
+    Step *step = add_step(draft, APPEND_ROW);
+    step->rules = sort < 12 ? more : sort < 30 && after_row ? 0 : 1;
+    return step;
+}
+
 /* Puts bytes into the pool, so many of them given to the step. Where there is no room the step becomes an ask, and they are NULL. */
 const uint8_t *keep_bytes(Draft *draft, Step *step, const uint8_t *bytes, size_t length, size_t given) {
     if (draft->pooled + length > POOL) {

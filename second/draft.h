@@ -20,6 +20,7 @@ typedef struct Draft {
 } Draft;
 
 Step *add_step(Draft *draft, Kind kind);
+Step *add_own_row(Draft *draft);
 const uint8_t *keep_bytes(Draft *draft, Step *step, const uint8_t *bytes, size_t length, size_t given);
 
 #endif

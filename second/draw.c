@@ -214,8 +214,8 @@ static void keep_formula(Draft *draft, Step *step, const Ink *ink) {
 }
 
 /* Rows that the step's rule would add, or 0. */
-static size_t rows_needed(const Step *step, unsigned symbols) {
-    static int16_t rows[MOST_CLAUSES][WIDTH];
+size_t rows_needed(const Step *step, unsigned symbols) {
+    static int16_t rows[MOST_CLAUSES][ROW_LITERALS];
     uint8_t different[MOST_SYMBOLS];
     Spelt rule_bytes = step->kind == RULE ? (Spelt){NO_PLACE, step->bytes, step->formula} : spelt_by(step->text, step->bytes);
     if (rule_bytes.place != NO_PLACE || formula_breaks(rule_bytes.bytes, rule_bytes.count, symbols).refusal != 0) return 0;
@@ -233,12 +233,19 @@ static void start_ink(Draft *draft, const Play *play, Ink *ink) {
     ink->symbols = symbols >= 1 && symbols <= MOST_SYMBOLS ? symbols : draft->symbols;
 }
 
+/* A sort of formula that suits the style; where there is one rule left at most, every other time one that tells 9 from 7 and 8, or has no rows. */
+static unsigned draw_sort(Draft *draft, const Play *play) {
+    static const unsigned telling[] = {NEVER, ALWAYS, TOO_MANY};
+    if (play->board.rules + 1 >= MOST_RULES && random_chance(&draft->random, 50)) return telling[random_below(&draft->random, 3)];
+    return random_weighted(&draft->random, sort_weights[draft->style], SORTS);
+}
+
 /* Writes the formula of a rule, spelt where text is given, and now and then lends just the table it needs, or one number less. */
 static void draw_rule(Draft *draft, const Play *play, Step *step) {
     static Ink ink;
     Random *random = &draft->random;
     start_ink(draft, play, &ink);
-    write_formula(&ink, random_weighted(random, sort_weights[draft->style], SORTS));
+    write_formula(&ink, draw_sort(draft, play));
     if (random_chance(random, 20)) spoil_formula(&ink);
     if (random_chance(random, 3)) append_noise(&ink);
     if (spells(step->kind)) draw_spelling(draft, step, &ink);
@@ -285,14 +292,21 @@ static void add_damaged_call(Draft *draft, const Play *play) {
     while (undone > 0) *add_step(draft, undo[undone - 1].kind) = undo[undone - 1], undone--;
 }
 
+/* Adds a count of rules that leaves few before the last one, 32,767, or none; it stays. */
+static void add_high_count(Draft *draft, const Play *play) {
+    unsigned rules = MOST_RULES - random_below(&draft->random, 5);
+    if (play->board.rules < rules) add_step(draft, SET_RULES)->value = (int)rules;
+}
+
 /* Adds one call: now and then the last one's for the other furnace; after a refused open mostly an open. */
 static void add_call(Draft *draft, const Play *play) {
     Random *random = &draft->random;
     if (random_chance(random, 20) && add_echo(draft)) return;
     if (random_chance(random, 3)) add_odd_bytes(draft, play);
+    if (random_chance(random, 1)) add_high_count(draft, play);
     if (play->board.symbols == 0 && random_chance(random, 70)) {
         add_step(draft, OPEN)->value = (int)draft->symbols;
-    } else if (random_chance(random, 12)) {
+    } else if (random_chance(random, 15)) {
         add_damaged_call(draft, play);
     } else {
         bool later = draft->style != PACKED && (draft->calls < 12 || draft->style == ROWS || draft->style == FULL || draft->style == KNOTS);
@@ -326,7 +340,7 @@ static void add_rule(Draft *draft, const Play *play, unsigned sort) {
 /* Adds a sound row of the caller's: literals that the leaning mostly makes false, but for one. */
 static void add_row(Draft *draft, unsigned symbols, unsigned most) {
     Random *random = &draft->random;
-    Step *step = add_step(draft, APPEND_ROW);
+    Step *step = add_own_row(draft);
     unsigned length = random_between(random, random_chance(random, 3) ? 1 : 2, most), used = 0;
     if (length > symbols) length = symbols;
     unsigned head = random_below(random, length);
@@ -340,7 +354,7 @@ static void add_row(Draft *draft, unsigned symbols, unsigned most) {
 
 /* Adds a link of a chain as the caller's own row; a turn leads back along the opposites. */
 static void add_link(Draft *draft, unsigned from, bool turn) {
-    Step *step = add_step(draft, APPEND_ROW);
+    Step *step = add_own_row(draft);
     step->row[0] = (int16_t)-(int)from;
     step->row[1] = (int16_t)(turn ? -(int)(from + 1) : (int)(from + 1));
 }
@@ -350,7 +364,7 @@ static void add_link(Draft *draft, unsigned from, bool turn) {
 static bool add_turn(Draft *draft, const Play *play) {
     add_link(draft, draft->symbols - 1, true);
     if (!random_chance(&draft->random, 60)) return true;
-    add_step(draft, APPEND_ROW)->row[0] = 1;
+    add_own_row(draft)->row[0] = 1;
     draw_lengths(draft, play, add_step(draft, SETTLE));
     add_step(draft, EXPLAIN)->value = -1;
     return false;
@@ -395,11 +409,13 @@ static void add_premises(Draft *draft) {
     }
 }
 
-/* Adds the next steps of the sequence: opening, setting up, then call after call; false where it is at its end. */
+/* Adds the next steps of the sequence: opening, now and then with a high count of rules, setting up, then call after call; false where it is at its
+ * end. */
 bool draft_next(Draft *draft, const Play *play) {
     if (draft->count == 0) {
         Step *step = add_step(draft, OPEN);
         step->value = random_chance(&draft->random, 97) ? (int)draft->symbols : draw_opening(draft);
+        if (random_chance(&draft->random, 4)) add_high_count(draft, play);
     } else if (draft->setup > 0) {
         if (add_setup(draft, play)) add_premises(draft);
         draft->setup = 0;

@@ -7,5 +7,6 @@
 void draft_start(Draft *draft, uint64_t seed, uint64_t number);
 bool draft_next(Draft *draft, const Play *play);
 int draw_bad_literal(Random *random, unsigned symbols);
+size_t rows_needed(const Step *step, unsigned symbols);
 
 #endif

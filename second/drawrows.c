@@ -24,8 +24,8 @@ static int knot_literal(Draft *draft, const Knot *knot) {
 /* Adds a row of the knot. */
 static void add_knot_row(Draft *draft, const Knot *knot) {
     Random *random = &draft->random;
-    Step *step = add_step(draft, APPEND_ROW);
-    unsigned range = knot->high - knot->low + 1, most = random_chance(random, 70) ? 3 : WIDTH, used = 0;
+    Step *step = add_own_row(draft);
+    unsigned range = knot->high - knot->low + 1, most = random_chance(random, 70) ? 3 : ROW_LITERALS, used = 0;
     unsigned length = random_chance(random, 12) ? 1 : random_between(random, 2, most);
     if (length > range) length = range;
     unsigned plus = random_below(random, length);
@@ -40,7 +40,7 @@ static void add_knot_row(Draft *draft, const Knot *knot) {
 
 /* Adds a row between those of the knot in a full table: a link of the chain, or with no chain a row that no premise reaches. */
 static void add_filling(Draft *draft, unsigned row, unsigned links) {
-    Step *step = add_step(draft, APPEND_ROW);
+    Step *step = add_own_row(draft);
     unsigned from = links != 0 ? 1 + row % links : random_between(&draft->random, 1, 100);
     step->row[0] = (int16_t)-(int)from;
     step->row[1] = (int16_t)(from + 1);
@@ -53,9 +53,9 @@ static void add_knot_or_filling(Draft *draft, const Knot *knot, unsigned row, un
         add_filling(draft, row, links);
     } else if (row >= edge && random_chance(&draft->random, 15)) {
         const Step *before = &draft->steps[draft->count - 1 - random_below(&draft->random, edge)];
-        int16_t again[WIDTH];
+        int16_t again[ROW_LITERALS];
         memcpy(again, before->row, sizeof again);
-        memcpy(add_step(draft, APPEND_ROW)->row, again, sizeof again);
+        memcpy(add_own_row(draft)->row, again, sizeof again);
     } else {
         add_knot_row(draft, knot);
     }

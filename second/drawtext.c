@@ -21,20 +21,23 @@ static Page *start_page(Draft *draft, const Play *play) {
     return &page;
 }
 
-/* Clauses for a text: none, a few, or about as many as there are free rows. */
+/* Clauses for a text: none, a few, or about as many as there are free rows, or rules left where these are few. */
 static unsigned draw_clauses(Draft *draft, const Play *play, size_t numbers) {
     Random *random = &draft->random;
     size_t lent = rows_lent(numbers), rows = play->board.rows;
+    unsigned left = MOST_RULES - (play->board.rules < MOST_RULES ? play->board.rules : MOST_RULES);
+    if (left < 5 && random_chance(random, 80)) return left + random_below(random, 3);
     if (rows <= lent && lent - rows < 60 && random_chance(random, 50)) return (unsigned)(lent - rows) + random_below(random, 6);
     return random_chance(random, 5) ? 0 : random_between(random, 1, random_chance(random, 90) ? 12 : 60);
 }
 
-/* Writes a text to be read, now and then at fault or damaged; sometimes with just the rows lent that it has clauses. */
+/* Writes a text to be read, now and then at fault, and more often where there is one rule left at most, or damaged; sometimes with just the rows lent
+ * that it has clauses. */
 void draw_read(Draft *draft, const Play *play, Step *step) {
     Random *random = &draft->random;
     Page *page = start_page(draft, play);
     unsigned clauses = draw_clauses(draft, play, step->numbers);
-    bool faulty = random_chance(random, 30);
+    bool faulty = random_chance(random, play->board.rules + 1 >= MOST_RULES ? 70 : 30);
     write_text(page, clauses, faulty);
     step->torn = random_chance(random, 25);
     if (step->torn) spoil_text(page);

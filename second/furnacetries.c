@@ -19,7 +19,7 @@ typedef struct Move {
 typedef struct Try {
     const char *words;
     unsigned symbols;
-    int16_t row[TRY_ROWS][WIDTH];
+    int16_t row[TRY_ROWS][ROW_LITERALS];
     Move moves[MOVES];
 } Try;
 
@@ -58,20 +58,14 @@ static const Try tries[] = {
       {OPEN, 0, 1, 0, 0, {0}}, {ASK, 1, 1, 0, IS_OPEN, {0}}, {ASK, 2, 1, 0, IS_OPEN, {0}}, {HOLD, 1, 2, 2, 0, {0}}}},
 };
 
-/* Makes a call with so many places of each table to write; false where the sides differ or the refusal is another. Where it is given a formula or a
- * text, that is symbol 1 alone. */
+/* Makes a call with so many places of each table to write; false where the sides differ or the refusal is another. */
 static bool make(Play *play, Kind kind, unsigned furnace, int value, size_t places, unsigned refusal) {
-    static const uint8_t formula[] = {0x10, 1}, clause[] = "p cnf 1 1\n1 0\n", symbol[] = "1";
-    Step step = try_step(kind, furnace, value);
-    for (unsigned i = 0; i < 3; i++) step.lent[i] = places;
-    step.formula = gives_formula(kind) ? formula : NULL;
-    step.text = kind == READ ? clause : spells(kind) ? symbol : NULL;
-    step.bytes = step.standing = kind == READ ? sizeof clause - 1 : spells(kind) ? 1 : gives_formula(kind) ? sizeof formula : 0;
+    Step step = try_lent(kind, furnace, value, places);
     return play_step(play, &step) && play->last.refusal == refusal;
 }
 
 /* Opens the board of a try, with its rows. */
-static bool set_up(Play *play, unsigned symbols, const int16_t row[TRY_ROWS][WIDTH]) {
+static bool set_up(Play *play, unsigned symbols, const int16_t row[TRY_ROWS][ROW_LITERALS]) {
     play_start(play, 9, true);
     bool good = try_call(play, OPEN, 0, (int)symbols, 0);
     for (unsigned r = 0; r < TRY_ROWS && row[r][0] != 0; r++) try_row(play, row[r]);
@@ -107,7 +101,7 @@ static bool try_agrees(Play *play, const Try *try) {
 /* Every number of a furnace, for every call that names one: 16 but for 1 and 2, with good literals and tables, with bad literals, and with tables too
  * short. */
 static bool numbers_agree(Play *play) {
-    static const int16_t rows[TRY_ROWS][WIDTH] = {{-1, 2}};
+    static const int16_t rows[TRY_ROWS][ROW_LITERALS] = {{-1, 2}};
     for (unsigned n = 0; n < NUMBERS_OF_FURNACES; n++) {
         bool good = set_up(play, 2, rows), is = n == 1 || n == 2;
         for (Kind kind = HOLD; kind <= BLAME; kind++) {
@@ -123,7 +117,7 @@ static bool numbers_agree(Play *play) {
 
 /* A premise of a symbol beyond S, of either furnace: 1 for every call but open, whichever furnace it names. */
 static bool beyond_agrees(Play *play) {
-    static const int16_t no_rows[TRY_ROWS][WIDTH];
+    static const int16_t no_rows[TRY_ROWS][ROW_LITERALS];
     static const int beyond[] = {3, -3, 200, -200};
     for (unsigned f = 1; f <= FURNACES; f++) {
         bool good = set_up(play, 2, no_rows);
@@ -143,7 +137,7 @@ static bool beyond_agrees(Play *play) {
 
 /* Bytes beyond 1 in both sets: a refused call hands them back, and each that is done writes them as 1, those of the other furnace too. */
 static bool odd_bytes_agree(Play *play) {
-    static const int16_t no_rows[TRY_ROWS][WIDTH];
+    static const int16_t no_rows[TRY_ROWS][ROW_LITERALS];
     static const Kind kinds[] = {RULE, TEXT_RULE, READ, HOLD, WITHDRAW};
     for (unsigned i = 0; i < FURNACES * 5; i++) {
         unsigned f = 1 + i % FURNACES;

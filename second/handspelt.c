@@ -319,7 +319,7 @@ static bool reads(Play *play, const Given *it) {
 static bool adds(Play *play, const Given *it) {
     static int16_t rows[MOST_ROWS * WIDTH];
     if (!spelt_text_rule(play, (const uint8_t *)it->text, it->length, it->length, TABLE_LENDABLE, false)) return false;
-    if (it->refusal != 0) return spelt_gave(play, it->refusal, it->place, 0) && play->board.rows == 0;
+    if (it->refusal != 0) return spelt_gave(play, it->refusal, it->place, 0) && play->board.rows == 0 && play->board.rules == 0;
     Outcome by_text = play->library_last;
     memcpy(rows, play->theirs.table + GUARD, by_text.added * WIDTH * sizeof rows[0]);
     if (!spelt_open(play, it->symbols) || !spelt_rule(play, (const uint8_t *)it->bytes, it->count, TABLE_LENDABLE)) return false;

@@ -35,10 +35,10 @@ static bool is_prime(unsigned plus, unsigned minus) {
     return true;
 }
 
-/* Writes a clause as a row: its literals with rising symbols, zeros after them. */
-static void write_row(const Rule *rule, unsigned plus, unsigned minus, int16_t row[WIDTH]) {
+/* Writes a clause as the literals of a row: with rising symbols, zeros after them. */
+static void write_row(const Rule *rule, unsigned plus, unsigned minus, int16_t row[ROW_LITERALS]) {
     unsigned used = 0;
-    memset(row, 0, WIDTH * sizeof row[0]);
+    memset(row, 0, ROW_LITERALS * sizeof row[0]);
     for (unsigned i = 0; i < rule->count; i++) {
         if (plus >> i & 1) row[used++] = (int16_t)rule->symbol[i];
         if (minus >> i & 1) row[used++] = (int16_t)-rule->symbol[i];
@@ -48,7 +48,7 @@ static void write_row(const Rule *rule, unsigned plus, unsigned minus, int16_t r
 /* The number of literals in a row. */
 static int literals_in(const int16_t *row) {
     int count = 0;
-    while (count < WIDTH && row[count] != 0) count++;
+    while (count < ROW_LITERALS && row[count] != 0) count++;
     return count;
 }
 
@@ -57,7 +57,7 @@ static int by_document_order(const void *left, const void *right) {
     const int16_t *a = left, *b = right;
     int shorter = literals_in(a) - literals_in(b);
     if (shorter != 0) return shorter;
-    for (int i = 0; i < WIDTH; i++) {
+    for (int i = 0; i < ROW_LITERALS; i++) {
         if (a[i] == b[i]) continue;
         return abs(a[i]) != abs(b[i]) ? abs(a[i]) - abs(b[i]) : b[i] - a[i];
     }
@@ -65,7 +65,7 @@ static int by_document_order(const void *left, const void *right) {
 }
 
 /* Writes the prime implicates of a satisfiable rule, each once, in document 01's order, and counts them. */
-unsigned prime_rows(const Rule *rule, int16_t rows[MOST_CLAUSES][WIDTH]) {
+unsigned prime_rows(const Rule *rule, int16_t rows[MOST_CLAUSES][ROW_LITERALS]) {
     unsigned all = 1u << rule->count, count = 0;
     mark_implicates(rule, all);
     for (unsigned plus = 0; plus < all; plus++)

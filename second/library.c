@@ -66,7 +66,7 @@ static Outcome call_settle(const Step *step, const tup_board *board, const int16
 /* Explains. */
 static Outcome call_explain(const Step *step, const tup_board *board, const int16_t *table) {
     tup_reason reason = tup_explain(*board, table, step->numbers, (uint8_t)step->furnace, (int16_t)step->value);
-    return (Outcome){.refusal = reason.refusal, .literals = reason.literals, .rank = reason.rank, .row = reason.row};
+    return (Outcome){.refusal = reason.refusal, .literals = reason.literals, .rank = reason.rank, .row = reason.row, .rule = reason.rule};
 }
 
 /* Makes the step's call on the library's board and tables. */

@@ -1,10 +1,10 @@
-/* The nine calls by document 01, a rule's places, blame's symbol and the two furnaces by document 02's Tickets 1, 4 and 6, and no limit to the rounds
- * by Ticket 7: what each tests, in its order, what it returns and what it writes. */
+/* The nine calls by document 01, a rule's places, blame's symbol and the two furnaces by document 02's Tickets 1, 4 and 6, no limit to the rounds by
+ * Ticket 7, and the numbers of the rules by Ticket 8: what each tests, in its order, what it returns and what it writes. */
 #include "model.h"
 
 #include <string.h>
 
-/* Rows lent: length divided by 8, rounded down, never more than 2,048. */
+/* Ticket 8: "Rows lent is the length divided by 9, still at most 2,048". */
 size_t rows_lent(size_t numbers) {
     return numbers / WIDTH < MOST_ROWS ? numbers / WIDTH : MOST_ROWS;
 }
@@ -25,18 +25,30 @@ static bool is_literal(int number, unsigned symbols) {
     return symbol >= 1 && symbol <= (int)symbols;
 }
 
-/* A sound row: one to eight literals with strictly rising symbols, zeros after them. */
-static bool row_is_sound(const int16_t *row, unsigned symbols) {
+/* The literals of a sound row: one to eight with strictly rising symbols, zeros after them. */
+static bool literals_are_sound(const int16_t *row, unsigned symbols) {
     unsigned length = 0;
-    while (length < WIDTH && row[length] != 0) length++;
+    while (length < ROW_LITERALS && row[length] != 0) length++;
     if (length == 0) return false;
-    for (unsigned i = length; i < WIDTH; i++)
+    for (unsigned i = length; i < ROW_LITERALS; i++)
         if (row[i] != 0) return false;
     for (unsigned i = 0; i < length; i++)
         if (!is_literal(row[i], symbols)) return false;
     for (unsigned i = 1; i < length; i++)
         if ((row[i - 1] < 0 ? -row[i - 1] : row[i - 1]) >= (row[i] < 0 ? -row[i] : row[i])) return false;
     return true;
+}
+
+/* The number of the rule that a row is from. */
+int rule_number(const int16_t *table, unsigned row) {
+    return table[WIDTH * row + RULE_PLACE];
+}
+
+/* Ticket 8: "A row is sound only if its rule number is from 1 to that count and not below that of the row before". */
+static bool number_is_sound(const int16_t *table, unsigned row, unsigned rules) {
+    int number = rule_number(table, row);
+    if (number < 1 || number > (int)rules) return false;
+    return row == 0 || number >= rule_number(table, row - 1);
 }
 
 /* True if no premise is of a symbol beyond S. */
@@ -49,9 +61,10 @@ static bool premises_are_good(const bool premises[PLACES], unsigned symbols) {
 /* The test behind refusal 1: of both furnaces' premises, whichever is named, or none. */
 bool board_is_good(const Board *board, const int16_t *table, size_t numbers) {
     if (board->symbols < 1 || board->symbols > MOST_SYMBOLS) return false;
+    if (board->rules > MOST_RULES) return false;
     if (board->rows > rows_lent(numbers)) return false;
     for (unsigned r = 0; r < board->rows; r++)
-        if (!row_is_sound(table + WIDTH * r, board->symbols)) return false;
+        if (!literals_are_sound(table + WIDTH * r, board->symbols) || !number_is_sound(table, r, board->rules)) return false;
     return premises_are_good(premises_of(board, 1), board->symbols) && premises_are_good(premises_of(board, 2), board->symbols);
 }
 
@@ -73,7 +86,7 @@ static unsigned literal_tests(const Board *board, const int16_t *table, size_t n
     return is_literal(literal, board->symbols) ? 0 : 2;
 }
 
-/* Opens a board, without premises of either furnace; refused, it is the board with S = 0. */
+/* Opens a board, with no rules counted and no premises of either furnace; refused, it is the same with S = 0. */
 Outcome model_open(Board *board, unsigned symbols) {
     bool good = symbols >= 1 && symbols <= MOST_SYMBOLS;
     *board = (Board){.symbols = good ? symbols : 0};
@@ -100,18 +113,25 @@ static Outcome formula_tests(const uint8_t *formula, size_t bytes, unsigned symb
     return rule_outcome(different_symbols(formula, bytes, different) > RULE_SYMBOLS ? 7 : 0, NO_PLACE);
 }
 
-/* Appends the prime implicates of a rule. */
+/* Appends a row, from the rule that was counted last. */
+void append_row(Board *board, int16_t *table, const int16_t literals[ROW_LITERALS]) {
+    int16_t *row = table + WIDTH * board->rows++;
+    memcpy(row, literals, ROW_LITERALS * sizeof row[0]);
+    row[RULE_PLACE] = (int16_t)board->rules;
+}
+
+/* Counts a rule, with prime implicates or without, and appends them. 9 also when 32,767 rules are counted. */
 Outcome model_rule(Board *board, int16_t *table, size_t numbers, const uint8_t *formula, size_t bytes) {
-    static int16_t primes[MOST_CLAUSES][WIDTH];
+    static int16_t primes[MOST_CLAUSES][ROW_LITERALS];
     if (!board_is_good(board, table, numbers)) return rule_outcome(1, NO_PLACE);
     Outcome tested = formula_tests(formula, bytes, board->symbols);
     if (tested.refusal != 0) return tested;
     Rule rule = rule_of(formula, bytes);
     if (rule.satisfying == 0) return rule_outcome(8, NO_PLACE);
     unsigned count = prime_rows(&rule, primes);
-    if (board->rows + count > rows_lent(numbers)) return rule_outcome(9, NO_PLACE);
-    if (count != 0) memcpy(table + WIDTH * board->rows, primes, count * sizeof primes[0]);
-    board->rows += count;
+    if (board->rows + count > rows_lent(numbers) || board->rules == MOST_RULES) return rule_outcome(9, NO_PLACE);
+    board->rules++;
+    for (unsigned i = 0; i < count; i++) append_row(board, table, primes[i]);
     return (Outcome){.added = count, .place = NO_PLACE};
 }
 
@@ -159,7 +179,7 @@ Outcome model_ask(const Board *board, const int16_t *table, size_t numbers, unsi
     return (Outcome){.standing = IS_OPEN};
 }
 
-/* Why a derived literal that is not held stands. */
+/* Why a derived literal that is not held stands; refused, the rule's number is 0. */
 Outcome model_explain(const Board *board, const int16_t *table, size_t numbers, unsigned furnace, int literal) {
     Outcome answer = {.rank = NONE, .row = NONE};
     answer.refusal = literal_tests(board, table, numbers, furnace, literal);
@@ -173,7 +193,8 @@ Outcome model_explain(const Board *board, const int16_t *table, size_t numbers, 
     answer.rank = found.rank[place];
     answer.row = found.support[place];
     const int16_t *row = table + WIDTH * answer.row;
-    while (answer.literals < WIDTH && row[answer.literals] != 0) answer.literals++;
+    while (answer.literals < ROW_LITERALS && row[answer.literals] != 0) answer.literals++;
+    answer.rule = (unsigned)rule_number(table, answer.row);
     return answer;
 }
 

@@ -1,4 +1,4 @@
-/* Document 01 with Tickets 1, 2 and 4 to 7 of document 02 by brute force, for the independent second program.
+/* Document 01 with Tickets 1, 2 and 4 to 8 of document 02 by brute force, for the independent second program.
  *
  * Written from these documents and include/tupahineka.h alone. No other code of the project was read for it: what this
  * program and the library share is the documents and nothing else. Slow and by definition, wherever a definition is there. */
@@ -13,8 +13,11 @@ enum {
     MOST_SYMBOLS = 200,
     PLACES = 400,        /* +s at 2(s-1), -s at the next */
     FURNACES = 2,        /* numbered from 1 */
-    WIDTH = 8,           /* numbers in a row */
+    WIDTH = 9,           /* numbers in a row */
+    ROW_LITERALS = 8,    /* of them places for literals, from the first on */
+    RULE_PLACE = 8,      /* and the place of its rule's number, the last */
     MOST_ROWS = 2048,
+    MOST_RULES = 32767,  /* accepted since the board was opened */
     NONE = 65535,        /* no rank, no support */
     RULE_SYMBOLS = 8,    /* different symbols in a rule */
     ASSIGNMENTS = 256,
@@ -32,15 +35,15 @@ enum {
 /* Answers to ask, by the numbers of the C interface. */
 enum { IS_OPEN, STANDS, RULED_OUT, IN_CONFLICT };
 
-/* One S and one count of rows in use; the premises of furnace 1, then those of furnace 2. */
+/* One S, one count of rows in use and one of the rules accepted since open; the premises of furnace 1, then those of furnace 2. */
 typedef struct Board {
-    unsigned symbols, rows;
+    unsigned symbols, rows, rules;
     bool held[FURNACES][PLACES];
 } Board;
 
 /* What any call returns but its board; what a call does not return is 0. */
 typedef struct Outcome {
-    unsigned refusal, added, standing, literals, rank, row;
+    unsigned refusal, added, standing, literals, rank, row, rule;
     unsigned clauses; /* of a text read: those before the first at fault */
     size_t place;     /* of a rule, and of formula text: the byte where its formula or its text breaks, or NO_PLACE */
     size_t written;   /* of a text or a formula written: its bytes */
@@ -90,7 +93,7 @@ unsigned different_symbols(const uint8_t *bytes, size_t used, uint8_t out[MOST_S
 Rule rule_of(const uint8_t *bytes, size_t used);
 
 /* implicates.c */
-unsigned prime_rows(const Rule *rule, int16_t rows[MOST_CLAUSES][WIDTH]);
+unsigned prime_rows(const Rule *rule, int16_t rows[MOST_CLAUSES][ROW_LITERALS]);
 
 /* rounds.c */
 unsigned place_of(int literal);
@@ -107,7 +110,9 @@ void walk_back(const bool premises[PLACES], const int16_t *table, const Findings
 size_t rows_lent(size_t numbers);
 bool is_furnace(unsigned number);
 const bool *premises_of(const Board *board, unsigned furnace);
+int rule_number(const int16_t *table, unsigned row);
 bool board_is_good(const Board *board, const int16_t *table, size_t numbers);
+void append_row(Board *board, int16_t *table, const int16_t literals[ROW_LITERALS]);
 Outcome model_open(Board *board, unsigned symbols);
 Outcome formula_breaks(const uint8_t *formula, size_t bytes, unsigned symbols);
 Outcome model_rule(Board *board, int16_t *table, size_t numbers, const uint8_t *formula, size_t bytes);
@@ -127,7 +132,7 @@ bool text_keeps_form(const uint8_t *text, size_t bytes, Form *form);
 Clause next_clause(const uint8_t *text, size_t bytes, size_t *at, unsigned symbols);
 unsigned clause_symbols(const Clause *clause);
 bool clause_always_true(const Clause *clause);
-void clause_row(const Clause *clause, int16_t row[WIDTH]);
+void clause_row(const Clause *clause, int16_t row[ROW_LITERALS]);
 Rule clause_rule(const Clause *clause);
 Outcome model_read(Board *board, int16_t *table, size_t numbers, const uint8_t *text, size_t bytes);
 size_t text_of_rows(const Board *board, const int16_t *table, char out[MOST_TEXT + 1]);

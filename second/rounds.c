@@ -16,7 +16,7 @@ int literal_at(unsigned place) {
 
 /* True if literal i of the row is given rank k: the opposite of each other literal has a rank below k. */
 static bool gives(const int16_t *row, unsigned i, const Findings *found, unsigned k) {
-    for (unsigned j = 0; j < WIDTH && row[j] != 0; j++)
+    for (unsigned j = 0; j < ROW_LITERALS && row[j] != 0; j++)
         if (j != i && found->rank[place_of(-row[j])] >= k) return false;
     return true;
 }
@@ -35,7 +35,7 @@ static bool find_round(const Board *board, const int16_t *table, const Findings 
     memset(added, 0, PLACES);
     for (unsigned r = 0; r < board->rows; r++) {
         const int16_t *row = table + WIDTH * r;
-        for (unsigned i = 0; i < WIDTH && row[i] != 0; i++) {
+        for (unsigned i = 0; i < ROW_LITERALS && row[i] != 0; i++) {
             unsigned p = place_of(row[i]);
             if (found->rank[p] == NONE && gives(row, i, found, k)) any = added[p] = true;
         }
@@ -47,7 +47,7 @@ static bool find_round(const Board *board, const int16_t *table, const Findings 
 static void find_supports(const Board *board, const bool premises[PLACES], const int16_t *table, Findings *found) {
     for (unsigned r = 0; r < board->rows; r++) {
         const int16_t *row = table + WIDTH * r;
-        for (unsigned i = 0; i < WIDTH && row[i] != 0; i++) {
+        for (unsigned i = 0; i < ROW_LITERALS && row[i] != 0; i++) {
             unsigned p = place_of(row[i]), k = found->rank[p];
             if (k == NONE || premises[p] || found->support[p] != NONE) continue;
             if (gives(row, i, found, k)) found->support[p] = r;
@@ -109,6 +109,6 @@ void walk_back(const bool premises[PLACES], const int16_t *table, const Findings
     seen[place] = true;
     if (premises[place]) return;
     const int16_t *row = table + WIDTH * found->support[place];
-    for (unsigned i = 0; i < WIDTH && row[i] != 0; i++)
+    for (unsigned i = 0; i < ROW_LITERALS && row[i] != 0; i++)
         if (place_of(row[i]) != place) walk_back(premises, table, found, place_of(-row[i]), seen);
 }

@@ -18,7 +18,7 @@ typedef struct Found {
 typedef struct Try {
     const char *words;
     unsigned symbols, times;
-    int16_t row[TRY_ROWS][WIDTH];
+    int16_t row[TRY_ROWS][ROW_LITERALS];
     int held[TRY_HELD];
     Found found[TRY_FOUND];
     int blamed[TRY_HELD];
@@ -88,7 +88,7 @@ static bool make(Play *play, Kind kind, unsigned furnace, int value, unsigned re
 
 /* Adds a link of a chain: a symbol implies the next one. */
 static void append_link(Play *play, unsigned from) {
-    try_row(play, (int16_t[WIDTH]){(int16_t)-(int)from, (int16_t)(from + 1)});
+    try_row(play, (int16_t[ROW_LITERALS]){(int16_t)-(int)from, (int16_t)(from + 1)});
 }
 
 /* Holds a premise, and its opposite for the other furnace. */
@@ -116,12 +116,14 @@ static bool settles(Play *play, unsigned furnace, const Try *try) {
     return good;
 }
 
-/* Asks, explains and grounds every literal of the board: an answer for each, a reason for those with a support, a ground for those with a rank. */
+/* Asks, explains and grounds every literal of the board: an answer for each, a reason for those with a support, a ground for those with a rank.
+ * Each row is from a rule of its own, whose number is one more than the row's; a refused explain tells 0. */
 static bool follows(Play *play, unsigned furnace, const Try *try) {
     bool good = true;
     for (unsigned p = 0; p < 2 * try->symbols && good; p++) {
         Found found = found_for(try, literal_at(p));
         good = make(play, ASK, furnace, found.literal, 0) && make(play, EXPLAIN, furnace, found.literal, found.support == NONE ? 12 : 0) &&
+               play->last.rule == (found.support == NONE ? 0 : found.support + 1) &&
                make(play, GROUND, furnace, found.literal, found.rank == NONE ? 12 : 0);
     }
     return good;
@@ -170,12 +172,13 @@ static bool chain_agrees(Play *play, unsigned furnace, unsigned front, unsigned 
     const unsigned links = symbols - 1;
     play_start(play, 8, true);
     bool good = make(play, OPEN, 0, (int)symbols, 0);
-    if (front == 1) try_row(play, (int16_t[WIDTH]){1});
+    if (front == 1) try_row(play, (int16_t[ROW_LITERALS]){1});
     for (unsigned r = front; r < rows - 1; r++) append_link(play, (r - front) % links + 1);
-    try_row(play, (int16_t[WIDTH]){(int16_t)-(int)links, (int16_t)-(int)symbols});
+    try_row(play, (int16_t[ROW_LITERALS]){(int16_t)-(int)links, (int16_t)-(int)symbols});
     good = good && make_on_chain(play, HOLD, 3 - furnace, -1) && (front == 1 || make_on_chain(play, HOLD, furnace, 1));
     return good && chain_settles(play, furnace, front) && make_on_chain(play, EXPLAIN, furnace, -1) && play->last.rank == front + 2 * symbols - 2 &&
-           play->last.row == front && make_on_chain(play, BLAME, furnace, 0) && try_marked(play, (int[]){1}, 1 - front);
+           play->last.row == front && play->last.rule == front + 1 && make_on_chain(play, BLAME, furnace, 0) &&
+           try_marked(play, (int[]){1}, 1 - front);
 }
 
 /* Both chains of 200 symbols in a full table, the one with a row in front in just the rows that it needs too; and such ones of fewer symbols, every
@@ -196,8 +199,8 @@ static bool high_ranks_agree(Play *play, unsigned furnace) {
     play_start(play, 8, true);
     bool good = make(play, OPEN, 0, MOST_SYMBOLS, 0);
     for (unsigned s = 2; s < MOST_SYMBOLS; s++) append_link(play, s);
-    try_row(play, (int16_t[WIDTH]){-199, -200});
-    try_row(play, (int16_t[WIDTH]){-1, 143, 144});
+    try_row(play, (int16_t[ROW_LITERALS]){-199, -200});
+    try_row(play, (int16_t[ROW_LITERALS]){-1, 143, 144});
     good = good && hold(play, furnace, 1) && hold(play, furnace, 2) && make(play, SETTLE, furnace, 0, 0) && ranks[place_of(1)] == 0 &&
            ranks[place_of(-1)] == 256;
     for (unsigned s = 2; s <= MOST_SYMBOLS && good; s++) good = ranks[place_of((int)s)] == s - 2 && ranks[place_of(-(int)s)] == 398 - s;

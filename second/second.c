@@ -1,7 +1,7 @@
 /* The independent second program of Tupahineka: random sequences of calls, the library against the documents by brute force.
  *
- * Written from document 01, Tickets 1, 2 and 4 to 7 of document 02, the project's exact readings of Tickets 5 and 6 and include/tupahineka.h alone.
- * No proved code was read for it; of the project's other files only those that build and run it: Makefile, tests/panel.sh and tools/kit.sh.
+ * Written from document 01, Tickets 1, 2 and 4 to 8 of document 02, the project's exact readings of Tickets 5, 6 and 8 and include/tupahineka.h
+ * alone. No proved code was read for it; of the project's other files only those that build and run it: Makefile, tests/panel.sh and tools/kit.sh.
  *
  *   second SEED COUNT               plays COUNT sequences and compares everything after every call
  *   second show SEED NUMBER         prints sequence NUMBER in words, by the model alone
@@ -20,6 +20,7 @@
 #include "furnacetries.h"
 #include "journal.h"
 #include "rowtries.h"
+#include "ruletries.h"
 #include "smallboards.h"
 #include "spelttrials.h"
 #include "texttrials.h"
@@ -102,9 +103,9 @@ static bool spelt_agree(uint64_t seed) {
 /* The boards that the documents name, those worked out by hand, all of few symbols, then the texts. */
 static bool trials_agree(uint64_t seed) {
     in_trials = true;
-    return document_agrees(&play) && furnace_tries_agree(&play) && row_tries_agree(&play) && small_boards_agree(&play) &&
-           spellings_agree(&play) && torn_texts_agree(&play, seed) && long_texts_agree(&play) && rooms_agree(&play, seed) &&
-           rules_agree(&play, seed) && spelt_agree(seed);
+    return document_agrees(&play) && furnace_tries_agree(&play) && row_tries_agree(&play) && rule_tries_agree(&play) && number_tries_agree(&play) &&
+           small_boards_agree(&play) && spellings_agree(&play) && torn_texts_agree(&play, seed) && long_texts_agree(&play) &&
+           rooms_agree(&play, seed) && rules_agree(&play, seed) && spelt_agree(seed);
 }
 
 /* Plays all sequences of a seed, then what is to be tried besides. */

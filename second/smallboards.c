@@ -17,7 +17,7 @@ typedef struct Size {
     unsigned symbols, most_rows, sets;
     unsigned sound, highest;
     unsigned long boards;
-    int16_t row[MOST_SOUND][WIDTH];
+    int16_t row[MOST_SOUND][ROW_LITERALS];
 } Size;
 
 static Size sizes[SIZES] = {{.symbols = 1, .most_rows = 2, .sets = 4}, {.symbols = 2, .most_rows = 8, .sets = 16},
@@ -65,7 +65,8 @@ static bool rows_agree(Play *play, Size *size, unsigned from, unsigned more) {
     for (unsigned r = from; r < size->sound && more > 0; r++) {
         try_row(play, size->row[r]);
         if (!rows_agree(play, size, r + 1, more - 1)) return false;
-        play_step(play, &(Step){.kind = SET_ROWS, .value = (int)rows});
+        try_act(play, SET_ROWS, 0, (int)rows);
+        try_act(play, SET_RULES, 0, (int)rows);
     }
     return true;
 }

@@ -1,14 +1,14 @@
 /* Texts spelt by hand, with what document 02's Ticket 2 and document 01 say of each: held against the model and the library alike. */
-#include <string.h>
-
 #include "texttrials.h"
+#include "tries.h"
 
-/* A text, S of an empty board and its rows lent; the refusal, the clauses before the fault or the end, and the rows added. */
+/* A text, S of an empty board and its rows lent; the refusal, the clauses before the fault or the end, and the rows added. Where there are any, each
+ * clause is a row, but for some at the end that are always true. */
 typedef struct Spelling {
     const char *text;
     size_t length;
     unsigned symbols, lent, refusal, clauses, rows;
-    int16_t row[3][WIDTH];
+    int16_t row[3][ROW_LITERALS];
 } Spelling;
 
 #define TEXT(text) text, sizeof text - 1
@@ -160,12 +160,13 @@ static const Spelling spellings[] = {
 
 /* Tries one spelling on an empty board, or on none where S is 0. */
 static bool try_spelling(Play *play, const Spelling *spelling) {
-    size_t numbers = WIDTH * spelling->lent, added = WIDTH * spelling->rows * sizeof(int16_t);
+    size_t numbers = WIDTH * spelling->lent;
     play_start(play, 8, true);
     bool good = text_open(play, spelling->symbols) &&
                 text_read(play, (const uint8_t *)spelling->text, spelling->length, spelling->length, numbers, false);
     good = good && play->last.refusal == spelling->refusal && play->last.clauses == spelling->clauses && play->last.added == spelling->rows &&
-           play->board.rows == spelling->rows && memcmp(play->ours.table + GUARD, spelling->row, added) == 0;
+           play->board.rows == spelling->rows && play->board.rules == (spelling->refusal == 0 ? spelling->clauses : 0);
+    for (unsigned r = 0; r < spelling->rows; r++) good = good && try_has_row(play, r, spelling->row[r], r + 1);
     return good || text_wrong(play, "a text spelt by hand", (const uint8_t *)spelling->text, spelling->length);
 }
 

@@ -5,10 +5,10 @@
 
 #include "random.h"
 
-/* Sound rows from row 2,048 on, which no call may take for rows lent. */
+/* Rows of literal 1, from rule 1, from row 2,048 on, which no call may take for rows lent. */
 static void past_the_last_row(Tables *tables) {
     for (unsigned place = WIDTH * MOST_ROWS; place < TABLE_LENDABLE; place++)
-        tables->table[GUARD + place] = place % WIDTH == 0;
+        tables->table[GUARD + place] = place % WIDTH == 0 || place % WIDTH == RULE_PLACE;
 }
 
 /* True if the call names a furnace. */
@@ -46,11 +46,12 @@ size_t formula_window(const Step *step) {
 /* Both sides alike: no board, and noise in every place of every table. */
 void play_start(Play *play, uint64_t seed, bool with_library) {
     play->with_library = with_library;
+    play->watched = sizeof play->ours.table;
     play->board = (Board){0};
     play->library_board = (tup_board){0};
-    play->book.count = play->book.rows = play->book.symbols = 0;
+    book_start(&play->book);
     play->last = (Outcome){0};
-    play->demand_3 = false;
+    play->demand_3 = play->booked = play->renumbered = false;
     play->difference[0] = 0;
     random_fill(seed, play->ours.table, sizeof play->ours.table);
     if (seed % 2 == 0) past_the_last_row(&play->ours);
@@ -98,95 +99,69 @@ static Outcome model_call(const Step *step, Board *board, Tables *tables) {
     }
 }
 
-/* What the caller himself writes into the clause table; returns the rows in use after it. */
-static uint16_t caller_writes(const Step *step, unsigned rows, Tables *tables) {
+/* True if the caller adds a row of his own, and there is room for it. */
+static bool adds_row(const Step *step, unsigned rows) {
+    return step->kind == APPEND_ROW && rows < MOST_ROWS;
+}
+
+/* The rules counted after what the caller did: as many as he says, or more for a row of his own where they can be more. */
+static uint16_t rules_after(const Step *step, unsigned rows, unsigned rules) {
+    if (step->kind == SET_RULES) return (uint16_t)step->value;
+    return (uint16_t)(adds_row(step, rows) && rules + step->rules <= MOST_RULES ? rules + step->rules : rules);
+}
+
+/* What the caller himself writes into the clause table, where so many rules are counted now; returns the rows in use after it. */
+static uint16_t caller_writes(const Step *step, unsigned rows, unsigned rules, Tables *tables) {
     if (step->kind == SET_NUMBER) tables->table[GUARD + step->place] = (int16_t)step->value;
     if (step->kind == SET_ROWS) return (uint16_t)step->value;
-    if (step->kind != APPEND_ROW || rows >= MOST_ROWS) return (uint16_t)rows;
-    memcpy(tables->table + GUARD + WIDTH * rows, step->row, sizeof step->row);
+    if (!adds_row(step, rows)) return (uint16_t)rows;
+    int16_t *row = tables->table + GUARD + WIDTH * rows;
+    memcpy(row, step->row, sizeof step->row);
+    row[RULE_PLACE] = (int16_t)rules;
     return (uint16_t)(rows + 1);
 }
 
 /* What the caller does himself, on the library's side. */
 void caller_acts(const Step *step, tup_board *board, Tables *tables) {
-    board->rows = caller_writes(step, board->rows, tables);
+    board->rules = rules_after(step, board->rows, board->rules);
+    board->rows = caller_writes(step, board->rows, board->rules, tables);
     if (step->kind == SET_SYMBOLS) board->symbols = (uint16_t)step->value;
     if (step->kind == SET_HELD) board->held[step->furnace - 1][step->place] = (uint8_t)step->value;
 }
 
 /* The same on the model's side. */
 static void model_caller_acts(const Step *step, Board *board, Tables *tables) {
-    board->rows = caller_writes(step, board->rows, tables);
+    board->rules = rules_after(step, board->rows, board->rules);
+    board->rows = caller_writes(step, board->rows, board->rules, tables);
     if (step->kind == SET_SYMBOLS) board->symbols = (uint16_t)step->value;
     if (step->kind == SET_HELD) board->held[step->furnace - 1][step->place] = step->value != 0;
 }
 
-/* Puts each clause of a text that was read into the book as a rule. */
-static void book_clauses(Book *book, const Step *step) {
-    Form form;
-    if (!text_keeps_form(step->text, step->bytes, &form)) return;
-    size_t at = form.body;
-    for (unsigned c = 0; c < form.clauses; c++) {
-        Clause clause = next_clause(step->text, step->bytes, &at, book->symbols);
-        book->rules[book->count++] = clause_rule(&clause);
-    }
-}
-
-/* Puts the rule that a step added into the book, as its bytes or as its text has it. */
-static void book_rule(Book *book, const Step *step) {
-    if (step->kind == RULE) {
-        book->rules[book->count++] = rule_of(step->formula, step->bytes);
-        return;
-    }
-    Spelt spelt = spelt_by(step->text, step->bytes);
-    book->rules[book->count++] = rule_of(spelt.bytes, spelt.count);
-}
-
-/* Keeps the book of rules: a good open starts it, an accepted rule or text goes in with its rows. A book without room is closed. */
-static void keep_book(Play *play, const Step *step, const Outcome *outcome) {
-    Book *book = &play->book;
-    if (outcome->refusal != 0) return;
-    if (step->kind == OPEN) {
-        book->symbols = play->board.symbols;
-        book->rows = 0;
-        book->count = 0;
-    } else if (step->kind == RULE || step->kind == TEXT_RULE || step->kind == READ) {
-        size_t rules = step->kind == READ ? outcome->clauses : 1;
-        if (book->count + rules > BOOK_RULES || book->rows + outcome->added > MOST_ROWS) book->symbols = 0;
-        if (book->symbols == 0) return;
-        const int16_t *rows = play->ours.table + GUARD + WIDTH * (play->board.rows - outcome->added);
-        if (step->kind == READ) book_clauses(book, step);
-        else book_rule(book, step);
-        memcpy(book->written + WIDTH * book->rows, rows, outcome->added * WIDTH * sizeof rows[0]);
-        book->rows += outcome->added;
-    }
-}
-
-/* True if the rows in use are those that the rules in the book wrote, and nobody else's. */
-bool book_covers(const Play *play) {
-    const Book *book = &play->book;
-    return book->symbols != 0 && play->board.symbols == book->symbols && play->board.rows == book->rows &&
-           memcmp(play->ours.table + GUARD, book->written, book->rows * WIDTH * sizeof book->written[0]) == 0;
+/* Makes the library's call and compares it with the model's, and with what follows from the documents for it; false if they differ. */
+static bool library_agrees(Play *play, const Step *step) {
+    play->library_last = library_call(step, &play->library_board, &play->theirs);
+    if (!answer_is_bounded(play, step, &play->library_last, play->given.symbols, &play->theirs)) return false;
+    if (!same_everywhere(play, step, &play->last, &play->library_last)) return false;
+    if (step->kind == BLAME && play->last.refusal == 0 && !marks_are_enough(play, step)) return false;
+    play->renumbered = can_renumber(step->kind) && play->last.refusal == 0 && (step->noise >> 8) % 3 == 0;
+    return !play->renumbered || numbers_change_nothing(play, step);
 }
 
 /* Plays one step on both sides; false if they differ, with the difference in words. */
 bool play_step(Play *play, const Step *step) {
-    play->demand_3 = false;
+    play->demand_3 = play->booked = play->renumbered = false;
     if (step->kind >= CALLS) {
         model_caller_acts(step, &play->board, &play->ours);
         caller_acts(step, &play->library_board, &play->theirs);
+        book_parts(play);
         return true;
     }
     lend(play, step);
     play->given = play->library_board;
     play->last = model_call(step, &play->board, &play->ours);
-    if (play->with_library) {
-        play->library_last = library_call(step, &play->library_board, &play->theirs);
-        if (!answer_is_bounded(play, step, &play->library_last, play->given.symbols, &play->theirs)) return false;
-        if (!same_everywhere(play, step, &play->last, &play->library_last)) return false;
-        if (step->kind == BLAME && play->last.refusal == 0 && !marks_are_enough(play, step)) return false;
-    }
-    keep_book(play, step, &play->last);
+    if (play->with_library && !library_agrees(play, step)) return false;
+    keep_book(play, step);
+    if (!book_agrees(play, step)) return false;
     play->demand_3 = step->kind == SETTLE && play->last.refusal == 0 && book_covers(play);
     return !play->demand_3 || same_by_rules(play, step);
 }

@@ -13,7 +13,6 @@ enum {
     FORMULA_LENDABLE = 98304,                  /* the longest formula of depth 16, and a byte too many */
     TEXT_LENDABLE = 1100000,                   /* a comment of a megabyte, and a text after it */
     MOST_STEPS = 2600,
-    BOOK_RULES = 12000,
     PLACE_WORD = 24                            /* bytes for a place in words */
 };
 
@@ -24,9 +23,10 @@ typedef enum Kind {
     CALLS,
     SET_SYMBOLS = CALLS, /* the caller writes S = value into the board */
     SET_ROWS,            /* the caller writes rows in use = value */
+    SET_RULES,           /* the caller writes rules counted = value */
     SET_HELD,            /* the caller writes the byte value at place of a furnace's premises */
     SET_NUMBER,          /* the caller writes the number value at a place of the clause table */
-    APPEND_ROW,          /* the caller writes a row of his own after the rows in use, and counts it in */
+    APPEND_ROW,          /* the caller counts so many rules, writes a row of his own from the last one after the rows in use, and counts it in */
     KINDS
 } Kind;
 
@@ -35,7 +35,8 @@ typedef struct Step {
     int value;
     unsigned furnace;        /* that the call names, any byte; 1 or 2 where the caller writes into its premises */
     unsigned place;
-    int16_t row[WIDTH];
+    int16_t row[ROW_LITERALS];
+    unsigned rules;          /* that the caller counts ahead of his row */
     size_t numbers;          /* numbers of the clause table lent */
     size_t lent[3];          /* labels, ranks and supports; or marks; or bytes for a text or a formula */
     const uint8_t *formula;  /* of a rule, or to be written as text */
@@ -57,11 +58,12 @@ typedef struct Tables {
     uint8_t text[GUARD + TEXT_LENDABLE + GUARD];
 } Tables;
 
-/* The rules accepted since the last good open, clauses of texts among them, and the rows they wrote. */
+/* The rules accepted since the last good open, clauses of texts among them, and the rows they wrote, each with the number of its rule as the book
+ * counts them. Where the caller has written into the board or its rows, and not put it back, they are not what the book says. */
 typedef struct Book {
-    unsigned symbols, rows;
-    size_t count;
-    Rule rules[BOOK_RULES];
+    unsigned symbols, rows, count;
+    bool parted;
+    Rule rules[MOST_RULES];
     int16_t written[MOST_ROWS * WIDTH];
 } Book;
 
@@ -71,9 +73,10 @@ typedef struct Play {
     Board board;
     tup_board library_board, given; /* now, and as the last call was given it */
     Tables ours, theirs;
+    size_t watched;          /* bytes of the clause table, from its front on, that are compared after each call */
     Book book;
     Outcome last, library_last;
-    bool demand_3;           /* compared at the last step */
+    bool demand_3, booked, renumbered; /* compared at the last step: demand 3, the book of rules, the call with other rule numbers */
     char difference[240];    /* empty, or the first difference in words */
 } Play;
 
@@ -88,7 +91,17 @@ void play_start(Play *play, uint64_t seed, bool with_library);
 void lend(Play *play, const Step *step);
 void caller_acts(const Step *step, tup_board *board, Tables *tables);
 bool play_step(Play *play, const Step *step);
+
+/* book.c */
+void book_start(Book *book);
+void keep_book(Play *play, const Step *step);
+void book_parts(Play *play);
 bool book_covers(const Play *play);
+bool book_agrees(Play *play, const Step *step);
+
+/* renumber.c */
+bool can_renumber(Kind kind);
+bool numbers_change_nothing(Play *play, const Step *step);
 
 /* library.c */
 Outcome library_call(const Step *step, tup_board *board, Tables *tables);
@@ -101,6 +114,7 @@ bool answer_is_bounded(Play *play, const Step *step, const Outcome *told, unsign
 /* compare.c */
 bool same(Play *play, const char *what, long place, unsigned theirs, unsigned ours);
 bool same_outcome(Play *play, const Outcome *ours, const Outcome *theirs);
+bool table_agrees(Play *play);
 bool same_tables(Play *play, const Step *step);
 bool same_everywhere(Play *play, const Step *step, const Outcome *ours, const Outcome *theirs);
 bool same_by_rules(Play *play, const Step *step);

@@ -5,7 +5,7 @@
 #include "speller.h"
 #include "spelttrials.h"
 
-enum { TORN_TEXT = 100, DRAWN = 90, MOST_DRAWN = 40 };
+enum { TORN_TEXT = 100, DRAWN = 90, MOST_DRAWN = 40, NEAR = 4096 };
 
 /* A text to be torn, and S of the empty board that it is tried on. */
 typedef struct Whole {
@@ -27,7 +27,7 @@ static uint8_t torn[TORN_TEXT + 1];
 /* Reads a damaged text to bytes, and adds it to an empty board. */
 static bool try_torn(Play *play, unsigned symbols, size_t bytes, size_t standing) {
     bool good = spelt_to_bytes(play, torn, bytes, standing, ROOMY, true) && spelt_text_rule(play, torn, bytes, standing, TABLE_LENDABLE, true);
-    if (good && play->board.rows > 0) good = spelt_open(play, symbols);
+    if (good && play->board.rules > 0) good = spelt_open(play, symbols);
     return good || spelt_wrong(play, "a damaged formula text", torn, bytes);
 }
 
@@ -69,7 +69,7 @@ static bool tear(Play *play, unsigned symbols, const uint8_t *text, size_t lengt
         memcpy(torn, text, length);
         good = good && try_torn(play, symbols, at, length);
     }
-    return good && put_in(play, symbols, text, length, length);
+    return good && put_in(play, symbols, text, length, length) && table_agrees(play);
 }
 
 /* Draws a formula of a few symbols, spells it and damages the text. */
@@ -90,11 +90,13 @@ static bool tear_drawn(Play *play, Random *random) {
     return tear(play, ink.symbols, sheet.bytes, sheet.length);
 }
 
-/* True if the two sides agree on every damaged text. */
+/* True if the two sides agree on every damaged text. These are so many that of the clause table only the front is compared after each call, and the
+ * whole of it after all damage to a text. */
 bool torn_spelt_agree(Play *play, uint64_t seed) {
     Random random = random_for(seed, 0x746F726E73);
     bool good = true;
     play_start(play, seed, true);
+    play->watched = NEAR;
     for (size_t i = 0; i < sizeof wholes / sizeof wholes[0]; i++)
         good = good && tear(play, wholes[i].symbols, (const uint8_t *)wholes[i].text, strlen(wholes[i].text));
     for (unsigned i = 0; i < DRAWN; i++) good = good && tear_drawn(play, &random);

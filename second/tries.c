@@ -1,4 +1,4 @@
-/* The calls, rows and marks of trials outside the random sequences. */
+/* The calls, acts, rows and marks of trials outside the random sequences. */
 #include "tries.h"
 
 #include <stdio.h>
@@ -25,11 +25,35 @@ bool try_call(Play *play, Kind kind, unsigned furnace, int value, unsigned refus
     return play_step(play, &step) && play->last.refusal == refusal;
 }
 
-/* The caller adds a row of his own. */
-void try_row(Play *play, const int16_t row[WIDTH]) {
-    Step step = {.kind = APPEND_ROW};
+/* A call with so many places of each table to write; where it is given a formula or a text, that is symbol 1 alone. */
+Step try_lent(Kind kind, unsigned furnace, int value, size_t places) {
+    static const uint8_t formula[] = {0x10, 1}, clause[] = "p cnf 1 1\n1 0\n", symbol[] = "1";
+    Step step = try_step(kind, furnace, value);
+    for (unsigned i = 0; i < 3; i++) step.lent[i] = places;
+    step.formula = gives_formula(kind) ? formula : NULL;
+    step.text = kind == READ ? clause : spells(kind) ? symbol : NULL;
+    step.bytes = step.standing = kind == READ ? sizeof clause - 1 : spells(kind) ? 1 : gives_formula(kind) ? sizeof formula : 0;
+    return step;
+}
+
+/* The caller writes a value himself, at a place of the clause table where that is what he writes into. */
+void try_act(Play *play, Kind kind, unsigned place, int value) {
+    Step step = {.kind = kind, .place = place, .value = value};
+    play_step(play, &step);
+}
+
+/* The caller adds a row of his own, from a rule of its own. */
+void try_row(Play *play, const int16_t row[ROW_LITERALS]) {
+    Step step = {.kind = APPEND_ROW, .rules = 1};
     memcpy(step.row, row, sizeof step.row);
     play_step(play, &step);
+}
+
+/* True if the row is in use, has these literals and zeros after them, and is from the rule of this number. */
+bool try_has_row(const Play *play, unsigned row, const int16_t literals[ROW_LITERALS], unsigned rule) {
+    const int16_t *table = play->ours.table + GUARD;
+    return row < play->board.rows && memcmp(table + WIDTH * row, literals, ROW_LITERALS * sizeof table[0]) == 0 &&
+           rule_number(table, row) == (int)rule;
 }
 
 /* True if the last call was done and marked these premises, so many at most, and no others. */

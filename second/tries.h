@@ -1,5 +1,5 @@
-/* What trials outside the random sequences have in common: calls and rows by hand, played on both sides; the premises that they mark; and what is
- * said where a board made by hand goes wrong. */
+/* What trials outside the random sequences have in common: calls, acts of the caller's and rows by hand, played on both sides; the rows and marks
+ * that they leave; and what is said where a board made by hand goes wrong. */
 #ifndef TRIES_H
 #define TRIES_H
 
@@ -8,7 +8,10 @@
 Step try_step(Kind kind, unsigned furnace, int value);
 bool try_counted(Play *play, const Step *step);
 bool try_call(Play *play, Kind kind, unsigned furnace, int value, unsigned refusal);
-void try_row(Play *play, const int16_t row[WIDTH]);
+Step try_lent(Kind kind, unsigned furnace, int value, size_t places);
+void try_act(Play *play, Kind kind, unsigned place, int value);
+void try_row(Play *play, const int16_t row[ROW_LITERALS]);
+bool try_has_row(const Play *play, unsigned row, const int16_t literals[ROW_LITERALS], unsigned rule);
 bool try_marked(const Play *play, const int *premises, unsigned most);
 bool try_wrong(const Play *play, const char *words, const char *of, unsigned number);
 

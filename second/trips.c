@@ -16,29 +16,37 @@ static bool wrong(const Play *play, const char *what) {
     return text_wrong(play, what, text, strlen((char *)text));
 }
 
-/* Notes the rows in use and their text; returns its length. */
+/* Notes the rows in use, as they are, and their text; returns its length. */
 static size_t note_board(const Play *play) {
     memcpy(rows, play->ours.table + GUARD, play->board.rows * WIDTH * sizeof rows[0]);
     return text_of_rows(&play->board, play->ours.table + GUARD, (char *)text);
 }
 
-/* True if the rows in use are the rows noted, in the library's table too. */
-static bool rows_noted(const Play *play, unsigned count) {
-    size_t bytes = count * WIDTH * sizeof rows[0];
-    return play->board.rows == count && play->library_board.rows == count && memcmp(play->theirs.table + GUARD, rows, bytes) == 0;
+/* Notes of each row that it is from a rule of its own, in row order, as a text read onto a new board leaves it. */
+static void note_own_rules(unsigned count) {
+    for (unsigned r = 0; r < count; r++) rows[WIDTH * r + RULE_PLACE] = (int16_t)(r + 1);
 }
 
-/* "Reading what was written onto a new board of equal S gives the same rows, if as many are lent": the library's text of the board in play,
- * read by it over noise. With a number fewer lent the last row no longer fits. A board that is not good has no text. */
+/* True if the rows in use are the rows noted, and so many rules are counted, in the library's board and table too. */
+static bool rows_noted(const Play *play, unsigned count, unsigned rules) {
+    size_t bytes = count * WIDTH * sizeof rows[0];
+    return play->board.rows == count && play->library_board.rows == count && play->board.rules == rules && play->library_board.rules == rules &&
+           memcmp(play->theirs.table + GUARD, rows, bytes) == 0;
+}
+
+/* "Reading what was written onto a new board of equal S gives the same rows, if as many are lent", and by Ticket 8 "reading back gives the same
+ * literals", each row from a rule of its own: the library's text of the board in play, read by it over noise. With a number fewer lent the last row
+ * no longer fits. A board that is not good has no text. */
 bool trip_back(Play *play) {
     unsigned symbols = play->board.symbols, count = play->board.rows;
     if (!board_is_good(&play->board, play->ours.table + GUARD, TABLE_LENDABLE)) return true;
     size_t length = note_board(play);
+    note_own_rules(count);
     if (!text_write(play, TABLE_LENDABLE, length) || play->last.written != length) return wrong(play, "writing a board");
     memcpy(text, play->theirs.text + GUARD, length);
     text_noise(play, length);
     bool good = text_open(play, symbols) && text_read(play, text, length, length, WIDTH * count, false) && play->last.refusal == 0 &&
-                play->last.clauses == count && rows_noted(play, count);
+                play->last.clauses == count && rows_noted(play, count, count);
     if (good && count > 0)
         good = text_open(play, symbols) && text_read(play, text, length, length, WIDTH * count - 1, false) && play->last.refusal == 9 &&
                play->last.clauses == count - 1;
@@ -114,7 +122,7 @@ static size_t write_or(uint8_t *bytes, const int *literals, unsigned count) {
 
 /* Adds a clause as a rule, "one of these literals". */
 static bool add_as_rule(Play *play, const Clause *clause) {
-    uint8_t formula[8 * WIDTH];
+    uint8_t formula[8 * ROW_LITERALS];
     int literals[PLACES];
     unsigned count = 0;
     for (unsigned p = 0; p < PLACES; p++)
@@ -124,7 +132,7 @@ static bool add_as_rule(Play *play, const Clause *clause) {
     return play_step(play, &step) && play->last.refusal == 0;
 }
 
-/* "Each clause is added as one rule, in order": the same rows, one rule after the other on a new board. */
+/* "Each clause is added as one rule, in order": the same rows from the same rules, one rule after the other on a new board. */
 static bool rules_of_text(Play *play, const Page *page) {
     Form form = {0};
     unsigned count = play->board.rows;
@@ -137,7 +145,7 @@ static bool rules_of_text(Play *play, const Page *page) {
         Clause clause = next_clause(page->bytes, page->given, &at, page->symbols);
         good = add_as_rule(play, &clause);
     }
-    if (good && rows_noted(play, count)) return cover_by_rules(), true;
+    if (good && rows_noted(play, count, form.clauses)) return cover_by_rules(), true;
     return text_wrong(play, "a text and its clauses as rules", page->bytes, page->given);
 }
 

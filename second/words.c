@@ -3,8 +3,9 @@
 
 #include "steps.h"
 
-static const char *const words[KINDS] = {"open", "rule", "add text", "read", "hold", "withdraw", "settle", "ask", "explain", "ground", "blame", "write",
-                                         "to bytes", "to text", "set S", "set rows used", "set a held byte", "set a number", "append a row"};
+static const char *const words[KINDS] = {
+    "open", "rule", "add text", "read", "hold", "withdraw", "settle", "ask", "explain", "ground", "blame", "write", "to bytes", "to text", "set S",
+    "set rows used", "set rules", "set a held byte", "set a number", "append a row"};
 
 /* The word for a kind of step. */
 const char *kind_word(Kind kind) {
@@ -65,7 +66,7 @@ void print_text(const uint8_t *text, size_t bytes) {
 
 /* Prints the literals of a row. */
 static void print_row(const int16_t *row) {
-    unsigned last = WIDTH;
+    unsigned last = ROW_LITERALS;
     while (last > 0 && row[last - 1] == 0) last--;
     for (unsigned i = 0; i < last; i++) printf(" %d", row[i]);
     if (last == 0) printf(" (nothing but zeros)");
@@ -86,9 +87,10 @@ void print_step(const Step *step, size_t ordinal) {
     switch (step->kind) {
     case SET_SYMBOLS: printf("the caller sets S to %d", step->value); break;
     case SET_ROWS: printf("the caller sets rows in use to %d", step->value); break;
+    case SET_RULES: printf("the caller sets rules counted to %d", step->value); break;
     case SET_HELD: printf("the caller sets furnace %u's held byte of %d to %d", step->furnace, literal_at(step->place), step->value); break;
     case SET_NUMBER: printf("the caller sets row %u, place %u of it, to %d", step->place / WIDTH, step->place % WIDTH, step->value); break;
-    case APPEND_ROW: printf("the caller appends the row"), print_row(step->row); break;
+    case APPEND_ROW: printf("the caller counts %u rules more, and appends the row", step->rules), print_row(step->row); break;
     case RULE: case TO_TEXT: printf("%s ", words[step->kind]), print_formula(step), print_lent(step); break;
     case READ: case TEXT_RULE: case TO_BYTES: printf("%s ", words[step->kind]), print_text(step->text, step->bytes), print_lent(step); break;
     case OPEN: printf("open %d", step->value); break;
@@ -107,7 +109,7 @@ void print_outcome(const char *who, Kind kind, const Outcome *outcome) {
     else if (kind == RULE || kind == TEXT_RULE || kind == READ) printf("%u rows added", outcome->added);
     else if (kind == WRITE || kind == TO_BYTES || kind == TO_TEXT) printf("%zu bytes written", outcome->written);
     else if (kind == ASK) printf("%s", outcome->standing < 4 ? standings[outcome->standing] : "no standing");
-    else if (kind == EXPLAIN) printf("rank %u, row %u of %u literals", outcome->rank, outcome->row, outcome->literals);
+    else if (kind == EXPLAIN) printf("rank %u, row %u of %u literals, rule %u", outcome->rank, outcome->row, outcome->literals, outcome->rule);
     else printf("done");
     if (kind == READ) printf(", %u clauses before the fault or the end", outcome->clauses);
     if ((gives_formula(kind) || spells(kind)) && outcome->place != NO_PLACE) printf(", at byte %zu", outcome->place);
@@ -117,7 +119,7 @@ void print_outcome(const char *who, Kind kind, const Outcome *outcome) {
 /* Prints the model's board and rows in use. */
 void print_board(const Play *play, size_t numbers) {
     const Board *board = &play->board;
-    printf("  board by the model: S %u, rows in use %u", board->symbols, board->rows);
+    printf("  board by the model: S %u, rows in use %u, rules %u", board->symbols, board->rows, board->rules);
     for (unsigned f = 1; f <= FURNACES; f++) {
         printf("; held for furnace %u:", f);
         for (unsigned p = 0; p < PLACES; p++)
@@ -125,7 +127,7 @@ void print_board(const Play *play, size_t numbers) {
     }
     printf("\n");
     for (unsigned r = 0; r < board->rows && r < rows_lent(numbers) && r < 40; r++) {
-        printf("    row %u:", r);
+        printf("    row %u, rule %d:", r, rule_number(play->ours.table + GUARD, r));
         print_row(play->ours.table + GUARD + WIDTH * r);
         printf("\n");
     }

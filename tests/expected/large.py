@@ -65,15 +65,21 @@ def fill():
         rows.append(row)
     return rows
 
+def table_row(row, rule):
+    """Nine numbers, straight from 02's Ticket 8: eight places, the literals and then zeros, and the number of the row's rule."""
+    return row + [0] * (8 - len(row)) + [rule]
+
 def numbers(row):
     return "[" + "".join(f" {n}" for n in row) + " ]"
 
 def board(rows, held):
-    """The board as it is printed: the premises of furnace 1, and of furnace 2, which holds none here."""
-    return f"S 200 rows {rows} held {numbers(sorted(held, key=place))} and {numbers([])}"
+    """The board as it is printed: each row is from a rule of its own, so as many rules are counted; the premises of furnace 1, and of furnace 2,
+    which holds none here."""
+    return f"S 200 rows {rows} rules {rows} held {numbers(sorted(held, key=place))} and {numbers([])}"
 
 def on(rows, held):
-    return f"on {board(rows, held)} lent 16392"
+    """2,049 rows of nine numbers are there; 2,048 of them are lent."""
+    return f"on {board(rows, held)} lent {2049 * 9}"
 
 def line(rows, held, ask):
     rank, support = rounds(200, rows, held)
@@ -86,7 +92,7 @@ def line(rows, held, ask):
     ground = reached(ask, rows, rank, support, held, memo)
     c = conflict(200, rank)
     text = " ".join(str(w) for w in words)
-    text += f"; why {ask} for 1 ok rank {rank[ask]} row {r} {numbers(rows[r])}; ground {ask} in 400 for 1 marked {len(ground)}"
+    text += f"; why {ask} for 1 ok rank {rank[ask]} row {r} rule {r + 1} {numbers(rows[r])}; ground {ask} in 400 for 1 marked {len(ground)}"
     if c:
         s = blamed(c, rank)
         blame = reached(s, rows, rank, support, held, memo) | reached(-s, rows, rank, support, held, memo)
@@ -104,7 +110,7 @@ if __name__ == "__main__":
     rule = "; rule 14 10 01 10 c8"
     print(on(2048, held) + rule + " no 9, as given")
     print(on(2049, held) + rule + " no 1, as given")
-    old, new = rows[2047] + [0] * 5, [-1, 200] + [0] * 6          # 1 implies 200
+    old, new = table_row(rows[2047], 2048), table_row([-1, 200], 2048)          # 1 implies 200, the rule after 2,047
     changed = sum(1 for x, y in zip(old, new) if x != y)
     print(on(2047, held) + rule + f" rows 2047 1 {numbers(new)}, changed {changed} {board(2048, held)}")
     rows[2047] = [-1, 200]

@@ -2,7 +2,7 @@
 use mathlib.Core.Path.{_≡_, refl, sym, ap, ap₂, subst, _∙_}
 use mathlib.Core.Bool.{Bool, true, false, cond}
 use mathlib.Core.List.{List, _++_, map}
-use Prim.Native.Nat.{ℕ, _+_, _-_, _*_, _%_, _≤_, _^_}
+use Prim.Native.Nat.{ℕ, suc, _-_, _*_, _%_, _≤_, _^_}
 use native.Mathlib.Nat.{one-mul, mod-eq-of-lt}
 use native.Mathlib.Omega.{arith}
 use borrow.Author.Tests.{le-leb, leb-true}
@@ -15,6 +15,7 @@ use Rattle.meaning.specs.Tests.{all, from}
 use Rattle.meaning.specs.Formulae.{Formula, occurs, symbolsOf, Rule, ruleOf}
 use Rattle.meaning.specs.Clauses.{assignments, rowsOf, satisfiable}
 use Rattle.meaning.proofs.Tests.{clash, all-of, keep-in, from-in}
+use Rattle.literals.specs.Row.{ofRule}
 use Rattle.literals.specs.Refusals.{numberOf}
 use Rattle.literals.specs.declared.refusal.Refusal.{Refusal}
 use Rattle.literals.specs.declared.refusal.Refusal.the-variants.{BytesLeftOver}
@@ -22,12 +23,12 @@ use Rattle.formula.specs.Parse.{Parsed, good, bad, parse, levels, ended, wholeO
 use Rattle.formula.specs.Answers.{isGood, padded, named, namesOf, truthOf, formulaOf}
 use Rattle.formula.specs.declared.naming.Names.{Names}
 use Rattle.formula.proofs.Faults.{whole-faults}
-use Rattle.implicates.specs.Appending.{ruleBy, appended, answerOf, tableOf}
+use Rattle.implicates.specs.Appending.{ruleBy, fits, appended, answerOf, tableOf}
 use Rattle.implicates.specs.declared.Appended.{Appended}
 use Rattle.implicates.specs.declared.Appended.the-variants.{Rows, Unsatisfiable, Full}
 use Rattle.implicates.proofs.Rules.{answer-by-table, append-by-table}
 use Rattle.board.specs.Faults.{firstFault}
-use Rattle.board.specs.Rules.{ruleFaults, noPlace, placeTold, rowsOfBytes, withRows, ruled, ruledTable}
+use Rattle.board.specs.Rules.{ruleFaults, noPlace, placeTold, rowsOfBytes, withRules, ruled, ruledTable}
 use Rattle.board.specs.declared.Board.{Board}
 use Rattle.board.specs.declared.Outcome.the-variants.{Done, Refused}
 
@@ -129,34 +130,32 @@ module _ (S : ℕ) (bytes names : List ℕ) (truth : List Bool) (g : isGood (who
   table-is : truth ≡ map (rule .accepts) (assignments (length (rule .symbols)))
   table-is = t ∙ ap₂ truthOf e (sym (whole-is S bytes g)) ∙ truth-is S (wholeOf S bytes) g
 
-  pub answer-is : (used : ℕ) {lent all : ℕ} {answer : Appended} → lent ≡ all → answer ≡ answerOf (ruleBy names truth) used lent
-      → answer ≡ answerOf (ruleOf S (formulaOf (wholeOf S bytes))) used all
-  answer-is used {all = all} l a = a ∙ rw (l, e) (answer-by-table rule truth table-is used all)
+  pub answer-is : (used rules : ℕ) {lent all : ℕ} {answer : Appended} → lent ≡ all → answer ≡ answerOf (ruleBy names truth) used rules lent
+      → answer ≡ answerOf (ruleOf S (formulaOf (wholeOf S bytes))) used rules all
+  answer-is used rules {all = all} l a = a ∙ rw (l, e) (answer-by-table rule truth table-is used rules all)
 
-  pub append-is : (used : ℕ) (table : List ℤ) {lent all : ℕ} {after : List ℤ} → lent ≡ all → after ≡ tableOf (ruleBy names truth) used lent table
-      → after ≡ tableOf (ruleOf S (formulaOf (wholeOf S bytes))) used all table
-  append-is used table {all = all} l a = a ∙ rw (l, e) (append-by-table rule truth table-is used all table)
+  pub append-is : (used rules : ℕ) (table : List ℤ) {lent all : ℕ} {after : List ℤ} → lent ≡ all
+      → after ≡ tableOf (ruleBy names truth) used rules lent table → after ≡ tableOf (ruleOf S (formulaOf (wholeOf S bytes))) used rules all table
+  append-is used rules table {all = all} l a = a ∙ rw (l, e) (append-by-table rule truth table-is used rules all table)
 
 -- ---- what appending comes to, and why
 
-module _ (rule : Rule) (used lent : ℕ) where
-  abbrev rows : ℕ
-  rows = length (rowsOf rule)
-
+module _ (rule : Rule) (used rules lent : ℕ) where
   -- what is known of the rule's two tests after each answer
   abbrev Because : Appended → Type 0
   Because Unsatisfiable = satisfiable rule ≡ false
-  Because Full = (satisfiable rule ≡ true) × (leb (used + length (rowsOf rule)) lent ≡ false)
-  Because (Rows n) = (satisfiable rule ≡ true) × (leb (used + length (rowsOf rule)) lent ≡ true) × (n ≡ length (rowsOf rule))
+  Because Full = (satisfiable rule ≡ true) × (fits used rules lent (rowsOf rule) ≡ false)
+  Because (Rows n) = (satisfiable rule ≡ true) × (fits used rules lent (rowsOf rule) ≡ true) × (n ≡ length (rowsOf rule))
 
-  pub because : {answer : Appended} → answerOf rule used lent ≡ answer → Because answer
+  pub because : {answer : Appended} → answerOf rule used rules lent ≡ answer → Because answer
   unfolding answerOf
-  because {answer} e = subst Because e (go (satisfiable rule) (leb (used + rows) lent) refl refl)
+  because {answer} e = subst Because e (go (satisfiable rule) (fits used rules lent (rowsOf rule)) refl refl)
     where
-      go : (s fits : Bool) → satisfiable rule ≡ s → leb (used + rows) lent ≡ fits → Because (cond s (cond fits (Rows rows) Full) Unsatisfiable)
+      go : (s enough : Bool) → satisfiable rule ≡ s → fits used rules lent (rowsOf rule) ≡ enough
+          → Because (cond s (cond enough (Rows (length (rowsOf rule))) Full) Unsatisfiable)
       go true true s f = (s, f, refl)
       go true false s f = (s, f)
-      go false fits s f = s
+      go false enough s f = s
 
 -- ---- the answer and the table after it, where adding is refused and where it is done
 
@@ -168,7 +167,7 @@ module _ (table : List ℤ) (b : Board) (bytes : List ℕ) where
   rule-refused why e p = rw (e, sym p) (refl, refl)
 
   pub rule-done : firstFault (ruleFaults table b bytes) ≡ Done → let rows = rowsOfBytes (b .symbols) bytes in
-      (record { outcome = Done; place = noPlace; added = length rows; board = withRows b (length rows) } ≡ ruled table b bytes)
-      × (appended table (b .rows) rows ≡ ruledTable table b bytes)
+      (record { outcome = Done; place = noPlace; added = length rows; board = withRules b (length rows) 1 } ≡ ruled table b bytes)
+      × (appended table (b .rows) (ofRule (suc (b .rules)) rows) ≡ ruledTable table b bytes)
   unfolding ruled ruledTable
   rule-done e = rw e (refl, refl)

@@ -77,15 +77,19 @@ module _ (table : List ℤ) (b : Board) (furnace : ℕ) (l : ℤ) where
     rank-told = rw done rank-range
 
     -- the row is one of those in use
-    pub row-used : (reasoned table b furnace l .row < b .rows) × (b .rows ≤ 2048) × (width * b .rows ≤ length table)
-    row-used =
-        let good = tests .0 in
+    pub support-used : supportOn table b furnace (placeOf l) < b .rows
+    support-used =
         let p = placeOf l in
         let rows = rowsOn table b in
         let range = rank-range in
         let used = length-rows (b .rows) table in
-        let given = supportOf-is (2 * b .symbols) rows (heldBy b furnace) (rankOn table b furnace p - 1) p low small (omega (arith, used, good .sound .rows)) (omega arith) (omega (arith, small)) .0 in
-        (omega (arith, row-is, used, given), good .sound .rows, good .sound .room)
+        let few = tests .0 .sound .rows in
+        let given =
+        supportOf-is (2 * b .symbols) rows (heldBy b furnace) (rankOn table b furnace p - 1) p low small (omega (arith, used, few)) (omega arith) (omega (arith, small)) .0 in
+        omega (arith, used, given)
+
+    pub row-used : (reasoned table b furnace l .row < b .rows) × (b .rows ≤ 2048) × (width * b .rows ≤ length table)
+    row-used = (omega (arith, row-is, support-used), tests .0 .sound .rows, tests .0 .sound .room)
 
     pub row-shown : explained table b furnace l
         ≡ record { start = width * reasoned table b furnace l .row; stop = width * reasoned table b furnace l .row + length (decode (numbersAt table (reasoned table b furnace l .row))) }

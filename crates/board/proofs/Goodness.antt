@@ -13,7 +13,8 @@ use lib.Seq.{drop-cons, drop-set-lt}
 use Rattle.meaning.specs.Tests.{any}
 use Rattle.meaning.proofs.Tests.{both-true}
 use Rattle.literals.specs.Literal.{inRange, placeOf}
-use Rattle.literals.specs.Row.{rowsLent, rowsSound, Sound}
+use Rattle.literals.specs.Row.{mostRules, rowsLent, ruleSound, rowsSound, Sound}
+use Rattle.literals.proofs.Decoding.{sound-both}
 use Rattle.board.specs.Furnaces.{heldBy, withHeld}
 use Rattle.board.specs.Faults.{premisesFit, goodBoard}
 use Rattle.board.specs.Changes.{emptyBoard, withFlag}
@@ -47,41 +48,51 @@ module _ (table : List ℤ) (b : Board) where
   no-high h k = rw (le-leb 1 (b .symbols) h, lt-leb (b .symbols) 200 k)
 
   module _ (low : 1 ≤ b .symbols) (high : b .symbols ≤ 200) where
-    pub no-rows : rowsLent table < b .rows → goodBoard table b ≡ false
+    pub no-number : mostRules < b .rules → goodBoard table b ≡ false
     unfolding goodBoard
-    no-rows h = rw (le-leb 1 (b .symbols) low, le-leb (b .symbols) 200 high, lt-leb (b .rows) (rowsLent table) h)
+    no-number h = rw (le-leb 1 (b .symbols) low, le-leb (b .symbols) 200 high, lt-leb (b .rules) mostRules h)
 
-    module _ (lent : b .rows ≤ rowsLent table) where
-      pub no-sound : rowsSound (b .symbols) (b .rows) table ≡ false → goodBoard table b ≡ false
+    module _ (few : b .rules ≤ mostRules) where
+      pub no-rows : rowsLent table < b .rows → goodBoard table b ≡ false
       unfolding goodBoard
-      no-sound e = rw (le-leb 1 (b .symbols) low, le-leb (b .symbols) 200 high, le-leb (b .rows) (rowsLent table) lent, e)
+      no-rows h = rw (le-leb 1 (b .symbols) low, le-leb (b .symbols) 200 high, le-leb (b .rules) mostRules few, lt-leb (b .rows) (rowsLent table) h)
 
-      pub by-premises : rowsSound (b .symbols) (b .rows) table ≡ true → goodBoard table b ≡ premisesFit b
-      unfolding goodBoard
-      by-premises e = rw (le-leb 1 (b .symbols) low, le-leb (b .symbols) 200 high, le-leb (b .rows) (rowsLent table) lent, e)
+      module _ (lent : b .rows ≤ rowsLent table) where
+        pub by-rows : goodBoard table b ≡ (rowsSound (b .symbols) (b .rules) (b .rows) table && premisesFit b)
+        unfolding goodBoard
+        by-rows =
+            rw (le-leb 1 (b .symbols) low, le-leb (b .symbols) 200 high, le-leb (b .rules) mostRules few, le-leb (b .rows) (rowsLent table) lent)
 
 -- ---- a good board
 
 pub record Good (table : List ℤ) (b : Board) : Type 0 where
   pub some : 1 ≤ b .symbols
+  pub few : b .rules ≤ mostRules
   pub lent : b .rows ≤ rowsLent table
   pub sound : Sound (b .symbols) (b .rows) table
+  pub numbers : (r : ℕ) → r < b .rows → ruleSound (b .rules) table r ≡ true
   pub fit : premisesFit b ≡ true
 
 pub good-is : (table : List ℤ) (b : Board) → goodBoard table b ≡ true → Good table b
 unfolding goodBoard
 good-is table b e =
     let range = leb 1 (b .symbols) && leb (b .symbols) 200 in
+    let count = leb (b .rules) mostRules in
     let room = leb (b .rows) (rowsLent table) in
-    let rest = both-true (range && room && rowsSound (b .symbols) (b .rows) table) (premisesFit b) e in
-    let rows = both-true (range && room) (rowsSound (b .symbols) (b .rows) table) (rest .0) in
-    let used = both-true range room (rows .0) in
-    let count = both-true (leb 1 (b .symbols)) (leb (b .symbols) 200) (used .0) in
+    let sound = rowsSound (b .symbols) (b .rules) (b .rows) table in
+    let rest = both-true (range && count && room && sound) (premisesFit b) e in
+    let rows = both-true (range && count && room) sound (rest .0) in
+    let used = both-true (range && count) room (rows .0) in
+    let rules = both-true range count (used .0) in
+    let symbols = both-true (leb 1 (b .symbols)) (leb (b .symbols) 200) (rules .0) in
     let fits = leb-true (b .rows) (rowsLent table) (used .1) in
+    let each = sound-both (b .symbols) (b .rules) (b .rows) table (rows .1) in
     record {
-      some = leb-true 1 (b .symbols) (count .0);
+      some = leb-true 1 (b .symbols) (symbols .0);
+      few = leb-true (b .rules) mostRules (rules .1);
       lent = fits;
-      sound = record { symbols = leb-true (b .symbols) 200 (count .1); rows = omega arith; room = omega arith; sound = rows .1 };
+      sound = record { symbols = leb-true (b .symbols) 200 (symbols .1); rows = omega arith; room = omega arith; sound = λ r h. each r h .0 };
+      numbers = λ r h. each r h .1;
       fit = rest .1;
     }
 
@@ -119,4 +130,4 @@ pub empty-good : (table : List ℤ) (S : ℕ) → leb 1 S && leb S 200 ≡ true 
 unfolding rowsSound premisesFit
 empty-good table S e =
     let count = both-true (leb 1 S) (leb S 200) e in
-    by-premises table (emptyBoard S) (leb-true 1 S (count .0)) (leb-true S 200 (count .1)) zero-le refl ∙ rw (unset 400 (2 * S))
+    by-rows table (emptyBoard S) (leb-true 1 S (count .0)) (leb-true S 200 (count .1)) zero-le zero-le ∙ rw (unset 400 (2 * S))

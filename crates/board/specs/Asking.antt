@@ -9,7 +9,7 @@ use denote.Ref.{RefT, ptr, now}
 use Rattle.meaning.specs.Tests.{none}
 use Rattle.meaning.specs.Literals.{opp, has, conflict}
 use Rattle.literals.specs.Literal.{inRange, placeOf}
-use Rattle.literals.specs.Row.{width, numbersAt, decode}
+use Rattle.literals.specs.Row.{width, numbersAt, ruleAt, decode}
 use Rattle.literals.specs.declared.refusal.Refusal.the-variants.{BadBoard, BadLiteral, NothingToShow, BadFurnace}
 use Rattle.board.specs.Furnaces.{isFurnace, heldBy}
 use Rattle.board.specs.Faults.{goodBoard, Fault, firstFault, ifDone}
@@ -36,6 +36,7 @@ unfoldable pub asked : List ℤ → Board → (furnace : ℕ) → ℤ → Standi
 asked table b furnace l = ifDone (firstFault (askFaults table b furnace l)) (standing (derivedOn table b furnace) (placeOf l)) Refused
 
 -- ---- "Explain returns the supporting row as that part of the caller's table, its literals without the zeros, with rank and row number."
+-- 02, Ticket 8: it "returns the rule's number besides the literals, 0 when refused"
 
 -- 12: "explain: not derived, or held"
 unfoldable pub explainFaults : List ℤ → Board → (furnace : ℕ) → ℤ → List Fault
@@ -46,12 +47,13 @@ explainFaults table b furnace l =
     ∷ record { given = not (has (derivedOn table b furnace) (placeOf l)) || has (heldBy b furnace) (placeOf l); refusal = NothingToShow }
     ∷ []
 
--- the two numbers: "65535 for rank and row number" where refused
+-- the three numbers: where refused "65535 for rank and row number", and 0
 unfoldable pub reasoned : List ℤ → Board → (furnace : ℕ) → ℤ → Reason
 reasoned table b furnace l =
     let outcome = firstFault (explainFaults table b furnace l) in
-    ifDone outcome (record { outcome = outcome; rank = rankOn table b furnace (placeOf l); row = supportOn table b furnace (placeOf l) })
-    (λ _. record { outcome = outcome; rank = none; row = none })
+    let row = supportOn table b furnace (placeOf l) in
+    ifDone outcome (record { outcome = outcome; rank = rankOn table b furnace (placeOf l); row = row; rule = ruleAt table row })
+    (λ _. record { outcome = outcome; rank = none; row = none; rule = 0 })
 
 -- from the place `start` up to the place `stop`
 pub record Span : Type 0 where

@@ -20,9 +20,9 @@ use Rattle.board.specs.declared.Outcome.{Outcome}
 abbrev pub changed : Outcome → Board → Board → Change
 changed outcome given next = record { outcome = outcome; board = ifDone outcome next (λ _. given) }
 
--- "rows in use and premises start empty"; 02, Ticket 6: "opening empties both sets"
+-- "rows in use and premises start empty"; 02, Ticket 6: "opening empties both sets"; Ticket 8: "every open, a refused one too, sets the count to 0"
 abbrev pub emptyBoard : ℕ → Board
-emptyBoard S = record { symbols = S; rows = 0; first = replicate 400 false; second = replicate 400 false }
+emptyBoard S = record { symbols = S; rows = 0; rules = 0; first = replicate 400 false; second = replicate 400 false }
 
 -- "at open, the count is outside 1 to 200"
 unfoldable pub openFaults : ℕ → List Fault

@@ -6,7 +6,7 @@ use lib.Dec.{leb}
 use lib.IntN.{ℤ}
 use lib.ListN.{drop}
 use Rattle.meaning.specs.Tests.{any}
-use Rattle.literals.specs.Row.{rowsLent, rowsSound}
+use Rattle.literals.specs.Row.{mostRules, rowsLent, rowsSound}
 use Rattle.literals.specs.Refusals.{numberOf}
 use Rattle.literals.specs.declared.refusal.Refusal.{Refusal}
 use Rattle.board.specs.declared.Board.{Board}
@@ -21,12 +21,14 @@ beyond S held = any (λ h. h) (drop (2 * S) held)
 unfoldable pub premisesFit : Board → Bool
 premisesFit b = not (beyond (b .symbols) (b .first)) && not (beyond (b .symbols) (b .second))
 
--- 1: "S is outside 1 to 200, rows in use exceed rows lent, a row in use isn't sound, or a held premise is of a symbol beyond S"
+-- 1: "S is outside 1 to 200, rows in use exceed rows lent, a row in use isn't sound, or a held premise is of a symbol beyond S"; 02, Ticket 8:
+-- "1 also for a count above 32,767"
 unfoldable pub goodBoard : List ℤ → Board → Bool
 goodBoard table b =
     leb 1 (b .symbols) && leb (b .symbols) 200
+    && leb (b .rules) mostRules
     && leb (b .rows) (rowsLent table)
-    && rowsSound (b .symbols) (b .rows) table
+    && rowsSound (b .symbols) (b .rules) (b .rows) table
     && premisesFit b
 
 -- a case of the table: when it is given, and which it is

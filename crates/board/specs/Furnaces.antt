@@ -22,6 +22,7 @@ withHeld b furnace held =
     record {
       symbols = b .symbols;
       rows = b .rows;
+      rules = b .rules;
       first = cond (eqb furnace 1) held (b .first);
       second = cond (eqb furnace 2) held (b .second);
     }

@@ -26,11 +26,13 @@ pub enum Standing {
     Refused(Refusal),
 }
 
-// Why a literal stands: its rank and its supporting row, both 65535 where explain is refused.
+// Why a literal stands: its rank and its supporting row, both 65535 where explain is refused, and the number of the rule that the row is from, 0
+// where it is refused.
 pub struct Reason {
     pub outcome: Outcome,
     pub rank: u16,
     pub row: u16,
+    pub rule: u16,
 }
 
 // How a literal that was tested stands by the ranks.
@@ -75,16 +77,17 @@ pub fn ask(board: Board, table: &[i16], furnace: u8, l: i16) -> Standing
 }
 
 fn unexplained(why: Refusal) -> Reason
-    ensures { λ r. ⌜ r ≡ record { outcome = Outcome.Refused why; rank = none; row = none } ⌝ }
+    ensures { λ r. ⌜ r ≡ record { outcome = Outcome.Refused why; rank = none; row = none; rule = 0 } ⌝ }
 {
     Reason {
         outcome: Outcome::Refused(why),
         rank: NONE,
         row: NONE,
+        rule: 0,
     }
 }
 
-// The rank of a literal for a furnace, and the number of its supporting row.
+// The rank of a literal for a furnace, and the numbers of its supporting row and of the rule that the row is from.
 pub fn explain_numbers(board: Board, table: &[i16], furnace: u8, l: i16) -> Reason
     ensures { λ r. ⌜ r ≡ reasoned (now (table .entry)) board furnace l ⌝ }
 {
@@ -114,6 +117,7 @@ pub fn explain_numbers(board: Board, table: &[i16], furnace: u8, l: i16) -> Reas
                 outcome: Outcome::Done,
                 rank,
                 row: row[0],
+                rule: literals::rule_at(table, row[0] as usize) as u16,
             }
         }
     }

@@ -18,6 +18,7 @@ fn empty(symbols: usize) -> Board
     Board {
         symbols,
         rows: 0,
+        rules: 0,
         first: [false; 400],
         second: [false; 400],
     }

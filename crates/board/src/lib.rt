@@ -11,12 +11,13 @@ pub mod testing;
 
 use literals::refusal::Refusal;
 
-// S symbols, the rows of the caller's table in use, and the premises, a flag for each literal's place: those of furnace 1 first, then those
-// of furnace 2. Each field may hold anything: the calls test it.
+// S symbols, the rows of the caller's table in use, the rules accepted since the board was opened, and the premises, a flag for each literal's place:
+// those of furnace 1 first, then those of furnace 2. Each field may hold anything: the calls test it.
 #[repr(C)]
 pub struct Board {
     pub symbols: usize,
     pub rows: usize,
+    pub rules: usize,
     pub first: [bool; 400],
     pub second: [bool; 400],
 }

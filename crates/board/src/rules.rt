@@ -5,7 +5,7 @@ ghost use mathlib.Core.Bool.{true};
 ghost use Prim.Native.Nat.{_≤_};
 ghost use lib.ListN.{length};
 ghost use Rattle.meaning.specs.Formulae.{symbolsOf, ruleOf};
-ghost use Rattle.literals.specs.Row.{rowsLent};
+ghost use Rattle.literals.specs.Row.{mostRules, rowsLent};
 ghost use Rattle.formula.specs.Parse.{wholeOf};
 ghost use Rattle.formula.specs.Answers.{isGood, formulaOf};
 ghost use Rattle.implicates.specs.Appending.{answerOf, tableOf};
@@ -43,17 +43,24 @@ pub fn refused(board: Board, why: Refusal, place: usize) -> Addition
 }
 
 // Appends the rows of a formula that was read, whose symbols are listed.
-fn append(table: &mut [i16], rows: usize, bytes: &[u8], symbols: usize, names: &[u8]) -> Appended
-    requires { ⌜ (symbols ≤ 200) × (rows ≤ rowsLent (now table)) × (isGood (wholeOf symbols (now bytes)) ≡ true) ⌝ }
+fn append(
+    table: &mut [i16],
+    rows: usize,
+    rules: usize,
+    bytes: &[u8],
+    symbols: usize,
+    names: &[u8],
+) -> Appended
+    requires { ⌜ (symbols ≤ 200) × (rules ≤ mostRules) × (rows ≤ rowsLent (now table)) × (isGood (wholeOf symbols (now bytes)) ≡ true) ⌝ }
     requires { ⌜ (length (now names) ≤ 8) × (now names ≡ symbolsOf symbols (formulaOf (wholeOf symbols (now bytes)))) ⌝ }
-    ensures { λ r. ⌜ r ≡ answerOf (ruleOf symbols (formulaOf (wholeOf symbols (now (bytes .entry))))) rows (rowsLent (now (table .entry))) ⌝ }
-    ensures { λ r. ⌜ now (table .exit) ≡ tableOf (ruleOf symbols (formulaOf (wholeOf symbols (now (bytes .entry))))) rows (rowsLent (now (table .entry))) (now (table .entry)) ⌝ }
+    ensures { λ r. ⌜ r ≡ answerOf (ruleOf symbols (formulaOf (wholeOf symbols (now (bytes .entry))))) rows rules (rowsLent (now (table .entry))) ⌝ }
+    ensures { λ r. ⌜ now (table .exit) ≡ tableOf (ruleOf symbols (formulaOf (wholeOf symbols (now (bytes .entry))))) rows rules (rowsLent (now (table .entry))) (now (table .entry)) ⌝ }
 {
     let mut truth = [false; 256];
     let values = 1 << names.len();
     formula::truth::fill_truth(bytes, symbols, names, &mut truth[..values]);
     let lent = literals::rows_lent(table);
-    implicates::append_rule(table, rows, lent, names, &truth[..values])
+    implicates::append_rule(table, rows, rules, lent, names, &truth[..values])
 }
 
 // Adds the rule of a formula that was read.
@@ -69,12 +76,20 @@ fn add_formula(board: Board, table: &mut [i16], bytes: &[u8]) -> Addition
     }
     let list = names.list;
     let count = names.count;
-    match append(table, board.rows, bytes, board.symbols, &list[..count]) {
+    match append(
+        table,
+        board.rows,
+        board.rules,
+        bytes,
+        board.symbols,
+        &list[..count],
+    ) {
         Appended::Unsatisfiable => refused(board, Refusal::NoAssignment, NO_PLACE),
         Appended::Full => refused(board, Refusal::TableFull, NO_PLACE),
         Appended::Rows(added) => {
             let mut next = board;
             next.rows = board.rows + added;
+            next.rules = board.rules + 1;
             Addition {
                 outcome: Outcome::Done,
                 place: NO_PLACE,

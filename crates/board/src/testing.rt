@@ -28,7 +28,8 @@ fn held_beyond(held: &[bool], places: usize) -> bool
     found
 }
 
-// Whether S is from 1 to 200, the rows in use are lent and sound, and no premise of either furnace is of a symbol beyond S.
+// Whether S is from 1 to 200, no more rules are counted than there are numbers for, the rows in use are lent and sound, and no premise of either
+// furnace is of a symbol beyond S.
 pub fn good(board: Board, table: &[i16]) -> bool
     ensures { λ r. ⌜ r ≡ goodBoard (now (table .entry)) board ⌝ }
 {
@@ -38,10 +39,13 @@ pub fn good(board: Board, table: &[i16]) -> bool
     if 200 < board.symbols {
         return false;
     }
+    if literals::MOST_RULES < board.rules {
+        return false;
+    }
     if literals::rows_lent(table) < board.rows {
         return false;
     }
-    if !literals::rows_sound(table, board.rows, board.symbols) {
+    if !literals::rows_sound(table, board.rows, board.symbols, board.rules) {
         return false;
     }
     if held_beyond(&board.first, 2 * board.symbols) {

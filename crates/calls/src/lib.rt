@@ -61,8 +61,8 @@ pub fn rule_in(before: Board, given: &[i16], table: &mut [i16], lent: usize, byt
 }
 
 // The same with a table that is not used again.
-pub fn rule(before: Board, given: [i16; 40], lent: usize, bytes: &[u8])
-    requires { ⌜ lent ≤ 40 ⌝ }
+pub fn rule(before: Board, given: [i16; 45], lent: usize, bytes: &[u8])
+    requires { ⌜ lent ≤ 45 ⌝ }
 {
     let mut table = given;
     rule_in(before, &given, &mut table, lent, bytes);
@@ -215,6 +215,7 @@ fn reason(r: Reason) {
     printing::outcome(outcome);
     counted(b" rank", r.rank as usize);
     counted(b" row", r.row as usize);
+    counted(b" rule", r.rule as usize);
 }
 
 // Both of the calls that explain.

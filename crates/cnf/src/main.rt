@@ -117,7 +117,7 @@ fn main() {
         );
         return;
     }
-    let mut table = [0i16; 16384];
+    let mut table = [0i16; 18432];
     let mut out = [0u8; 86031];
     match rewrite(&mut table, &input[..n], &mut out) {
         Rewritten::Text(bytes) => {

@@ -1,4 +1,4 @@
--- How many clauses a text has and how many are passed, and that the rows of a reading that is done have room.
+-- How many clauses a text has and how many are passed, and that the rows of a reading that is done have room, and its clauses numbers.
 use mathlib.Core.Path.{_≡_, refl}
 use mathlib.Core.Bool.{Bool, true, false, cond, _&&_}
 use mathlib.Core.List.{List, [], _∷_}
@@ -8,7 +8,7 @@ use borrow.Author.Tests.{eqb-true, ltb-true, not-false}
 use lib.Dec.{eqb, ltb}
 use lib.IntN.{ℤ}
 use lib.ListN.{length, drop}
-use Rattle.literals.specs.Row.{rowsLent}
+use Rattle.literals.specs.Row.{mostRules, rowsLent}
 use Rattle.board.specs.Faults.{goodBoard, firstFault, ifDone}
 use Rattle.board.specs.declared.Board.{Board}
 use Rattle.board.specs.declared.Outcome.{Outcome}
@@ -22,15 +22,15 @@ use Rattle.dimacs.specs.Clauses.{clauseFaults, clausesFaults, passed, ro
 use Rattle.dimacs.specs.Reading.{readAnswer, readFaults, rowsOfText, textFaults}
 use Rattle.dimacs.specs.declared.header.Counts.{Counts}
 use Rattle.dimacs.specs.declared.header.Counts.the-variants.{Of, Broken}
-use Rattle.dimacs.proofs.FirstFaults.{clauses-fit}
+use Rattle.dimacs.proofs.FirstFaults.{clauses-fit, clauses-numbered}
 
 -- those before the first at fault are not more than all
-pub passed-most : (S used lent : ℕ) (cs : List (List ℤ)) → passed S used lent cs ≤ length cs
+pub passed-most : (S used rules lent : ℕ) (cs : List (List ℤ)) → passed S used rules lent cs ≤ length cs
 unfolding passed
-passed-most S used lent [] = omega arith
-passed-most S used lent (c ∷ cs) =
+passed-most S used rules lent [] = omega arith
+passed-most S used rules lent (c ∷ cs) =
     let next = used + length (rowsOfClause S c) in
-    go (firstFault (clauseFaults S used lent c)) (passed S next lent cs) (passed-most S next lent cs)
+    go (firstFault (clauseFaults S used rules lent c)) (passed S next (suc rules) lent cs) (passed-most S next (suc rules) lent cs)
   where
     go : (o : Outcome) (n : ℕ) → n ≤ length cs → ifDone o (suc n) (λ _. 0) ≤ suc (length cs)
     go Done n h = omega arith
@@ -81,12 +81,12 @@ clauses-few text = few-body (headerIn (headerLine text)) (body text) (few-header
 
 -- the clauses that a reading tells, done or refused
 pub clauses-told : (table : List ℤ) (b : Board) (text : List ℕ)
-    → readAnswer table b text .clauses ≡ cond (goodBoard table b) (passed (b .symbols) (b .rows) (rowsLent table) (clausesOf (parseText text))) 0
+    → readAnswer table b text .clauses ≡ cond (goodBoard table b) (passed (b .symbols) (b .rows) (b .rules) (rowsLent table) (clausesOf (parseText text))) 0
 unfolding readAnswer
 clauses-told table b text = go (firstFault (readFaults table b text)) refl
   where
     go : (o : Outcome) → firstFault (readFaults table b text) ≡ o
-        → readAnswer table b text .clauses ≡ cond (goodBoard table b) (passed (b .symbols) (b .rows) (rowsLent table) (clausesOf (parseText text))) 0
+        → readAnswer table b text .clauses ≡ cond (goodBoard table b) (passed (b .symbols) (b .rows) (b .rules) (rowsLent table) (clausesOf (parseText text))) 0
     go Done e = rw e
     go (Refused why) e = rw e
 
@@ -94,20 +94,24 @@ clauses-told table b text = go (firstFault (readFaults table b text)) refl
 pub told-few : (table : List ℤ) (b : Board) (text : List ℕ) → readAnswer table b text .clauses < beyond
 told-few table b text = rw (clauses-told table b text) (few (goodBoard table b))
   where
-    few : (g : Bool) → cond g (passed (b .symbols) (b .rows) (rowsLent table) (clausesOf (parseText text))) 0 < beyond
-    few true = omega (arith, passed-most (b .symbols) (b .rows) (rowsLent table) (clausesOf (parseText text)), clauses-few text)
+    few : (g : Bool) → cond g (passed (b .symbols) (b .rows) (b .rules) (rowsLent table) (clausesOf (parseText text))) 0 < beyond
+    few true = omega (arith, passed-most (b .symbols) (b .rows) (b .rules) (rowsLent table) (clausesOf (parseText text)), clauses-few text)
     few false = omega arith
 
--- ---- a reading that is done: the board is good, no clause is at fault, and there is room for their rows
+-- ---- a reading that is done: the board is good, no clause is at fault, and there is room for their rows, and a number for each
 
 module _ (table : List ℤ) (b : Board) (text : List ℕ) (done : firstFault (readFaults table b text) ≡ Done) where
   pub read-good : goodBoard table b ≡ true
   unfolding readFaults
   read-good = not-false (goodBoard table b) (none-given (readFaults table b text) done 0)
 
-  pub read-clauses : firstFault (clausesFaults (b .symbols) (b .rows) (rowsLent table) (clausesOf (parseText text))) ≡ Done
+  pub read-clauses : firstFault (clausesFaults (b .symbols) (b .rows) (b .rules) (rowsLent table) (clausesOf (parseText text))) ≡ Done
   unfolding readFaults textFaults
   read-clauses = let given = none-given (readFaults table b text) done in rw (given 0, given 1) at done
 
   pub read-fits : b .rows + length (rowsOfText (b .symbols) (parseText text)) ≤ rowsLent table
-  read-fits = clauses-fit (b .symbols) (b .rows) (rowsLent table) (clausesOf (parseText text)) read-clauses (good-is table b read-good .lent)
+  read-fits = clauses-fit (b .symbols) (b .rows) (b .rules) (rowsLent table) (clausesOf (parseText text)) read-clauses (good-is table b read-good .lent)
+
+  pub read-rules : b .rules + length (clausesOf (parseText text)) ≤ mostRules
+  read-rules =
+      clauses-numbered (b .symbols) (b .rows) (b .rules) (rowsLent table) (clausesOf (parseText text)) read-clauses (good-is table b read-good .few)

@@ -13,7 +13,7 @@ use Rattle.meaning.specs.Tests.{all}
 use Rattle.meaning.specs.Literals.{place}
 use Rattle.meaning.proofs.Tests.{all-append, clash}
 use Rattle.literals.specs.Literal.{inRange, placeOf}
-use Rattle.literals.specs.Row.{width}
+use Rattle.literals.specs.Row.{mostLiterals}
 use Rattle.dimacs.specs.declared.gathering.Kept.{Kept}
 use Rattle.dimacs.specs.Gathering.{KeptOf, Inserts, Steps, alwaysTrue, clashes, gathered, inserted}
 
@@ -98,12 +98,12 @@ module _ (S : ℕ) {row : List ℕ} (k : Kept) {s : ℕ} {far negative : Bool} (
     step =
         λ o l is sign h.
         let g = gathered [] o in
-        let before : width < length g = ltb-true width (length g) (sym (h .is-many) ∙ m) in
-        let longer : width < length (gathered [] (o ++ (l ∷ []))) =
+        let before : mostLiterals < length g = ltb-true mostLiterals (length g) (sym (h .is-many) ∙ m) in
+        let longer : mostLiterals < length (gathered [] (o ++ (l ∷ []))) =
         rw (gathered-snoc [] o l) (omega (arith, before, inserted-longer (placeOf l) g)) in
         record {
           is-beyond = far-next S one far-is o l is h;
-          is-many = sym (lt-ltb width (length (gathered [] (o ++ (l ∷ [])))) longer);
+          is-many = sym (lt-ltb mostLiterals (length (gathered [] (o ++ (l ∷ [])))) longer);
           is-row = λ e. clash refl e;
           is-count = λ e. clash refl e;
           is-always = λ e. clash refl e;
@@ -111,7 +111,7 @@ module _ (S : ℕ) {row : List ℕ} (k : Kept) {s : ℕ} {far negative : Bool} (
   }
 
   -- the literal is put into the row
-  module _ (eight : length row ≡ width) (few : k .many ≡ false) (within : k .count ≤ length row) {p : ℕ} (at : p ≡ place s (not negative))
+  module _ (eight : length row ≡ mostLiterals) (few : k .many ≡ false) (within : k .count ≤ length row) {p : ℕ} (at : p ≡ place s (not negative))
       {after : List ℕ} {next : ℕ} {clashed full always : Bool} (sown : Inserts row after (k .count) p next clashed full)
       (always-is : always ≡ (k .always || clashed)) where
     pub steps-sown : Steps S s negative row after k (record { count = next; always = always; many = full; beyond = far })

@@ -12,7 +12,7 @@ use lib.Seq.{getD-append-add, getD-take, length-take-le}
 use Rattle.meaning.specs.Tests.{all}
 use Rattle.meaning.proofs.Tests.{both-true}
 use Rattle.literals.specs.Literal.{literalAt}
-use Rattle.literals.specs.Row.{encode, width}
+use Rattle.literals.specs.Row.{encode, mostLiterals}
 use Rattle.literals.proofs.Encoding.{length-encode}
 
 all-get : (g : List ℕ) (k : ℕ) → all (λ p. ltb p 400) g ≡ true → k < length g → getD g k 0 < 400
@@ -34,23 +34,23 @@ get-zeros zero k = refl
 get-zeros (suc n) zero = refl
 get-zeros (suc n) (suc k) = get-zeros n k
 
-module _ (g : List ℕ) (k : ℕ) (h : k < width) where
+module _ (g : List ℕ) (k : ℕ) (h : k < mostLiterals) where
   pub encode-literal : k < length g → getD (encode g) k (pos 0) ≡ literalAt (getD g k 0)
   unfolding encode
   encode-literal i =
-      getD-take width (map literalAt g ++ replicate width (pos 0)) k (pos 0) h
-      ∙ List·getD-append (map literalAt g) (replicate width (pos 0)) (pos 0) k (omega (arith, length-map g literalAt))
+      getD-take mostLiterals (map literalAt g ++ replicate mostLiterals (pos 0)) k (pos 0) h
+      ∙ List·getD-append (map literalAt g) (replicate mostLiterals (pos 0)) (pos 0) k (omega (arith, length-map g literalAt))
       ∙ get-map g k i
 
   pub encode-zero : length g ≤ k → getD (encode g) k (pos 0) ≡ pos 0
   unfolding encode
   encode-zero i =
       let e : length (map literalAt g) + (k - length (map literalAt g)) ≡ k = omega (arith, length-map g literalAt) in
-      getD-take width (map literalAt g ++ replicate width (pos 0)) k (pos 0) h
-      ∙ ap (λ (j : ℕ). getD (map literalAt g ++ replicate width (pos 0)) j (pos 0)) (sym e)
-      ∙ getD-append-add (map literalAt g) (replicate width (pos 0)) (k - length (map literalAt g)) (pos 0)
-      ∙ get-zeros width (k - length (map literalAt g))
+      getD-take mostLiterals (map literalAt g ++ replicate mostLiterals (pos 0)) k (pos 0) h
+      ∙ ap (λ (j : ℕ). getD (map literalAt g ++ replicate mostLiterals (pos 0)) j (pos 0)) (sym e)
+      ∙ getD-append-add (map literalAt g) (replicate mostLiterals (pos 0)) (k - length (map literalAt g)) (pos 0)
+      ∙ get-zeros mostLiterals (k - length (map literalAt g))
 
 -- written over a part of eight numbers, it is all of the part
-pub encode-all : (g : List ℕ) (part : List ℤ) → length part ≡ width → encode g ++ drop (length (encode g)) part ≡ encode g
+pub encode-all : (g : List ℕ) (part : List ℤ) → length part ≡ mostLiterals → encode g ++ drop (length (encode g)) part ≡ encode g
 encode-all g part e = rw (drop-of-length-le part {i = length (encode g)} (omega (arith, length-encode g))) (append-nil (encode g))

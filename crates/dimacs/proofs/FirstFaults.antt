@@ -1,11 +1,12 @@
--- The first fault of clauses one after the other: where none is at fault, each is a rule that the board takes, all have been passed, and their
--- rows have room.
+-- The first fault of clauses one after the other: where none is at fault, each is a rule that the board takes, all have been passed, their rows
+-- have room, and each has a number.
 use mathlib.Core.Path.{_≡_, refl, sym, ap, _∙_}
+use mathlib.Core.Logic.{_≢_}
 use mathlib.Core.Bool.{Bool, true, false, cond, not, _&&_, and-true}
 use mathlib.Core.List.{List, [], _∷_, _++_, map}
 use Prim.Native.Nat.{ℕ, suc, _+_, _≤_}
 use native.Mathlib.Omega.{arith}
-use borrow.Author.Tests.{leb-true, not-false}
+use borrow.Author.Tests.{not-false}
 use lib.Dec.{leb}
 use lib.IntN.{ℤ, pos, negsuc}
 use lib.ListN.{length, length-append}
@@ -15,6 +16,9 @@ use Rattle.meaning.specs.Clauses.{assignments, allRows, satisfiable}
 use Rattle.meaning.specs.SecondWay.{accepted, rulesOf}
 use Rattle.meaning.proofs.Tests.{and-intro, any-never, any-same, clash}
 use Rattle.literals.specs.Literal.{inRange}
+use Rattle.literals.specs.Row.{mostRules}
+use Rattle.implicates.specs.Appending.{fits}
+use Rattle.implicates.proofs.Rules.{fits-facts}
 use Rattle.board.specs.Faults.{Fault, firstFault, ifDone}
 use Rattle.board.specs.declared.Outcome.{Outcome}
 use Rattle.board.specs.declared.Outcome.the-variants.{Done, Refused}
@@ -33,7 +37,7 @@ first-append (f ∷ fs) gs = go (f .given) (first-append fs gs)
     go false e = e
 
 -- where none is given, none of either
-pub done-append : (fs gs : List Fault) → firstFault (fs ++ gs) ≡ Done → (firstFault fs ≡ Done) × (firstFault gs ≡ Done)
+done-append : (fs gs : List Fault) → firstFault (fs ++ gs) ≡ Done → (firstFault fs ≡ Done) × (firstFault gs ≡ Done)
 done-append fs gs e = go (firstFault fs) (sym (first-append fs gs) ∙ e)
   where
     go : (o : Outcome) → ifDone o (firstFault gs) (λ why. Refused why) ≡ Done → (o ≡ Done) × (firstFault gs ≡ Done)
@@ -66,62 +70,73 @@ empty-never S =
     never true = refl
     never false = refl
 
-module _ (S used lent : ℕ) (c : List ℤ) (done : firstFault (clauseFaults S used lent c) ≡ Done) where
-  -- where a clause is not at fault, its literals are in range, and its rule has few symbols, an assignment, and room for its rows
+module _ (S used rules lent : ℕ) (c : List ℤ) (done : firstFault (clauseFaults S used rules lent c) ≡ Done) where
+  -- where a clause is not at fault, its literals are in range, and its rule has few symbols, an assignment, room for its rows, and a number
   pub done-range : all (inRange S) c ≡ true
   unfolding clauseFaults
-  done-range = not-false (all (inRange S) c) (none-given (clauseFaults S used lent c) done 0)
+  done-range = not-false (all (inRange S) c) (none-given (clauseFaults S used rules lent c) done 0)
 
   done-few : leb (length (symbolsOf S (oneOf c))) 8 ≡ true
   unfolding clauseFaults
-  done-few = not-false (leb (length (symbolsOf S (oneOf c))) 8) (none-given (clauseFaults S used lent c) done 1)
+  done-few = not-false (leb (length (symbolsOf S (oneOf c))) 8) (none-given (clauseFaults S used rules lent c) done 1)
 
   done-satisfied : satisfiable (ruleOf S (oneOf c)) ≡ true
   unfolding clauseFaults
-  done-satisfied = not-false (satisfiable (ruleOf S (oneOf c))) (none-given (clauseFaults S used lent c) done 2)
+  done-satisfied = not-false (satisfiable (ruleOf S (oneOf c))) (none-given (clauseFaults S used rules lent c) done 2)
 
-  done-room : used + length (rowsOfClause S c) ≤ lent
+  done-fits : (used + length (rowsOfClause S c) ≤ lent) × (rules ≢ mostRules)
   unfolding clauseFaults
-  done-room =
-      let sum = used + length (rowsOfClause S c) in
-      leb-true sum lent (not-false (leb sum lent) (none-given (clauseFaults S used lent c) done 3))
+  done-fits =
+      let rows = rowsOfClause S c in
+      fits-facts used rules lent rows (not-false (fits used rules lent rows) (none-given (clauseFaults S used rules lent c) done 3))
 
 -- so the board takes its rule
-pub clause-accepted : (S used lent : ℕ) (c : List ℤ) → firstFault (clauseFaults S used lent c) ≡ Done → accepted S (oneOf c) ≡ true
-clause-accepted S used lent [] done = clash (done-satisfied S used lent [] done) (empty-never S)
-clause-accepted S used lent (l ∷ ls) done =
+pub clause-accepted : (S used rules lent : ℕ) (c : List ℤ) → firstFault (clauseFaults S used rules lent c) ≡ Done → accepted S (oneOf c) ≡ true
+clause-accepted S used rules lent [] done = clash (done-satisfied S used rules lent [] done) (empty-never S)
+clause-accepted S used rules lent (l ∷ ls) done =
     let f = oneOf (l ∷ ls) in
     and-intro (inside S f && leb (length (symbolsOf S f)) 8) (satisfiable (ruleOf S f))
     (and-intro (inside S f) (leb (length (symbolsOf S f)) 8)
-    (inside-clause S l ls ∙ done-range S used lent (l ∷ ls) done) (done-few S used lent (l ∷ ls) done))
-    (done-satisfied S used lent (l ∷ ls) done)
+    (inside-clause S l ls ∙ done-range S used rules lent (l ∷ ls) done) (done-few S used rules lent (l ∷ ls) done))
+    (done-satisfied S used rules lent (l ∷ ls) done)
 
--- ---- several clauses, none at fault: so neither is the first nor, with its rows in use, any other
+-- ---- several clauses, none at fault: so neither is the first nor, with its rows in use and itself counted, any other
 
-pub both-done : (S used lent : ℕ) (c : List ℤ) (cs : List (List ℤ)) → firstFault (clausesFaults S used lent (c ∷ cs)) ≡ Done
-    → (firstFault (clauseFaults S used lent c) ≡ Done) × (firstFault (clausesFaults S (used + length (rowsOfClause S c)) lent cs) ≡ Done)
+pub both-done : (S used rules lent : ℕ) (c : List ℤ) (cs : List (List ℤ)) → firstFault (clausesFaults S used rules lent (c ∷ cs)) ≡ Done
+    → (firstFault (clauseFaults S used rules lent c) ≡ Done)
+    × (firstFault (clausesFaults S (used + length (rowsOfClause S c)) (suc rules) lent cs) ≡ Done)
 unfolding clausesFaults
-both-done S used lent c cs done = done-append (clauseFaults S used lent c) (clausesFaults S (used + length (rowsOfClause S c)) lent cs) done
+both-done S used rules lent c cs done =
+    done-append (clauseFaults S used rules lent c) (clausesFaults S (used + length (rowsOfClause S c)) (suc rules) lent cs) done
 
-pub clauses-accepted : (S used lent : ℕ) (cs : List (List ℤ)) → firstFault (clausesFaults S used lent cs) ≡ Done
+pub clauses-accepted : (S used rules lent : ℕ) (cs : List (List ℤ)) → firstFault (clausesFaults S used rules lent cs) ≡ Done
     → all (accepted S) (map oneOf cs) ≡ true
-clauses-accepted S used lent [] done = refl
-clauses-accepted S used lent (c ∷ cs) done =
-    let r = both-done S used lent c cs done in
-    and-intro (accepted S (oneOf c)) (all (accepted S) (map oneOf cs)) (clause-accepted S used lent c (r .0))
-    (clauses-accepted S (used + length (rowsOfClause S c)) lent cs (r .1))
+clauses-accepted S used rules lent [] done = refl
+clauses-accepted S used rules lent (c ∷ cs) done =
+    let r = both-done S used rules lent c cs done in
+    and-intro (accepted S (oneOf c)) (all (accepted S) (map oneOf cs)) (clause-accepted S used rules lent c (r .0))
+    (clauses-accepted S (used + length (rowsOfClause S c)) (suc rules) lent cs (r .1))
 
-pub clauses-fit : (S used lent : ℕ) (cs : List (List ℤ)) → firstFault (clausesFaults S used lent cs) ≡ Done → used ≤ lent
+pub clauses-fit : (S used rules lent : ℕ) (cs : List (List ℤ)) → firstFault (clausesFaults S used rules lent cs) ≡ Done → used ≤ lent
     → used + length (allRows (rulesOf S (map oneOf cs))) ≤ lent
-clauses-fit S used lent [] done fits = omega arith
-clauses-fit S used lent (c ∷ cs) done fits =
-    let r = both-done S used lent c cs done in
-    let rest = clauses-fit S (used + length (rowsOfClause S c)) lent cs (r .1) (done-room S used lent c (r .0)) in
+clauses-fit S used rules lent [] done within = omega arith
+clauses-fit S used rules lent (c ∷ cs) done within =
+    let r = both-done S used rules lent c cs done in
+    let rest = clauses-fit S (used + length (rowsOfClause S c)) (suc rules) lent cs (r .1) (done-fits S used rules lent c (r .0) .0) in
     omega (arith, rest, length-append (rowsOfClause S c) (allRows (rulesOf S (map oneOf cs))))
 
-pub clauses-passed : (S used lent : ℕ) (cs : List (List ℤ)) → firstFault (clausesFaults S used lent cs) ≡ Done → passed S used lent cs ≡ length cs
+pub clauses-numbered : (S used rules lent : ℕ) (cs : List (List ℤ)) → firstFault (clausesFaults S used rules lent cs) ≡ Done → rules ≤ mostRules
+    → rules + length cs ≤ mostRules
+clauses-numbered S used rules lent [] done few = omega arith
+clauses-numbered S used rules lent (c ∷ cs) done few =
+    let r = both-done S used rules lent c cs done in
+    let next : suc rules ≤ mostRules = omega (arith, few, done-fits S used rules lent c (r .0) .1) in
+    omega (arith, clauses-numbered S (used + length (rowsOfClause S c)) (suc rules) lent cs (r .1) next)
+
+pub clauses-passed : (S used rules lent : ℕ) (cs : List (List ℤ)) → firstFault (clausesFaults S used rules lent cs) ≡ Done
+    → passed S used rules lent cs ≡ length cs
 unfolding passed
-clauses-passed S used lent [] done = refl
-clauses-passed S used lent (c ∷ cs) done =
-    let r = both-done S used lent c cs done in
-    rw (r .0) (ap suc (clauses-passed S (used + length (rowsOfClause S c)) lent cs (r .1)))
+clauses-passed S used rules lent [] done = refl
+clauses-passed S used rules lent (c ∷ cs) done =
+    let r = both-done S used rules lent c cs done in
+    rw (r .0) (ap suc (clauses-passed S (used + length (rowsOfClause S c)) (suc rules) lent cs (r .1)))

@@ -1,8 +1,9 @@
 -- A sound row as a clause: its literals are gathered to its own places, so that as a rule it is not at fault and has itself as its row.
 use mathlib.Core.Path.{_≡_, refl, sym, ap, ap₂, _∙_}
+use mathlib.Core.Logic.{_≢_}
 use mathlib.Core.Bool.{Bool, true, false, cond, _&&_, _||_, false≢true}
 use mathlib.Core.List.{List, [], _∷_, _++_, append-assoc, append-nil}
-use Prim.Native.Nat.{ℕ, suc, _+_, _/_, _<_, _≤_}
+use Prim.Native.Nat.{ℕ, suc, _/_, _<_, _≤_}
 use native.Mathlib.Omega.{arith}
 use borrow.Author.Tests.{ne-eqb, le-leb, leb-true, lt-ltb, ltb-true}
 use lib.Dec.{eqb, leb, ltb}
@@ -11,9 +12,10 @@ use lib.ListN.{length}
 use Rattle.meaning.specs.Tests.{all}
 use Rattle.meaning.proofs.Tests.{all-append, all-imp, both-true}
 use Rattle.literals.specs.Literal.{inRange, placeOf}
-use Rattle.literals.specs.Row.{decode, rising, rowSound, width, zeros}
+use Rattle.literals.specs.Row.{decode, mostLiterals, mostRules, rising, rowSound, zeros}
 use Rattle.literals.proofs.Places.{literal-abs, literal-at-place}
 use Rattle.literals.proofs.Decoding.{sound-rising}
+use Rattle.implicates.proofs.Rules.{fits-so}
 use Rattle.board.specs.Faults.{firstFault}
 use Rattle.board.specs.declared.Outcome.the-variants.{Done}
 use Rattle.dimacs.specs.Clauses.{clauseFaults, rowsOfClause}
@@ -95,11 +97,12 @@ module _ (S : ℕ) (row : List ℤ) (sound : rowSound S row ≡ true) where
   pub row-rows : rowsOfClause S (literalsOf row) ≡ decode row ∷ []
   row-rows = clause-rows S (literalsOf row) (sound-range S row sound) (sound-some S row sound .0) ∙ rw (own .1, own .0)
 
-  -- it is not at fault where a row is free
-  pub row-faultless : (used lent : ℕ) → 1 ≤ S → length (decode row) ≤ width → used < lent
-      → firstFault (clauseFaults S used lent (literalsOf row)) ≡ Done
-  row-faultless used lent one short free =
+  -- it is not at fault where a row is free, and a number
+  pub row-faultless : (used rules lent : ℕ) → 1 ≤ S → length (decode row) ≤ mostLiterals → used < lent → rules ≢ mostRules
+      → firstFault (clauseFaults S used rules lent (literalsOf row)) ≡ Done
+  row-faultless used rules lent one short free number =
       let n = length (decode row) in
       let some = ne-eqb n 0 (λ z. omega (arith, z, sound-some S row sound .1)) in
-      clause-fault S used lent (literalsOf row) one
-      ∙ rw (sound-range S row sound, own .0, le-leb n width short, some, own .1, le-leb (used + 1) lent (omega arith))
+      let fit = fits-so used rules lent (decode row ∷ []) (omega arith) number in
+      clause-fault S used rules lent (literalsOf row) one
+      ∙ rw (sound-range S row sound, own .0, le-leb n mostLiterals short, some, own .1, fit)

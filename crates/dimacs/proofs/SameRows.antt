@@ -1,36 +1,34 @@
--- The rows of a sound table, written as text and read onto a new board, are these rows again, number by number.
+-- The rows of a sound table, written as text and read onto a new board, are these rows again, each as a rule of its own.
 use mathlib.Core.Path.{_≡_, refl, sym, ap, ap₂, _∙_}
 use mathlib.Core.Bool.{true}
-use mathlib.Core.List.{List, _∷_, [], _++_, append-nil, map}
+use mathlib.Core.List.{List, _++_, map}
 use Prim.Native.Nat.{ℕ, zero, suc, _+_, _*_, _<_, _≤_}
 use native.Mathlib.Omega.{arith}
 use borrow.Author.Tests.{le-leb}
 use lib.Dec.{leb}
 use lib.IntN.{ℤ}
-use lib.ListN.{length, take, drop, length-drop}
-use lib.Seq.{length-take-le, take-add}
+use lib.ListN.{length}
 use Rattle.meaning.specs.Tests.{tabulate}
-use Rattle.meaning.specs.Clauses.{allRows}
 use Rattle.meaning.specs.SecondWay.{rulesOf}
 use Rattle.meaning.proofs.Tests.{and-intro}
-use Rattle.literals.specs.Row.{Sound, decode, encode, numbersAt, rowSound, rowsIn, rowsLent, width}
+use Rattle.meaning.proofs.Tables.{length-tabulate}
+use Rattle.literals.specs.Row.{Ruled, decode, mostLiterals, mostRules, numbersAt, ofRule, ofRules, rowSound, rowsLent, width}
 use Rattle.literals.proofs.Counting.{count-few}
-use Rattle.literals.proofs.Decoding.{length-rows, rows-snoc, sound-at}
-use Rattle.literals.proofs.Encoding.{encode-decode}
-use Rattle.implicates.specs.Appending.{appended, encodeAll}
-use Rattle.implicates.proofs.Appending.{encodeAll-append, length-encodeAll}
+use Rattle.literals.proofs.RuledRows.{length-of-rules}
+use Rattle.implicates.specs.Appending.{appended}
 use Rattle.board.specs.Faults.{goodBoard, firstFault}
 use Rattle.board.specs.Changes.{emptyBoard}
-use Rattle.board.specs.Rules.{withRows}
+use Rattle.board.specs.Rules.{withRules}
 use Rattle.board.specs.declared.Board.{Board}
 use Rattle.board.specs.declared.Outcome.the-variants.{Done}
 use Rattle.board.proofs.Goodness.{Good, empty-good, good-is}
 use Rattle.dimacs.specs.Form.{good, parseText}
 use Rattle.dimacs.specs.Clauses.{clauseFaults, clausesFaults, oneOf, passed}
-use Rattle.dimacs.specs.Reading.{readAnswer, readFaults, readTable, rowsOfText, textFaults}
+use Rattle.dimacs.specs.Reading.{formulaeIn, readAnswer, readFaults, readTable, rowsOfText, textFaults}
 use Rattle.dimacs.specs.Writing.{clausesAt, literalsOf, textOn}
 use Rattle.dimacs.specs.Promises.{SameRows}
 use Rattle.dimacs.proofs.FirstFaults.{clauses-passed, first-append}
+use Rattle.dimacs.proofs.LastPass.{numberedRows}
 use Rattle.dimacs.proofs.OwnRows.{row-faultless, row-rows}
 use Rattle.dimacs.proofs.SoundTables.{table-back}
 use Rattle.dimacs.proofs.TextLines.{count-clauses}
@@ -39,40 +37,26 @@ use Rattle.dimacs.proofs.TextLines.{count-clauses}
 
 -- k rows that are sound and of at most eight literals
 abbrev AllSound : (S k : ℕ) → (ℕ → List ℤ) → Type 0
-AllSound S k f = (r : ℕ) → r < k → (rowSound S (f r) ≡ true) × (length (decode (f r)) ≤ width)
+AllSound S k f = (r : ℕ) → r < k → (rowSound S (f r) ≡ true) × (length (decode (f r)) ≤ mostLiterals)
 
-rows-again : (S k : ℕ) (f : ℕ → List ℤ) → AllSound S k f
-    → allRows (rulesOf S (map oneOf (tabulate k (λ r. literalsOf (f r))))) ≡ tabulate k (λ r. decode (f r))
-rows-again S zero f s = refl
-rows-again S (suc k) f s =
-    ap₂ (λ (a b : List (List ℕ)). a ++ b) (row-rows S (f 0) (s 0 (omega arith) .0))
-    (rows-again S k (λ r. f (suc r)) (λ r h. s (suc r) (omega arith)))
+-- each is the row of its own rule, where the numbers go on by one
+rows-again : (S k : ℕ) (f : ℕ → List ℤ) (number : ℕ → ℕ) → AllSound S k f → ((r : ℕ) → number (suc r) ≡ suc (number r))
+    → ofRules (number 0) (rulesOf S (map oneOf (tabulate k (λ r. literalsOf (f r))))) ≡ tabulate k (λ r. record { rule = number r; row = decode (f r) })
+rows-again S zero f number s more = refl
+rows-again S (suc k) f number s more =
+    let later = rows-again S k (λ r. f (suc r)) (λ r. number (suc r)) (λ r h. s (suc r) (omega arith)) (λ r. more (suc r)) in
+    ap₂ (λ (own : List (List ℕ)) (rest : List Ruled). ofRule (number 0) own ++ rest) (row-rows S (f 0) (s 0 (omega arith) .0))
+    (ap (λ (n : ℕ). ofRules n (rulesOf S (map oneOf (tabulate k (λ r. literalsOf (f (suc r))))))) (sym (more 0)) ∙ later)
 
-rows-faultless : (S lent k used : ℕ) (f : ℕ → List ℤ) → 1 ≤ S → AllSound S k f → used + k ≤ lent
-    → firstFault (clausesFaults S used lent (tabulate k (λ r. literalsOf (f r)))) ≡ Done
+rows-faultless : (S lent k used rules : ℕ) (f : ℕ → List ℤ) → 1 ≤ S → AllSound S k f → used + k ≤ lent → rules + k ≤ mostRules
+    → firstFault (clausesFaults S used rules lent (tabulate k (λ r. literalsOf (f r)))) ≡ Done
 unfolding clausesFaults
-rows-faultless S lent zero used f one s h = refl
-rows-faultless S lent (suc k) used f one s h =
+rows-faultless S lent zero used rules f one s h n = refl
+rows-faultless S lent (suc k) used rules f one s h n =
     let first = s 0 (omega arith) in
-    let rest = rows-faultless S lent k (used + 1) (λ r. f (suc r)) one (λ r j. s (suc r) (omega arith)) (omega arith) in
-    first-append (clauseFaults S used lent (literalsOf (f 0))) _
-    ∙ rw (row-faultless S (f 0) (first .0) used lent one (first .1) (omega arith), row-rows S (f 0) (first .0)) rest
-
--- ---- the rows of a sound table, written, are its numbers
-
-numbers-again : (S used : ℕ) (t : List ℤ) → Sound S used t → (r : ℕ) → r ≤ used → encodeAll (rowsIn r t) ≡ take (width * r) t
-unfolding rowsIn numbersAt
-numbers-again S used t s zero h = refl
-numbers-again S used t s (suc r) h =
-    let row = numbersAt t r in
-    let long : length row ≡ width = length-take-le width (drop (width * r) t) (simp length-drop (omega (arith, s .room))) in
-    let own : encode (decode row) ++ [] ≡ row = append-nil (encode (decode row)) ∙ encode-decode S row (sound-at S used t s r h) long in
-    let next : width * r + width ≡ width * suc r = omega arith in
-    ap encodeAll (rows-snoc r t)
-    ∙ encodeAll-append (rowsIn r t) (decode row ∷ [])
-    ∙ ap₂ (λ (xs ys : List ℤ). xs ++ ys) (numbers-again S used t s r (omega arith)) own
-    ∙ sym (take-add (width * r) width t)
-    ∙ ap (λ (n : ℕ). take n t) next
+    let rest = rows-faultless S lent k (used + 1) (suc rules) (λ r. f (suc r)) one (λ r j. s (suc r) (omega arith)) (omega arith) (omega (arith, n)) in
+    let free = row-faultless S (f 0) (first .0) used rules lent one (first .1) (omega arith) (λ e. omega (arith, e, n)) in
+    first-append (clauseFaults S used rules lent (literalsOf (f 0))) _ ∙ rw (free, row-rows S (f 0) (first .0)) rest
 
 -- ---- the whole
 
@@ -94,21 +78,28 @@ module _ (table : List ℤ) (b : Board) (new : List ℤ) (fine : goodBoard table
 
   all-sound : AllSound S used (numbersAt table)
   unfolding numbersAt
-  all-sound r h = (sound-at S used table (known .sound) r h, count-few table (width * r))
+  all-sound r h = (known .sound .sound r h, count-few table (width * r))
 
   -- what the text says
   text-is : parseText text ≡ good S clauses
   unfolding textOn
   text-is = table-back S used table (known .sound)
 
-  rows-are : rowsOfText S (good S clauses) ≡ rowsIn used table
-  unfolding clausesAt rowsIn
-  rows-are = rows-again S used (numbersAt table) all-sound
+  -- row r, from 0, has the number r + 1
+  abbrev rows : List Ruled
+  rows = tabulate used (λ i. record { rule = suc i; row = decode (numbersAt table i) })
+
+  rows-are : numberedRows S 0 (good S clauses) ≡ rows
+  unfolding clausesAt
+  rows-are = rows-again S used (numbersAt table) suc all-sound (λ r. refl)
+
+  added-is : length (rowsOfText S (good S clauses)) ≡ used
+  added-is = sym (length-of-rules 1 (rulesOf S (formulaeIn (good S clauses)))) ∙ ap length rows-are ∙ length-tabulate used _
 
   -- reading it is done, and passes all of its clauses
-  faultless : firstFault (clausesFaults S 0 (rowsLent new) clauses) ≡ Done
+  faultless : firstFault (clausesFaults S 0 0 (rowsLent new) clauses) ≡ Done
   unfolding clausesAt
-  faultless = rows-faultless S (rowsLent new) used 0 (numbersAt table) (known .some) all-sound (omega arith)
+  faultless = rows-faultless S (rowsLent new) used 0 0 (numbersAt table) (known .some) all-sound (omega arith) (omega (arith, known .sound .rows))
 
   new-good : goodBoard new (emptyBoard S) ≡ true
   new-good = empty-good new S (and-intro (leb 1 S) (leb S 200) (le-leb 1 S (known .some)) (le-leb S 200 (known .sound .symbols)))
@@ -117,21 +108,17 @@ module _ (table : List ℤ) (b : Board) (new : List ℤ) (fine : goodBoard table
   unfolding readFaults textFaults
   done = rw (new-good, text-is, faultless)
 
-  passed-all : passed S 0 (rowsLent new) clauses ≡ used
-  passed-all = clauses-passed S 0 (rowsLent new) clauses faultless ∙ count-clauses table used
+  passed-all : passed S 0 0 (rowsLent new) clauses ≡ used
+  passed-all = clauses-passed S 0 0 (rowsLent new) clauses faultless ∙ count-clauses table used
 
   -- so these are the answer and the table after it
-  answer : readAnswer new (emptyBoard S) text ≡ record { outcome = Done; clauses = used; added = used; board = withRows (emptyBoard S) used }
+  answer : readAnswer new (emptyBoard S) text ≡ record { outcome = Done; clauses = used; added = used; board = withRules (emptyBoard S) used used }
   unfolding readAnswer
-  answer = rw (done, new-good, text-is, rows-are, passed-all, length-rows used table)
+  answer = rw (done, new-good, text-is, added-is, passed-all, count-clauses table used)
 
-  numbers : readTable new (emptyBoard S) text ≡ take (width * used) table ++ drop (width * used) new
-  unfolding readTable appended
-  numbers =
-      let rows = rowsIn used table in
-      let long : 0 + length (encodeAll rows) ≡ width * used = omega (arith, length-encodeAll rows, length-rows used table) in
-      let front = numbers-again S used table (known .sound) used (omega arith) in
-      rw (done, text-is, rows-are) (ap₂ (λ (xs : List ℤ) (k : ℕ). xs ++ drop k new) front long)
+  after : readTable new (emptyBoard S) text ≡ appended new 0 rows
+  unfolding readTable
+  after = rw (done, text-is, rows-are)
 
 pub same-rows : SameRows
-same-rows table b new fine fits = (answer table b new fine fits, numbers table b new fine fits)
+same-rows table b new fine fits = (answer table b new fine fits, after table b new fine fits)

@@ -11,7 +11,7 @@ use Rattle.meaning.specs.Tests.{all, tabulate}
 use Rattle.meaning.proofs.Tests.{and-intro, both-true}
 use Rattle.literals.specs.Literal.{inRange}
 use Rattle.literals.specs.Row.{Sound, numbersAt, rising, rowSound, zeros}
-use Rattle.literals.proofs.Decoding.{sound-rising, sound-at}
+use Rattle.literals.proofs.Decoding.{sound-rising}
 use Rattle.dimacs.specs.Form.{good, parseText}
 use Rattle.dimacs.specs.Writing.{clauseAt, clausesAt, literalsOf, textOf}
 use Rattle.dimacs.proofs.RoundTrip.{reads-back}
@@ -48,4 +48,4 @@ pub table-back : (S used : ℕ) (t : List ℤ) → Sound S used t → parseText 
 unfolding clausesAt
 table-back S used t s =
     reads-back S (clausesAt used t) (omega (arith, s .symbols)) (omega (arith, s .rows, count-clauses t used))
-    (all-tabulate (all (inRange S)) used (clauseAt t) (λ r h. sound-range S (numbersAt t r) (sound-at S used t s r h)))
+    (all-tabulate (all (inRange S)) used (clauseAt t) (λ r h. sound-range S (numbersAt t r) (s .sound r h)))

@@ -13,7 +13,6 @@ use Rattle.meaning.specs.Tests.{all}
 use Rattle.meaning.proofs.Tests.{both-true}
 use Rattle.literals.specs.Literal.{inRange}
 use Rattle.literals.specs.Row.{Sound, numbersAt}
-use Rattle.literals.proofs.Decoding.{sound-at}
 use Rattle.spelling.specs.Text.{literal}
 use Rattle.spelling.proofs.Pieces.{natural-most}
 use Rattle.board.specs.Faults.{goodBoard}
@@ -22,7 +21,7 @@ use Rattle.board.proofs.Goodness.{good-is}
 use Rattle.dimacs.specs.Writing.{clauseAt, clauseLine, clauseLines, clausesAt, spaced, textOn}
 use Rattle.dimacs.specs.Promises.{TextBound}
 use Rattle.dimacs.proofs.Lines.{line-size}
-use Rattle.dimacs.proofs.RowLiterals.{clause-width}
+use Rattle.dimacs.proofs.RowLiterals.{clause-few}
 use Rattle.dimacs.proofs.SoundTables.{sound-range}
 use Rattle.dimacs.proofs.TextLines.{counts-size, lines-none, lines-size, text-size}
 
@@ -42,8 +41,8 @@ module _ (S used : ℕ) (t : List ℤ) (sound : Sound S used t) where
   line-short : (r : ℕ) → r < used → length (clauseLine (clauseAt t r)) ≤ 42
   line-short r h =
       let row = clauseAt t r in
-      let range = sound-range S (numbersAt t r) (sound-at S used t sound r h) in
-      omega (arith, line-size row, clause-width t r, spaced-short S row (sound .symbols) range)
+      let range = sound-range S (numbersAt t r) (sound .sound r h) in
+      omega (arith, line-size row, clause-few t r, spaced-short S row (sound .symbols) range)
 
   lines-short : (r : ℕ) → r ≤ used → length (clauseLines (clausesAt r t)) ≤ 42 * r
   lines-short zero h = omega (arith, ap length (lines-none t))

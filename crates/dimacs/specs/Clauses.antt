@@ -27,19 +27,19 @@ oneOf (l ∷ m ∷ ls) = or (claim l) (oneOf (m ∷ ls))
 abbrev pub rowsOfClause : (S : ℕ) → List ℤ → List (List ℕ)
 rowsOfClause S c = rowsOf (ruleOf S (oneOf c))
 
--- `used` rows are in use and `lent` are lent
-unfoldable pub clauseFaults : (S used lent : ℕ) → List ℤ → List Fault
-clauseFaults S used lent c =
-    record { given = not (all (inRange S) c); refusal = BadLiteral } ∷ formulaFaults S used lent (oneOf c)
+-- `used` rows are in use, `rules` were accepted, and `lent` rows are lent
+unfoldable pub clauseFaults : (S used rules lent : ℕ) → List ℤ → List Fault
+clauseFaults S used rules lent c =
+    record { given = not (all (inRange S) c); refusal = BadLiteral } ∷ formulaFaults S used rules lent (oneOf c)
 
--- the faults of clauses in their order, each clause with the rows of those before it in use: the first that is given is that of the first clause
--- at fault
-unfoldable pub clausesFaults : (S used lent : ℕ) → List (List ℤ) → List Fault
-clausesFaults S used lent [] = []
-clausesFaults S used lent (c ∷ cs) = clauseFaults S used lent c ++ clausesFaults S (used + length (rowsOfClause S c)) lent cs
+-- the faults of clauses in their order, each clause with the rows of those before it in use, and these clauses counted as rules: the first that is
+-- given is that of the first clause at fault
+unfoldable pub clausesFaults : (S used rules lent : ℕ) → List (List ℤ) → List Fault
+clausesFaults S used rules lent [] = []
+clausesFaults S used rules lent (c ∷ cs) = clauseFaults S used rules lent c ++ clausesFaults S (used + length (rowsOfClause S c)) (suc rules) lent cs
 
 -- how many clauses come before it
-unfoldable pub passed : (S used lent : ℕ) → List (List ℤ) → ℕ
-passed S used lent [] = 0
-passed S used lent (c ∷ cs) =
-    ifDone (firstFault (clauseFaults S used lent c)) (suc (passed S (used + length (rowsOfClause S c)) lent cs)) (λ _. 0)
+unfoldable pub passed : (S used rules lent : ℕ) → List (List ℤ) → ℕ
+passed S used rules lent [] = 0
+passed S used rules lent (c ∷ cs) =
+    ifDone (firstFault (clauseFaults S used rules lent c)) (suc (passed S (used + length (rowsOfClause S c)) (suc rules) lent cs)) (λ _. 0)

@@ -9,8 +9,9 @@ use lib.Signed.{ltZ}
 use lib.ListN.{length, take, drop}
 use Rattle.meaning.specs.Tests.{all}
 use Rattle.literals.specs.Literal.{inRange, placeOf}
-use Rattle.literals.specs.Row.{width}
+use Rattle.literals.specs.Row.{mostLiterals}
 use Rattle.literals.specs.declared.refusal.Refusal.the-variants.{BadLiteral, TooManySymbols, NoAssignment, TableFull}
+use Rattle.implicates.specs.Appending.{fits}
 use Rattle.board.specs.declared.Outcome.{Outcome}
 use Rattle.board.specs.declared.Outcome.the-variants.{Done, Refused}
 use Rattle.spelling.specs.Text.{isDigit}
@@ -72,12 +73,12 @@ abbrev pub gatheredRows : List ℤ → List (List ℕ)
 gatheredRows c = rowsKept (alwaysTrue [] c) (gathered [] c)
 
 -- the first fault of a clause, as the code finds it
-abbrev pub foundFault : (S used lent : ℕ) → List ℤ → Outcome
-foundFault S used lent c =
+abbrev pub foundFault : (S used rules lent : ℕ) → List ℤ → Outcome
+foundFault S used rules lent c =
     cond (all (inRange S) c)
-    (cond (leb (length (gathered [] c)) width)
+    (cond (leb (length (gathered [] c)) mostLiterals)
     (cond (eqb (length (gathered [] c)) 0) (Refused NoAssignment)
-    (cond (leb (used + length (gatheredRows c)) lent) Done (Refused TableFull)))
+    (cond (fits used rules lent (gatheredRows c)) Done (Refused TableFull)))
     (Refused TooManySymbols))
     (Refused BadLiteral)
 
@@ -115,7 +116,7 @@ pub record Inserts (before after : List ℕ) (count p next : ℕ) (clash full : 
 -- whether a literal and its opposite are among them
 pub record KeptOf (S : ℕ) (o : List ℤ) (row : List ℕ) (k : Kept) : Type 0 where
   pub is-beyond : k .beyond ≡ not (all (inRange S) o)
-  pub is-many : k .many ≡ ltb width (length (gathered [] o))
+  pub is-many : k .many ≡ ltb mostLiterals (length (gathered [] o))
   pub is-row : k .many ≡ false → take (k .count) row ≡ gathered [] o
   pub is-count : k .many ≡ false → k .count ≡ length (gathered [] o)
   pub is-always : k .many ≡ false → k .always ≡ alwaysTrue [] o

@@ -17,10 +17,10 @@ abbrev pub brokenForm : Survey
 brokenForm = record { outcome = Refused BadText; clauses = 0; added = 0 }
 
 -- with a clause more; after the first at fault no other counts
-abbrev pub withClause : (S used lent : ℕ) → Survey → List ℤ → Survey
-withClause S used lent found c =
+abbrev pub withClause : (S used rules lent : ℕ) → Survey → List ℤ → Survey
+withClause S used rules lent found c =
     ifDone (found .outcome)
-    (ifDone (foundFault S (used + found .added) lent c)
+    (ifDone (foundFault S (used + found .added) (rules + found .clauses) lent c)
     (record { outcome = Done; clauses = found .clauses + 1; added = found .added + length (gatheredRows c) })
     (λ why. record { outcome = Refused why; clauses = found .clauses; added = 0 }))
     (λ why. found)
@@ -28,9 +28,9 @@ withClause S used lent found c =
 -- ---- contracts, by what is kept of a clause's literals
 
 -- the first fault of the clause
-pub record Judges (k : Kept) (used lent : ℕ) (outcome : Outcome) : Type 0 where
-  pub first-fault : (S : ℕ) (o : List ℤ) (row : List ℕ) → KeptOf S o row k → outcome ≡ foundFault S used lent o
+pub record Judges (k : Kept) (used rules lent : ℕ) (outcome : Outcome) : Type 0 where
+  pub first-fault : (S : ℕ) (o : List ℤ) (row : List ℕ) → KeptOf S o row k → outcome ≡ foundFault S used rules lent o
 
 -- the survey with the clause
-pub record Surveys (found : Survey) (k : Kept) (used lent : ℕ) (next : Survey) : Type 0 where
-  pub with-clause : (S : ℕ) (o : List ℤ) (row : List ℕ) → KeptOf S o row k → next ≡ withClause S used lent found o
+pub record Surveys (found : Survey) (k : Kept) (used rules lent : ℕ) (next : Survey) : Type 0 where
+  pub with-clause : (S : ℕ) (o : List ℤ) (row : List ℕ) → KeptOf S o row k → next ≡ withClause S used rules lent found o

@@ -2,21 +2,23 @@
 
 ghost use mathlib.Core.Path.{_≡_};
 ghost use mathlib.Core.Bool.{true};
-ghost use Prim.Native.Nat.{_+_, _*_, _<_, _≤_};
+ghost use Prim.Native.Nat.{suc, _+_, _*_, _<_, _≤_};
 ghost use lib.Dec.{ltb};
 ghost use lib.ListN.{getD, length, take};
 ghost use lib.IntN.{pos};
 ghost use Rattle.meaning.specs.Tests.{all};
+ghost use Rattle.meaning.specs.SecondWay.{rulesOf};
 ghost use Rattle.literals.specs.Literal.{literalAt};
-ghost use Rattle.literals.specs.Row.{encode, rowsLent, width};
+ghost use Rattle.literals.specs.Row.{encode, mostLiterals, mostRules, ofRule, ofRules, rowsLent, width};
 ghost use Rattle.implicates.specs.Appending.{appended};
 ghost use Rattle.board.specs.Faults.{firstFault};
-ghost use Rattle.dimacs.specs.Reading.{rowsOfText, textFaults};
+ghost use Rattle.dimacs.specs.Reading.{formulaeIn, textFaults};
 ghost use Rattle.dimacs.specs.Gathering.{clausesFrom, rowsKept};
 use crate::gathering::Kept;
 use crate::gathering::gather;
 use crate::words::next_word;
 use board::Outcome;
+use literals::MOST_LITERALS;
 use literals::WIDTH;
 
 // The literal at a place.
@@ -33,7 +35,7 @@ fn literal_for(p: usize) -> i16
 
 // Number k of a row of `count` places: a literal, or 0.
 fn number_of(row: &[usize], count: usize, k: usize) -> i16
-    requires { ⌜ (count ≤ length (now row)) × (count ≤ width) × (k < width) × (all (λ p. ltb p 400) (take count (now row)) ≡ true) ⌝ }
+    requires { ⌜ (count ≤ length (now row)) × (count ≤ mostLiterals) × (k < mostLiterals) × (all (λ p. ltb p 400) (take count (now row)) ≡ true) ⌝ }
     ensures { λ r. ⌜ r ≡ getD (encode (take count (now (row .entry)))) k (pos 0) ⌝ }
 {
     if k < count {
@@ -42,9 +44,9 @@ fn number_of(row: &[usize], count: usize, k: usize) -> i16
     0
 }
 
-// Writes a row of `count` places: the literals, and then zeros.
+// Writes a row of `count` places to a row's eight numbers in the table: the literals, and then zeros.
 fn write_row(part: &mut [i16], row: &[usize], count: usize)
-    requires { ⌜ (length (now part) ≡ width) × (count ≤ length (now row)) × (count ≤ width) × (all (λ p. ltb p 400) (take count (now row)) ≡ true) ⌝ }
+    requires { ⌜ (length (now part) ≡ mostLiterals) × (count ≤ length (now row)) × (count ≤ mostLiterals) × (all (λ p. ltb p 400) (take count (now row)) ≡ true) ⌝ }
     ensures { λ _. ⌜ now (part .exit) ≡ encode (take count (now (row .entry))) ⌝ }
 {
     let mut k = 0;
@@ -54,36 +56,39 @@ fn write_row(part: &mut [i16], row: &[usize], count: usize)
     }
 }
 
-// Appends the row of a clause of which this is kept, at `row`, if it has one. Returns the next free row.
-fn append_clause(table: &mut [i16], row: usize, places: &[usize], k: Kept) -> usize
-    requires { ⌜ (k .count ≤ length (now places)) × (k .count ≤ width) × (all (λ p. ltb p 400) (take (k .count) (now places)) ≡ true) ⌝ }
+// Appends the row of a clause of which this is kept, at `row`, if it has one, with its rule's number. Returns the next free row.
+fn append_clause(table: &mut [i16], row: usize, rule: usize, places: &[usize], k: Kept) -> usize
+    requires { ⌜ (k .count ≤ length (now places)) × (k .count ≤ mostLiterals) × (all (λ p. ltb p 400) (take (k .count) (now places)) ≡ true) × (rule ≤ mostRules) ⌝ }
     requires room { ⌜ width * (row + length (rowsKept (k .always) (take (k .count) (now places)))) ≤ length (now table) ⌝ }
-    ensures { λ _. ⌜ now (table .exit) ≡ appended (now (table .entry)) row (rowsKept (k .always) (take (k .count) (now (places .entry)))) ⌝ }
+    ensures { λ _. ⌜ now (table .exit) ≡ appended (now (table .entry)) row (ofRule rule (rowsKept (k .always) (take (k .count) (now (places .entry))))) ⌝ }
     ensures { λ r. ⌜ r ≡ row + length (rowsKept (k .always) (take (k .count) (now (places .entry)))) ⌝ }
 {
     if k.always {
         return row;
     }
     let at = WIDTH * row;
-    write_row(&mut table[at..at + WIDTH], places, k.count);
+    write_row(&mut table[at..at + MOST_LITERALS], places, k.count);
+    table[at + MOST_LITERALS] = rule as i16;
     row + 1
 }
 
-// Appends the rows of the clauses from a place on, from row `used` on.
+// Appends the rows of the clauses from a place on, from row `used` on; `rules` come before these clauses.
 pub fn append(
     table: &mut [i16],
     used: usize,
+    rules: usize,
     text: &[u8],
     at: usize,
     variables: usize,
     symbols: usize,
 )
-    requires { ⌜ (at ≤ length (now text)) × (1 ≤ symbols) × (symbols ≤ 200) × (used ≤ rowsLent (now table)) ⌝ }
-    requires { ⌜ firstFault (textFaults symbols used (rowsLent (now table)) (clausesFrom variables at (now text))) ≡ Outcome.Done ⌝ }
-    ensures { λ _. ⌜ now (table .exit) ≡ appended (now (table .entry)) used (rowsOfText symbols (clausesFrom variables at (now (text .entry)))) ⌝ }
+    requires { ⌜ (at ≤ length (now text)) × (1 ≤ symbols) × (symbols ≤ 200) × (used ≤ rowsLent (now table)) × (rules ≤ mostRules) ⌝ }
+    requires { ⌜ firstFault (textFaults symbols used rules (rowsLent (now table)) (clausesFrom variables at (now text))) ≡ Outcome.Done ⌝ }
+    ensures { λ _. ⌜ now (table .exit) ≡ appended (now (table .entry)) used (ofRules (suc rules) (rulesOf symbols (formulaeIn (clausesFrom variables at (now (text .entry)))))) ⌝ }
 {
     let mut places = [0usize; 8];
     let mut row = used;
+    let mut rule = rules;
     let mut i = at;
     loop {
         let here = next_word(text, i);
@@ -92,7 +97,8 @@ pub fn append(
         }
         let c = gather(&mut places, text, here, variables, symbols);
         let k = c.kept;
-        row = append_clause(table, row, &places, k);
+        rule += 1;
+        row = append_clause(table, row, rule, &places, k);
         i = c.end;
     }
 }

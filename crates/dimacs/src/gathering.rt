@@ -5,7 +5,7 @@ ghost use mathlib.Core.Bool.{not, _||_};
 ghost use Prim.Native.Nat.{_≤_};
 ghost use lib.ListN.{length};
 ghost use Rattle.meaning.specs.Literals.{place};
-ghost use Rattle.literals.specs.Row.{width};
+ghost use Rattle.literals.specs.Row.{mostLiterals};
 ghost use Rattle.dimacs.specs.Words.{beyond};
 ghost use Rattle.dimacs.specs.Gathering.{Gathers, Steps};
 use crate::sorting::insert;
@@ -50,7 +50,7 @@ fn place_of(symbol: usize, negative: bool) -> usize
 
 // Takes in a literal more.
 fn take_in(row: &mut [usize], k: Kept, symbols: usize, symbol: usize, negative: bool) -> Kept
-    requires { ⌜ (1 ≤ symbol) × (symbol ≤ beyond) × (k .count ≤ length (now row)) × (length (now row) ≡ width) ⌝ }
+    requires { ⌜ (1 ≤ symbol) × (symbol ≤ beyond) × (k .count ≤ length (now row)) × (length (now row) ≡ mostLiterals) ⌝ }
     ensures { λ r. ⌜ Steps symbols symbol negative (now (row .entry)) (now (row .exit)) k r ⌝ }
 {
     let far = either(k.beyond, symbols < symbol);
@@ -74,7 +74,7 @@ fn take_in(row: &mut [usize], k: Kept, symbols: usize, symbol: usize, negative: 
 
 // Gathers the clause from a place on, as far as it keeps the form.
 pub fn gather(row: &mut [usize], text: &[u8], at: usize, variables: usize, symbols: usize) -> Clause
-    requires { ⌜ (at ≤ length (now text)) × (length (now row) ≡ width) ⌝ }
+    requires { ⌜ (at ≤ length (now text)) × (length (now row) ≡ mostLiterals) ⌝ }
     ensures { λ r. ⌜ Gathers symbols variables (now (text .entry)) at (now (row .exit)) r ⌝ }
 {
     let mut k = Kept {

@@ -2,9 +2,11 @@
 
 ghost use mathlib.Core.Path.{_≡_};
 ghost use mathlib.Core.Bool.{true};
-ghost use Prim.Native.Nat.{_≤_};
+ghost use Prim.Native.Nat.{_+_, _≤_};
 ghost use lib.ListN.{length};
+ghost use Rattle.literals.specs.Row.{mostRules};
 ghost use Rattle.board.specs.Faults.{goodBoard};
+ghost use Rattle.board.specs.Rules.{withRules};
 ghost use Rattle.dimacs.specs.Form.{counted, parseText};
 ghost use Rattle.dimacs.specs.Gathering.{clausesFrom};
 ghost use Rattle.dimacs.specs.Reading.{readAnswer, readTable};
@@ -39,6 +41,22 @@ fn refused(board: Board, why: Refusal, clauses: usize) -> Reading
     }
 }
 
+// The answer once so many clauses are added, with so many rows.
+fn done(board: Board, clauses: usize, added: usize) -> Reading
+    requires { ⌜ (board .rows + added ≤ 2048) × (board .rules + clauses ≤ mostRules) ⌝ }
+    ensures { λ r. ⌜ r ≡ record { outcome = Outcome.Done; clauses = clauses; added = added; board = withRules board added clauses } ⌝ }
+{
+    let mut next = board;
+    next.rows = board.rows + added;
+    next.rules = board.rules + clauses;
+    Reading {
+        outcome: Outcome::Done,
+        clauses,
+        added,
+        board: next,
+    }
+}
+
 // Adds the clauses that stand from a place on, behind a header of these counts.
 fn add_clauses(
     board: Board,
@@ -61,21 +79,23 @@ fn add_clauses(
         clauses,
         board.symbols,
         board.rows,
+        board.rules,
         lent,
     );
     let outcome = found.outcome;
     match outcome {
         Outcome::Refused(why) => refused(board, why, found.clauses),
         Outcome::Done => {
-            append(table, board.rows, text, at, variables, board.symbols);
-            let mut next = board;
-            next.rows = board.rows + found.added;
-            Reading {
-                outcome: Outcome::Done,
-                clauses: found.clauses,
-                added: found.added,
-                board: next,
-            }
+            append(
+                table,
+                board.rows,
+                board.rules,
+                text,
+                at,
+                variables,
+                board.symbols,
+            );
+            done(board, found.clauses, found.added)
         }
     }
 }

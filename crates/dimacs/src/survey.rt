@@ -1,8 +1,9 @@
 // The pass over a text before anything is written: whether it keeps the form, and what its clauses come to as rules.
 
 ghost use mathlib.Core.Path.{_≡_};
-ghost use Prim.Native.Nat.{_+_, _<_, _≤_};
+ghost use Prim.Native.Nat.{_+_, _≤_};
 ghost use lib.ListN.{length};
+ghost use Rattle.literals.specs.Row.{mostRules};
 ghost use Rattle.dimacs.specs.Form.{counted};
 ghost use Rattle.dimacs.specs.Gathering.{clausesFrom};
 ghost use Rattle.dimacs.specs.Reading.{surveyed};
@@ -11,6 +12,7 @@ use crate::gathering::Kept;
 use crate::gathering::gather;
 use crate::words::next_word;
 use board::Outcome;
+use literals::MOST_RULES;
 use literals::refusal::Refusal;
 
 // What the clauses come to, how many come before the first at fault, and how many rows they have, 0 where they are refused.
@@ -31,10 +33,10 @@ fn broken() -> Survey
     }
 }
 
-// What a clause comes to, of which this is kept.
-fn judge(k: Kept, used: usize, lent: usize) -> Outcome
+// What a clause comes to, of which this is kept, where `rules` come before it.
+fn judge(k: Kept, used: usize, rules: usize, lent: usize) -> Outcome
     requires { ⌜ used ≤ lent ⌝ }
-    ensures { λ r. ⌜ Judges k used lent r ⌝ }
+    ensures { λ r. ⌜ Judges k used rules lent r ⌝ }
 {
     if k.beyond {
         return Outcome::Refused(Refusal::BadLiteral);
@@ -44,6 +46,9 @@ fn judge(k: Kept, used: usize, lent: usize) -> Outcome
     }
     if k.count == 0 {
         return Outcome::Refused(Refusal::NoAssignment);
+    }
+    if rules == MOST_RULES {
+        return Outcome::Refused(Refusal::TableFull);
     }
     if k.always {
         return Outcome::Done;
@@ -55,14 +60,14 @@ fn judge(k: Kept, used: usize, lent: usize) -> Outcome
 }
 
 // What the clauses come to with one more; after the first at fault no other counts.
-fn with_clause(found: Survey, k: Kept, used: usize, lent: usize) -> Survey
-    requires { ⌜ (used + found .added ≤ lent) × (lent ≤ 2048) × (found .clauses < 0xffff_ffff_ffff_ffff) ⌝ }
-    ensures { λ r. ⌜ Surveys found k used lent r ⌝ }
+fn with_clause(found: Survey, k: Kept, used: usize, rules: usize, lent: usize) -> Survey
+    requires { ⌜ (used + found .added ≤ lent) × (lent ≤ 2048) × (rules + found .clauses ≤ mostRules) ⌝ }
+    ensures { λ r. ⌜ Surveys found k used rules lent r ⌝ }
 {
     let outcome = found.outcome;
     match outcome {
         Outcome::Refused(_) => found,
-        Outcome::Done => match judge(k, used + found.added, lent) {
+        Outcome::Done => match judge(k, used + found.added, rules + found.clauses, lent) {
             Outcome::Refused(why) => Survey {
                 outcome: Outcome::Refused(why),
                 clauses: found.clauses,
@@ -85,10 +90,11 @@ pub fn survey_clauses(
     clauses: usize,
     symbols: usize,
     used: usize,
+    rules: usize,
     lent: usize,
 ) -> Survey
-    requires { ⌜ (at ≤ length (now text)) × (1 ≤ symbols) × (used ≤ lent) × (lent ≤ 2048) ⌝ }
-    ensures { λ r. ⌜ r ≡ surveyed symbols used lent (counted clauses (clausesFrom variables at (now (text .entry)))) ⌝ }
+    requires { ⌜ (at ≤ length (now text)) × (1 ≤ symbols) × (used ≤ lent) × (lent ≤ 2048) × (rules ≤ mostRules) ⌝ }
+    ensures { λ r. ⌜ r ≡ surveyed symbols used rules lent (counted clauses (clausesFrom variables at (now (text .entry)))) ⌝ }
 {
     let mut row = [0usize; 8];
     let mut found = Survey {
@@ -110,7 +116,7 @@ pub fn survey_clauses(
         if !c.keeps {
             return broken();
         }
-        found = with_clause(found, c.kept, used, lent);
+        found = with_clause(found, c.kept, used, rules, lent);
         count += 1;
         i = c.end;
     }

@@ -20,7 +20,7 @@ fn stand(b: Board, table: &[i16], furnace: u8) {
 // 1 held by both furnaces and withdrawn by one: for the other it still stands, and so does 2.
 fn withdrawn_by(table: &[i16], one: u8, other: u8) {
     let a = boards::none();
-    printing::on(a, 40);
+    printing::on(a, 45);
     let b = calls::hold(a, table, one, 1);
     let c = calls::hold(b, table, other, 1);
     let d = calls::withdraw(c, table, one, 1);
@@ -32,7 +32,7 @@ fn withdrawn_by(table: &[i16], one: u8, other: u8) {
 // Hold and withdraw, each by a furnace that held the literal before and by one that did not: 10 and 11 go by the furnace's own premises.
 fn own_premises(table: &[i16]) {
     let a = boards::none();
-    printing::on(a, 40);
+    printing::on(a, 45);
     let b = calls::hold(a, table, 1, 1);
     let c = calls::hold(b, table, 1, 1);
     let d = calls::withdraw(c, table, 2, 1);
@@ -47,7 +47,7 @@ fn own_premises(table: &[i16]) {
 // Explain and ground for both furnaces.
 fn explained(b: Board, l: i16) {
     let table = boards::rows();
-    printing::on(b, 40);
+    printing::on(b, 45);
     calls::explain(b, &table, 1, l);
     calls::explain(b, &table, 2, l);
     calls::ground(b, &table, 1, l, 8);
@@ -67,7 +67,7 @@ fn every(b: Board, furnace: u8, l: i16, places: usize)
     requires { ⌜ places ≤ 410 ⌝ }
 {
     let table = boards::rows();
-    printing::on(b, 40);
+    printing::on(b, 45);
     named::changing(b, &table, furnace, l);
     named::reading(b, &table, furnace, l, places);
     printing::end();
@@ -86,7 +86,8 @@ fn numbered(furnace: u8) {
 
 // 1 is ahead of 16. A premise beyond S is 1 at the calls of both furnaces, whichever of them holds it: `faults` has the calls of furnace 1.
 fn bad_board_first() {
-    every(boards::blank(0, 2), 3, 2, 8);
+    every(boards::blank(0, 2, 2), 3, 2, 8);
+    every(boards::blank(4, 2, 32768), 3, 2, 8);
     every(with(boards::both(), 8), 3, 2, 8);
     every(with_second(boards::both(), 8), 3, 0, 7);
     every(with(boards::both(), 8), 2, 2, 8);
@@ -96,7 +97,7 @@ fn bad_board_first() {
 // Settle, ask and blame for both furnaces.
 fn answers(b: Board) {
     let table = boards::rows();
-    printing::on(b, 40);
+    printing::on(b, 45);
     calls::settle(b, &table, 1, 4, 8, 8);
     calls::settle(b, &table, 2, 4, 8, 8);
     calls::ask(b, &table, 1, 2);
@@ -118,12 +119,12 @@ fn rule_keeps_both() {
     let given = boards::rows();
     let mut table = given;
     let b = with_second(with(boards::none(), 0), 2);
-    printing::on(b, 40);
-    let c = calls::rule_in(b, &given, &mut table, 40, b"\x14\x10\x02\x10\x03");
+    printing::on(b, 45);
+    let c = calls::rule_in(b, &given, &mut table, 45, b"\x14\x10\x02\x10\x03");
     calls::explain(c, &table, 1, 4);
     calls::explain(c, &table, 2, 4);
     let longer = table;
-    calls::rule(c, longer, 40, b"\x12\x10\x01\x11\x10\x01");
+    calls::rule(c, longer, 45, b"\x12\x10\x01\x11\x10\x01");
     printing::end();
 }
 
@@ -132,7 +133,7 @@ fn open_empties_both() {
     let table = boards::rows();
     let opened = board::changes::open(4);
     let b = opened.board;
-    printing::on(b, 40);
+    printing::on(b, 45);
     calls::withdraw(b, &table, 1, 1);
     calls::withdraw(b, &table, 2, 1);
     calls::settle(b, &table, 1, 4, 8, 8);

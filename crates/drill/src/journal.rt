@@ -18,18 +18,18 @@ fn answers(fifth: Board, table: &[i16]) {
 }
 
 pub fn run() {
-    let mut table = [GUARD; 40];
+    let mut table = [GUARD; 45];
     let opened = board::changes::open(4);
     let first = opened.board;
-    printing::on(first, 40);
+    printing::on(first, 45);
     let empty = table;
-    let second = calls::rule_in(first, &empty, &mut table, 40, b"\x14\x10\x01\x10\x02");
+    let second = calls::rule_in(first, &empty, &mut table, 45, b"\x14\x10\x01\x10\x02");
     let one = table;
     let third = calls::rule_in(
         second,
         &one,
         &mut table,
-        40,
+        45,
         b"\x14\x12\x10\x02\x10\x03\x10\x04",
     );
     let fourth = calls::hold(third, &table, 1, 1);

@@ -10,7 +10,7 @@ fn settle(b: Board, labels: usize, ranks: usize, supports: usize)
     requires { ⌜ (labels ≤ 410) × (ranks ≤ 410) × (supports ≤ 410) ⌝ }
 {
     let table = boards::rows();
-    printing::on(b, 40);
+    printing::on(b, 45);
     calls::settle(b, &table, 1, labels, ranks, supports);
     printing::end();
 }
@@ -20,7 +20,7 @@ fn mark(b: Board, l: i16, places: usize)
     requires { ⌜ places ≤ 410 ⌝ }
 {
     let table = boards::rows();
-    printing::on(b, 40);
+    printing::on(b, 45);
     calls::ground(b, &table, 1, l, places);
     calls::blame(b, &table, 1, places);
     printing::end();
@@ -56,36 +56,13 @@ fn marks() {
 
 // Rows 2 to 3, 1 to 3, 1 to 2. Support is the lowest row that gives the rank, not the lowest that ever fires.
 fn supports() {
-    let table = boards::table(
-        &[
-            -2,
-            3,
-            0,
-            0,
-            0,
-            0,
-            0,
-            0,
-            -1,
-            3,
-            0,
-            0,
-            0,
-            0,
-            0,
-            0,
-            -1,
-            2,
-            0,
-            0,
-            0,
-            0,
-            0,
-            0,
-        ],
+    let table = boards::three_rows(
+        [-2, 3, 0, 0, 0, 0, 0, 0, 1],
+        [-1, 3, 0, 0, 0, 0, 0, 0, 2],
+        [-1, 2, 0, 0, 0, 0, 0, 0, 3],
     );
-    let b = with(boards::blank(3, 3), 0);
-    printing::on(b, 40);
+    let b = with(boards::blank(3, 3, 3), 0);
+    printing::on(b, 45);
     calls::settle(b, &table, 1, 3, 6, 6);
     calls::settle(with(b, 2), &table, 1, 3, 6, 6);
     printing::end();

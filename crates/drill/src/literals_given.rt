@@ -7,7 +7,7 @@ use report::printing;
 // Hold and withdraw, each on the board as it is, and then ask, explain and ground.
 fn show(b: Board, l: i16) {
     let table = boards::rows();
-    printing::on(b, 40);
+    printing::on(b, 45);
     calls::hold(b, &table, 1, l);
     calls::withdraw(b, &table, 1, l);
     calls::ask(b, &table, 1, l);
@@ -19,7 +19,7 @@ fn show(b: Board, l: i16) {
 // Hold twice, hold the opposite, withdraw twice: each is given the board that the one before handed back.
 fn one_after_another(table: &[i16]) {
     let a = boards::none();
-    printing::on(a, 40);
+    printing::on(a, 45);
     let b = calls::hold(a, table, 1, 4);
     let c = calls::hold(b, table, 1, 4);
     let d = calls::hold(c, table, 1, -4);

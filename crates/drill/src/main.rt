@@ -7,12 +7,14 @@ mod journal;
 mod lengths;
 mod literals_given;
 mod named;
+mod numbers;
 mod opening;
 mod rules;
 
 fn main() {
     opening::run();
     rules::run();
+    numbers::run();
     faults::run();
     literals_given::run();
     furnaces::run();

@@ -1,13 +1,21 @@
 // Opening a board.
 
+use board::Board;
 use report::printing;
 
-fn show(symbols: usize) {
+// What an open answers, and the board that it hands back.
+pub fn open(symbols: usize) -> Board {
     let told = board::changes::open(symbols);
     let outcome = told.outcome;
+    let next = told.board;
     printing::counted(b"open", symbols);
     printing::outcome(outcome);
-    printing::board(told.board);
+    printing::board(next);
+    next
+}
+
+fn show(symbols: usize) {
+    open(symbols);
     printing::end();
 }
 

@@ -59,8 +59,8 @@ fn read_in(before: Board, given: &[i16], table: &mut [i16], lent: usize, bytes: 
 }
 
 // The same with a table that is not used again.
-pub fn read(before: Board, given: [i16; 40], lent: usize, bytes: &[u8])
-    requires { ⌜ lent ≤ 40 ⌝ }
+pub fn read(before: Board, given: [i16; 45], lent: usize, bytes: &[u8])
+    requires { ⌜ lent ≤ 45 ⌝ }
 {
     let mut table = given;
     read_in(before, &given, &mut table, lent, bytes);

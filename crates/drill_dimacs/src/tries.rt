@@ -10,7 +10,7 @@ use report::comparing::BYTE;
 use report::printing;
 
 fn show(b: Board, lent: usize, text: &[u8])
-    requires { ⌜ lent ≤ 40 ⌝ }
+    requires { ⌜ lent ≤ 45 ⌝ }
 {
     printing::on(b, lent);
     telling::read(b, boards::rows(), lent, text);
@@ -19,7 +19,7 @@ fn show(b: Board, lent: usize, text: &[u8])
 
 // Reads each text of a list, each by itself. A byte `/`, which no text has, stands after each.
 fn each(b: Board, lent: usize, list: &[u8])
-    requires { ⌜ lent ≤ 40 ⌝ }
+    requires { ⌜ lent ≤ 45 ⌝ }
 {
     let mut start = 0;
     let mut k = 0;
@@ -34,37 +34,39 @@ fn each(b: Board, lent: usize, list: &[u8])
 
 // Onto a board of 4 symbols and two rows, with three free rows, and with none; and onto one of 200 symbols, with three, and with none.
 fn read(list: &[u8]) {
-    each(boards::both(), 40, list);
+    each(boards::both(), 45, list);
 }
 
 fn read_full(list: &[u8]) {
-    each(boards::both(), 16, list);
+    each(boards::both(), 18, list);
 }
 
 fn read_wide(list: &[u8]) {
-    each(blank(200, 2), 40, list);
+    each(blank(200, 2, 2), 45, list);
 }
 
 fn read_wide_full(list: &[u8]) {
-    each(blank(200, 2), 16, list);
+    each(blank(200, 2, 2), 18, list);
 }
 
-// 1: S of 0 and 201, fewer rows lent than are in use, a row that is not sound, a premise of symbol 5 of 4, held by furnace 1, and by furnace 2.
-// And 1 is ahead of 15, 2 and 8.
+// 1: S of 0 and 201, fewer rows lent than are in use, a row whose literals are not sound, a row of rule 2 where one rule is counted, more rules
+// counted than there are numbers, a premise of symbol 5 of 4, held by furnace 1, and by furnace 2. And 1 is ahead of 15, 2 and 8.
 fn spoilt() {
-    show(blank(0, 2), 40, b"p cnf 4 1\n1 0\n");
-    show(blank(201, 2), 40, b"p cnf 4 1\n1 0\n");
-    show(boards::none(), 15, b"p cnf 4 1\n1 0\n");
-    show(blank(4, 3), 40, b"p cnf 4 1\n1 0\n");
-    show(boards::with(boards::both(), 8), 40, b"p cnf 4 1\n1 0\n");
+    show(blank(0, 2, 2), 45, b"p cnf 4 1\n1 0\n");
+    show(blank(201, 2, 2), 45, b"p cnf 4 1\n1 0\n");
+    show(boards::none(), 17, b"p cnf 4 1\n1 0\n");
+    show(blank(4, 3, 3), 45, b"p cnf 4 1\n1 0\n");
+    show(blank(4, 2, 1), 45, b"p cnf 4 1\n1 0\n");
+    show(blank(4, 2, 32768), 45, b"p cnf 4 1\n1 0\n");
+    show(boards::with(boards::both(), 8), 45, b"p cnf 4 1\n1 0\n");
     show(
         boards::with_second(boards::both(), 8),
-        40,
+        45,
         b"p cnf 4 1\n1 0\n",
     );
-    show(blank(0, 2), 40, b"");
-    show(blank(4, 3), 40, b"p cnf 4 2\n1 0\n");
-    show(blank(4, 3), 40, b"p cnf 5 2\n5 0\n0\n");
+    show(blank(0, 2, 2), 45, b"");
+    show(blank(4, 3, 3), 45, b"p cnf 4 2\n1 0\n");
+    show(blank(4, 3, 3), 45, b"p cnf 5 2\n5 0\n0\n");
 }
 
 // 15, some texts of those in `dimacs/proofs/Vectors`: no header, a line ahead of it that is no comment, one count, a count above 32,767, a comment
@@ -101,11 +103,11 @@ fn taken() {
     );
 }
 
-// The rows of three clauses fill the table; those of two fill a shorter one, whose last seven numbers are no row. An always true clause has no
+// The rows of three clauses fill the table; those of two fill a shorter one, whose last eight numbers are no row. An always true clause has no
 // row: it is taken behind them, and where no row is free. A reading keeps the premises of both furnaces.
 fn rows() {
     read(b"p cnf 4 3\n1 0\n2 4 0\n-3 0\n/");
-    show(boards::both(), 39, b"p cnf 4 2\n1 0\n2 4 0\n");
+    show(boards::both(), 44, b"p cnf 4 2\n1 0\n2 4 0\n");
     read(b"p cnf 4 4\n1 0\n2 4 0\n-3 0\n1 -2 -1 0\n/");
     read_full(
         b"p cnf 4 1\n1 -2 -1 0\n/\
@@ -113,8 +115,37 @@ fn rows() {
     );
     show(
         boards::with_second(boards::both(), 2),
-        40,
+        45,
         b"p cnf 4 1\n1 0\n",
+    );
+}
+
+// Each clause is one rule more, an always true one between two others too. The last two rules that have a number, one of them with no row; and 9 in
+// the middle of a text by a third, with a row and with none.
+fn rules() {
+    read(b"p cnf 4 3\n1 0\n2 -2 0\n-3 0\n/");
+    each(
+        blank(4, 2, 32765),
+        45,
+        b"p cnf 4 2\n1 0\n2 -2 0\n/\
+          p cnf 4 2\n2 -2 0\n1 0\n/\
+          p cnf 4 4\n1 0\n2 -2 0\n3 0\n4 0\n/\
+          p cnf 4 4\n1 0\n2 0\n3 -3 0\n4 0\n/",
+    );
+}
+
+// With all 32,767 counted: 9 by a clause with a row and by one with none, and 15, 2, 7 and 8 ahead of it. A text of no clause is taken.
+fn no_number_left() {
+    each(
+        blank(200, 2, 32767),
+        45,
+        b"p cnf 4 1\n1 0\n/\
+          p cnf 4 1\n1 -1 0\n/\
+          p cnf 4 2\n1 0\n/\
+          p cnf 201 1\n201 0\n/\
+          p cnf 9 1\n1 2 3 4 5 6 7 8 9 0\n/\
+          p cnf 4 1\n0\n/\
+          p cnf 4 0\n/",
     );
 }
 
@@ -145,7 +176,7 @@ fn at_fault() {
         b"p cnf 4 4\n1 0\n2 0\n3 0\n4 0\n/\
           p cnf 4 5\n1 0\n2 0\n3 -3 0\n3 0\n4 0\n/",
     );
-    show(boards::both(), 39, b"p cnf 4 3\n1 0\n2 0\n3 0\n");
+    show(boards::both(), 44, b"p cnf 4 3\n1 0\n2 0\n3 0\n");
 }
 
 // 15 at the end of a text is ahead of 2, 7, 8 and 9 in its first clause.
@@ -185,73 +216,54 @@ fn one_clause() {
 fn write(b: Board, room: usize)
     requires { ⌜ room ≤ 100 ⌝ }
 {
-    printing::on(b, 40);
+    printing::on(b, 45);
     telling::write(b, &boards::rows(), room);
     printing::end();
 }
 
-// 1, also by furnace 2's premise of symbol 5 of 4, and ahead of 13; 13 with no room and with one byte too few; exactly enough, and more. Then boards
-// with no row in use.
+// 1, also by furnace 2's premise of symbol 5 of 4, by the number of a row and by the count of rules, and ahead of 13; 13 with no room and with one
+// byte too few; exactly enough, and more. Then boards with no row in use.
 fn writing() {
-    write(blank(0, 2), 100);
+    write(blank(0, 2, 2), 100);
     write(boards::with_second(boards::both(), 8), 100);
-    write(blank(4, 3), 0);
+    write(blank(4, 3, 3), 0);
+    write(blank(4, 2, 1), 100);
+    write(blank(4, 2, 32768), 100);
     write(boards::both(), 0);
     write(boards::both(), 26);
     write(boards::both(), 27);
     write(boards::both(), 100);
-    write(blank(4, 0), 9);
-    write(blank(4, 0), 10);
-    write(blank(200, 0), 100);
+    write(blank(4, 0, 0), 9);
+    write(blank(4, 0, 0), 10);
+    write(blank(200, 0, 0), 100);
 }
 
 // Writes the rows in use in as many bytes as they take, and reads these onto a new board of as many symbols.
-fn back(b: Board, table: [i16; 40], room: usize, lent: usize)
-    requires { ⌜ (room ≤ 100) × (lent ≤ 40) ⌝ }
+fn back(b: Board, table: [i16; 45], room: usize, lent: usize)
+    requires { ⌜ (room ≤ 100) × (lent ≤ 45) ⌝ }
 {
     let mut out = [BYTE; 100];
-    let new = blank(b.symbols, 0);
-    printing::on(b, 40);
+    let new = blank(b.symbols, 0, 0);
+    printing::on(b, 45);
     telling::write_in(b, &table, &mut out, room);
     printing::end();
     printing::on(new, lent);
-    telling::read(new, [GUARD; 40], lent, &out[..room]);
+    telling::read(new, [GUARD; 45], lent, &out[..room]);
     printing::end();
 }
 
-// With as many rows lent, and with one fewer; then a row of eight literals, and two equal rows.
+// With as many rows lent, and with one fewer; the same rows with other numbers, of which the text has none; then a row of eight literals, and two
+// equal rows from one rule. On the new board row r is from rule r + 1.
 fn round_trips() {
-    back(boards::both(), boards::rows(), 27, 16);
-    back(boards::both(), boards::rows(), 27, 15);
-    let wide = boards::table(
-        &[
-            -1,
-            20,
-            -30,
-            40,
-            -197,
-            198,
-            199,
-            -200,
-            5,
-            0,
-            0,
-            0,
-            0,
-            0,
-            0,
-            0,
-            5,
-            0,
-            0,
-            0,
-            0,
-            0,
-            0,
-            0,
-        ],
+    back(boards::both(), boards::rows(), 27, 18);
+    back(boards::both(), boards::rows(), 27, 17);
+    back(blank(4, 2, 9), boards::numbered(4, 9), 27, 45);
+    let wide = boards::three_rows(
+        [-1, 20, -30, 40, -197, 198, 199, -200, 1],
+        [5, 0, 0, 0, 0, 0, 0, 0, 2],
+        [5, 0, 0, 0, 0, 0, 0, 0, 2],
     );
-    back(blank(200, 3), wide, 53, 40);
+    back(blank(200, 3, 2), wide, 53, 45);
 }
 
 pub fn run() {
@@ -259,6 +271,8 @@ pub fn run() {
     broken();
     taken();
     rows();
+    rules();
+    no_number_left();
     symbols();
     at_fault();
     form_first();

@@ -24,8 +24,8 @@ fn add_in(before: Board, given: &[i16], table: &mut [i16], lent: usize, words: &
 }
 
 // The same with a table that is not used again.
-pub fn add(before: Board, given: [i16; 40], lent: usize, words: &[u8])
-    requires { ⌜ lent ≤ 40 ⌝ }
+pub fn add(before: Board, given: [i16; 45], lent: usize, words: &[u8])
+    requires { ⌜ lent ≤ 45 ⌝ }
 {
     let mut table = given;
     add_in(before, &given, &mut table, lent, words);

@@ -10,7 +10,7 @@ use report::quoting::quoted;
 
 // Adds the rule of a text, and reads the text to bytes with so many bytes lent, each on the same board.
 pub fn show(b: Board, lent: usize, room: usize, words: &[u8])
-    requires { ⌜ (lent ≤ 40) × (room ≤ 100) ⌝ }
+    requires { ⌜ (lent ≤ 45) × (room ≤ 100) ⌝ }
 {
     let table = boards::rows();
     printing::on(b, lent);
@@ -22,7 +22,7 @@ pub fn show(b: Board, lent: usize, room: usize, words: &[u8])
 
 // Each text of a list, each by itself. A byte `/`, which no text has, stands after each.
 fn each(b: Board, lent: usize, room: usize, list: &[u8])
-    requires { ⌜ (lent ≤ 40) × (room ≤ 100) ⌝ }
+    requires { ⌜ (lent ≤ 45) × (room ≤ 100) ⌝ }
 {
     let mut start = 0;
     let mut k = 0;
@@ -37,18 +37,20 @@ fn each(b: Board, lent: usize, room: usize, list: &[u8])
 
 // On the board of 4 symbols and two rows, with three free rows and 50 bytes.
 fn tried(list: &[u8]) {
-    each(boards::both(), 40, 50, list);
+    each(boards::both(), 45, 50, list);
 }
 
-// 1: S of 0 and 201, fewer rows lent than are in use, a premise of symbol 5 of 4, held by furnace 1, and by furnace 2, a row that is not sound. And
-// 1 is ahead of 15, 2, 5, 8 and 13.
+// 1: S of 0 and 201, fewer rows lent than are in use, a premise of symbol 5 of 4, held by furnace 1, and by furnace 2, more rules counted than there
+// are numbers, a row of rule 2 where one rule is counted, a row whose literals are not sound. And 1 is ahead of 15, 2, 5, 8 and 13.
 fn spoilt() {
-    each(blank(0, 2), 40, 50, b"1/");
-    each(blank(201, 2), 40, 50, b"1/");
-    each(boards::none(), 15, 50, b"1/");
-    each(boards::with(boards::both(), 8), 40, 50, b"1/");
-    each(boards::with_second(boards::both(), 8), 40, 50, b"1/");
-    each(blank(4, 3), 40, 0, b"1//1&/5/----------------1/1&-1/");
+    each(blank(0, 2, 2), 45, 50, b"1/");
+    each(blank(201, 2, 2), 45, 50, b"1/");
+    each(boards::none(), 17, 50, b"1/");
+    each(boards::with(boards::both(), 8), 45, 50, b"1/");
+    each(boards::with_second(boards::both(), 8), 45, 50, b"1/");
+    each(blank(4, 2, 32768), 45, 50, b"1/");
+    each(blank(4, 2, 1), 45, 50, b"1/");
+    each(blank(4, 3, 3), 45, 0, b"1//1&/5/----------------1/1&-1/");
 }
 
 // 15 at the length of a text cut short: nothing, spaces alone, a mark or `-` or `(` with nothing behind it, a bracket that is not closed.
@@ -82,15 +84,15 @@ fn brackets() {
 // ahead of 7.
 fn form_first() {
     tried(b"5&/300 400/9|9&9/----------------1)/-----------------/1&-1&/");
-    each(boards::both(), 16, 0, b"1 2/");
-    each(blank(200, 2), 40, 50, b"1|2|3|4|5|6|7|8|9&1/");
+    each(boards::both(), 18, 0, b"1 2/");
+    each(blank(200, 2, 2), 45, 50, b"1|2|3|4|5|6|7|8|9&1/");
 }
 
 // 2 at the symbol's number in the bytes: 0, one more than S, numbers above 255, one of which is 1 where a byte is kept and one where 64 bits are. On
 // a board of 200 symbols the last symbol is taken.
 fn numbers() {
     tried(b"0/000/5/300/256/257/18446744073709551617/-5/1&5/5>6/");
-    each(blank(200, 2), 40, 50, b"200/201/255/");
+    each(blank(200, 2, 2), 45, 50, b"200/201/255/");
 }
 
 // 5 where an operand would stand at depth 17: sixteen `-`, fifteen in a form of two operands, seventeen units in a chain. One fewer of each is taken,
@@ -114,34 +116,46 @@ fn first_met() {
 // Eight symbols, and 7 by nine, ahead of 8 and 9; 2 is ahead of 7, and a text of nine symbols is read to bytes all the same.
 fn symbols() {
     each(
-        blank(200, 2),
-        40,
+        blank(200, 2, 2),
+        45,
         50,
         b"200|199|198|197|196|195|194|193/1|2|3|4|5|6|7|8|9/1&-1&2&3&4&5&6&7&8&9/1|2|3|4|5|6|7|8|201/",
     );
-    each(blank(200, 2), 16, 50, b"1|2|3|4|5|6|7|8|9/");
+    each(blank(200, 2, 2), 18, 50, b"1|2|3|4|5|6|7|8|9/");
 }
 
 // 8 by a rule that no assignment satisfies, also where no row is free; 9 with no row free and with one too few; the last free row; an always true
 // rule has no row. 2 and 5 are ahead of 9, and 2 of 8. A rule keeps the premises of both furnaces.
 fn rows() {
     tried(b"1&-1/1|-1/(1|2)&(-1|3)/");
-    each(boards::both(), 39, 50, b"(1|2)&(-1|3)/");
-    each(boards::both(), 24, 50, b"1>2/");
+    each(boards::both(), 44, 50, b"(1|2)&(-1|3)/");
+    each(boards::both(), 27, 50, b"1>2/");
     each(
         boards::both(),
-        16,
+        18,
         50,
         b"1/1&-1/1|-1/5&-5/----------------1/",
     );
-    each(boards::with_second(boards::both(), 2), 40, 50, b"1/");
+    each(boards::with_second(boards::both(), 2), 45, 50, b"1/");
+}
+
+// A board that counts 32,766 rules takes one more, with a row and with none. One that counts 32,767 gives 9 to both, and 15, 2, 5, 7 and 8 are ahead
+// of it; a text that is read to bytes is no rule.
+fn last_rule() {
+    each(blank(200, 2, 32766), 45, 50, b"1/1|-1/");
+    each(
+        blank(200, 2, 32767),
+        45,
+        50,
+        b"1/1|-1/1&/201/----------------1/1|2|3|4|5|6|7|8|9/1&-1/",
+    );
 }
 
 // 13 with no byte lent and with one too few, and not with exactly enough; 2 and 5 are ahead of it. Adding a rule needs no bytes lent.
 fn room() {
-    each(boards::both(), 40, 0, b"1/5/----------------1/");
-    each(boards::both(), 40, 2, b"1/-1/");
-    each(boards::both(), 40, 5, b"1>2/-(1>2)/");
+    each(boards::both(), 45, 0, b"1/5/----------------1/");
+    each(boards::both(), 45, 2, b"1/-1/");
+    each(boards::both(), 45, 5, b"1>2/-(1>2)/");
 }
 
 // "grouped from the left"; brackets that group otherwise, and brackets round what needs none; leading zeros; "Spaces may stand round any mark", at
@@ -158,12 +172,12 @@ fn zeros() {
     words[127] = b'1';
     words[128] = b'&';
     words[129] = b'5';
-    show(boards::both(), 40, 50, &words[..128]);
-    show(boards::both(), 40, 50, &words[..129]);
-    show(boards::both(), 40, 50, &words);
+    show(boards::both(), 45, 50, &words[..128]);
+    show(boards::both(), 45, 50, &words[..129]);
+    show(boards::both(), 45, 50, &words);
     words[127] = b'0';
     words[128] = b'1';
-    show(boards::both(), 40, 50, &words[..129]);
+    show(boards::both(), 45, 50, &words[..129]);
 }
 
 // Texts of more than 128 bytes, for which the calls use a larger buffer: 5 by 65 units, and 15 at the end of these; 216 units, whose 647
@@ -181,14 +195,14 @@ fn long() {
     );
     each(
         boards::both(),
-        40,
+        45,
         47,
         b"00000001|00000002|00000003|00000004|00000001|00000002|00000003|00000004|\
           00000001|00000002|00000003|00000004|00000001|00000002|00000003|00000004/",
     );
     each(
         boards::both(),
-        40,
+        45,
         46,
         b"00000001|00000002|00000003|00000004|00000001|00000002|00000003|00000004|\
           00000001|00000002|00000003|00000004|00000001|00000002|00000003|00000004/",
@@ -207,6 +221,7 @@ pub fn run() {
     first_met();
     symbols();
     rows();
+    last_rule();
     room();
     taken();
     zeros();

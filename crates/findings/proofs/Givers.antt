@@ -14,7 +14,7 @@ use Rattle.meaning.specs.Literals.{opp, has}
 use Rattle.meaning.specs.Rounds.{gives, firstGiver, supportAt}
 use Rattle.meaning.proofs.Tests.{true-or-false, false-of, clash, in-member}
 use Rattle.meaning.proofs.Gives.{gives-words}
-use Rattle.literals.specs.Row.{width, numbersAt, decode, rowsIn, Fit}
+use Rattle.literals.specs.Row.{mostLiterals, numbersAt, decode, rowsIn, Fit}
 use Rattle.literals.proofs.Decoding.{length-rows, rows-at}
 use Rattle.index.specs.Index.{Contains, Index}
 use Rattle.findings.specs.Ranks.{below, supportFrom}
@@ -68,20 +68,20 @@ module _ (known : List Bool) {places used : ℕ} {table : List ℤ} {heads links
   few = omega (arith, fit .2 .rows)
 
   -- at the end no row gives p
-  pub missed-all : width * used ≤ cell → none ≡ firstGiver known (rowsIn used table) p
+  pub missed-all : mostLiterals * used ≤ cell → none ≡ firstGiver known (rowsIn used table) p
   missed-all past =
       first-missing _ used few (λ r h. others known table p r (λ m. along-end fit index w past r h m)) ∙ giver-in known table used p
 
-  module _ (inside : cell < width * used) where
+  module _ (inside : cell < mostLiterals * used) where
     -- the cell's row is the first that does,
-    pub missed-found : gives known (decode (numbersAt table (cell / width))) p ≡ true → cell / width ≡ firstGiver known (rowsIn used table) p
+    pub missed-found : gives known (decode (numbersAt table (cell / mostLiterals))) p ≡ true → cell / mostLiterals ≡ firstGiver known (rowsIn used table) p
     missed-found here =
         let low = along-row fit index w inside in
-        first-found _ used few (cell / width) low (λ r h. others known table p r (λ m. w .passed r (omega arith) h m)) here
+        first-found _ used few (cell / mostLiterals) low (λ r h. others known table p r (λ m. w .passed r (omega arith) h m)) here
         ∙ giver-in known table used p
 
     -- or is passed too
-    pub missed-more : gives known (decode (numbersAt table (cell / width))) p ≡ false → Missed known used table p (getD links cell 0)
+    pub missed-more : gives known (decode (numbersAt table (cell / mostLiterals))) p ≡ false → Missed known used table p (getD links cell 0)
     missed-more here = along-link fit index w inside (λ r h m. m) here
 
 -- ---- the support that a table of ranks tells

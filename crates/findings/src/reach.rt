@@ -14,6 +14,7 @@ use crate::NONE;
 use crate::PLACES;
 use crate::labels::earliest_clash;
 use crate::supports::support;
+use literals::MOST_LITERALS;
 use literals::WIDTH;
 
 // Marks the literal at p and puts it at the end of the queue, if it is not marked. Gives the queue's end.
@@ -48,7 +49,7 @@ fn mark_others(
     let base = WIDTH * row;
     let mut next = end;
     let mut j = 0;
-    while j < WIDTH {
+    while j < MOST_LITERALS {
         let l = table[base + j];
         if l == 0 {
             break;

@@ -10,6 +10,7 @@ ghost use Rattle.index.specs.Index.{Index};
 ghost use Rattle.findings.specs.Ranks.{below, supportFrom};
 ghost use Rattle.findings.specs.Queue.{AllQueued};
 use crate::NONE;
+use literals::MOST_LITERALS;
 use literals::WIDTH;
 
 // The lowest-numbered row that gives the literal at p in round k, else NONE: of the rows that contain it, lowest first, each is left at the
@@ -28,17 +29,17 @@ fn support_row(
     requires { ⌜ p < length (now ranks) ⌝ }
     ensures { λ r. ⌜ r ≡ firstGiver (below k (now (ranks .entry))) (rowsIn rows (now (table .entry))) p ⌝ }
 {
-    let cells = WIDTH * rows;
+    let cells = MOST_LITERALS * rows;
     let mut cell = heads[p] as usize;
     'rows: loop {
         if cell >= cells {
             break NONE;
         }
-        let row = cell / WIDTH;
+        let row = cell / MOST_LITERALS;
         cell = links[cell] as usize;
         let base = WIDTH * row;
         let mut j = 0;
-        while j < WIDTH {
+        while j < MOST_LITERALS {
             let l = table[base + j];
             if l == 0 {
                 break;

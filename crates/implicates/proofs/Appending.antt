@@ -1,15 +1,15 @@
 -- Laws of rows appended to the table: what is appended later joins it, and the table keeps its length.
 use mathlib.Core.Path.{_≡_, refl, sym, ap, ap₂, _∙_}
 use mathlib.Core.List.{List, [], _∷_, _++_, append-assoc, append-nil}
-use Prim.Native.Nat.{ℕ, _+_, _-_, _*_, _≤_}
+use Prim.Native.Nat.{ℕ, suc, _+_, _-_, _*_, _≤_}
 use native.Mathlib.Omega.{arith}
 use native.Mathlib.Nat.{add-zero}
 use borrow.Rule.Slice.PartMut.{putMid, postOf, post-is}
-use lib.ListN.{length, take, drop, length-append, length-take, length-drop, take-append-drop}
-use lib.Seq.{take-at, drop-at, drop-drop}
-use lib.IntN.{ℤ}
-use Rattle.literals.specs.Row.{width, encode}
-use Rattle.literals.proofs.Encoding.{length-encode}
+use lib.ListN.{length, take, drop, getD, set, length-append, length-take, length-drop, take-append-drop}
+use lib.Seq.{take-at, drop-at, set-at, drop-cons, drop-drop}
+use lib.IntN.{ℤ, pos}
+use Rattle.literals.specs.Row.{width, mostLiterals, encode, Ruled, numbered}
+use Rattle.literals.proofs.Encoding.{length-encode, length-numbered}
 use Rattle.implicates.specs.Appending.{encodeAll, written, appended}
 
 -- ---- numbers written into a table
@@ -39,13 +39,13 @@ written-more t at xs ys h =
 
 -- ---- rows
 
-pub encodeAll-append : (us vs : List (List ℕ)) → encodeAll (us ++ vs) ≡ encodeAll us ++ encodeAll vs
+encodeAll-append : (us vs : List Ruled) → encodeAll (us ++ vs) ≡ encodeAll us ++ encodeAll vs
 encodeAll-append [] vs = refl
-encodeAll-append (u ∷ us) vs = ap (λ (l : List ℤ). encode u ++ l) (encodeAll-append us vs) ∙ sym (append-assoc (encode u) (encodeAll us) (encodeAll vs))
+encodeAll-append (u ∷ us) vs = ap (λ (l : List ℤ). numbered u ++ l) (encodeAll-append us vs) ∙ sym (append-assoc (numbered u) (encodeAll us) (encodeAll vs))
 
-pub length-encodeAll : (rows : List (List ℕ)) → length (encodeAll rows) ≡ width * length rows
+pub length-encodeAll : (rows : List Ruled) → length (encodeAll rows) ≡ width * length rows
 length-encodeAll [] = refl
-length-encodeAll (row ∷ rows) = length-append (encode row) (encodeAll rows) ∙ omega (arith, length-encode row, length-encodeAll rows)
+length-encodeAll (row ∷ rows) = length-append (numbered row) (encodeAll rows) ∙ omega (arith, length-numbered row, length-encodeAll rows)
 
 -- no rows leave the table as it is
 pub appended-none : (t : List ℤ) (at : ℕ) → appended t at [] ≡ t
@@ -53,12 +53,12 @@ unfolding appended
 appended-none t at = written-none t (width * at)
 
 -- rows that fit keep the table's length
-pub length-appended : (t : List ℤ) (at : ℕ) (rows : List (List ℕ)) → width * (at + length rows) ≤ length t → length (appended t at rows) ≡ length t
+pub length-appended : (t : List ℤ) (at : ℕ) (rows : List Ruled) → width * (at + length rows) ≤ length t → length (appended t at rows) ≡ length t
 unfolding appended
 length-appended t at rows h = length-written t (width * at) (encodeAll rows) (omega (arith, length-encodeAll rows))
 
 -- rows appended after rows
-pub appended-more : (t : List ℤ) (at : ℕ) (us vs : List (List ℕ)) → width * (at + length us) ≤ length t → appended (appended t at us) (at + length us) vs ≡ appended t at (us ++ vs)
+pub appended-more : (t : List ℤ) (at : ℕ) (us vs : List Ruled) → width * (at + length us) ≤ length t → appended (appended t at us) (at + length us) vs ≡ appended t at (us ++ vs)
 unfolding appended
 appended-more t at us vs h =
     let e : width * (at + length us) ≡ width * at + length (encodeAll us) = omega (arith, length-encodeAll us) in
@@ -66,10 +66,23 @@ appended-more t at us vs h =
     ∙ written-more t (width * at) (encodeAll us) (encodeAll vs) (omega (arith, e))
     ∙ ap (written t (width * at)) (sym (encodeAll-append us vs))
 
--- one row, put where it belongs
-pub appended-one : (t : List ℤ) (at : ℕ) (row : List ℕ) → putMid (width * at) (width * at + width - width * at) t (encode row) ≡ appended t at (row ∷ [])
+-- one row, put where it belongs: its eight places, and then its rule's number
+pub appended-one : (t : List ℤ) (at rule : ℕ) (row : List ℕ) → width * (at + 1) ≤ length t
+    → set (putMid (width * at) (width * at + mostLiterals - width * at) t (encode row)) (width * at + mostLiterals) (pos rule)
+    ≡ appended t at (record { rule = rule; row = row } ∷ [])
 unfolding appended
-appended-one t at row =
-    let rest : postOf (width * at) (width * at + width - width * at) t ≡ drop (width * at + width) t = post-is (width * at) (width * at + width) t (omega arith) in
-    ap (λ (r : List ℤ). take (width * at) t ++ (encode row ++ r)) (rest ∙ ap (λ (j : ℕ). drop (width * at + j) t) (sym (length-encode row)))
-    ∙ ap (written t (width * at)) (sym (append-nil (encode row)))
+appended-one t at rule row h =
+    let a = width * at in
+    let front : length (take a t ++ encode row) ≡ a + mostLiterals = simp (length-append, length-take) (omega (arith, length-encode row)) in
+    let old = getD t (a + mostLiterals) (pos 0) in
+    let next : suc (a + mostLiterals) ≡ a + width = omega arith in
+    let rest : postOf a (a + mostLiterals - a) t ≡ old ∷ drop (a + width) t =
+    post-is a (a + mostLiterals) t (omega arith) ∙ drop-cons t (a + mostLiterals) (pos 0) (omega arith) ∙ ap (λ (j : ℕ). old ∷ drop j t) next in
+    let put : putMid a (a + mostLiterals - a) t (encode row) ≡ (take a t ++ encode row) ++ (old ∷ drop (a + width) t) =
+    ap (λ (r : List ℤ). take a t ++ (encode row ++ r)) rest ∙ sym (append-assoc (take a t) (encode row) (old ∷ drop (a + width) t)) in
+    ap (λ (l : List ℤ). set l (a + mostLiterals) (pos rule)) put
+    ∙ set-at (take a t ++ encode row) old (drop (a + width) t) (pos rule) (a + mostLiterals) front
+    ∙ append-assoc (take a t) (encode row) (pos rule ∷ drop (a + width) t)
+    ∙ ap (λ (l : List ℤ). take a t ++ l) (sym (append-assoc (encode row) (pos rule ∷ []) (drop (a + width) t)))
+    ∙ ap (λ (j : ℕ). take a t ++ (numbered (record { rule = rule; row = row }) ++ drop (a + j) t)) (sym (length-numbered (record { rule = rule; row = row })))
+    ∙ ap (written t a) (sym (append-nil (numbered (record { rule = rule; row = row }))))

@@ -16,7 +16,7 @@ use Rattle.meaning.specs.Clauses.{Digit, denies, out, size, rowOf}
 use Rattle.meaning.proofs.Tests.{both-true}
 use Rattle.meaning.proofs.Clauses.{size-le, length-rowOf}
 use Rattle.literals.specs.Literal.{literalAt}
-use Rattle.literals.specs.Row.{width, encode}
+use Rattle.literals.specs.Row.{mostLiterals, encode}
 use Rattle.implicates.specs.Numbers.{weigh, clauseAt}
 use Rattle.implicates.proofs.Numbers.{length-clauseAt}
 use Rattle.implicates.proofs.Digits.{Turn, digitOf, digit, take-turn, drop-turn, drop-first, size-more, size-same}
@@ -76,11 +76,11 @@ front-out s ss out v h = refl
 -- ---- a row once the literals of the symbols after the k-th are put in
 
 abbrev pub putFrom : List ℕ → List Digit → ℕ → List ℤ
-putFrom ss v k = replicate (size (take k v)) (pos 0) ++ (literals (drop k ss) (drop k v) ++ replicate (width - size v) (pos 0))
+putFrom ss v k = replicate (size (take k v)) (pos 0) ++ (literals (drop k ss) (drop k v) ++ replicate (mostLiterals - size v) (pos 0))
 
-module _ (ss : List ℕ) (n c : ℕ) (enough : n ≡ length ss) (le : n ≤ width) where
-  -- a row keeps its width
-  pub length-putFrom : (k : ℕ) → length (putFrom ss (clauseAt n c) k) ≡ width
+module _ (ss : List ℕ) (n c : ℕ) (enough : n ≡ length ss) (le : n ≤ mostLiterals) where
+  -- a row keeps its length
+  pub length-putFrom : (k : ℕ) → length (putFrom ss (clauseAt n c) k) ≡ mostLiterals
   length-putFrom k =
       let v = clauseAt n c in
       let long = length-clauseAt n c in
@@ -88,26 +88,26 @@ module _ (ss : List ℕ) (n c : ℕ) (enough : n ≡ length ss) (le : n ≤ widt
       (omega (arith, size-le v, ap size (take-append-drop k v), size-append (take k v) (drop k v)))
 
   -- before the first turn and after the last
-  pub put-first : c < 3 ^ n → replicate width (pos 0) ≡ putFrom ss (clauseAt n c) n
+  pub put-first : c < 3 ^ n → replicate mostLiterals (pos 0) ≡ putFrom ss (clauseAt n c) n
   put-first h =
       let v = clauseAt n c in
       let whole : take n v ≡ v = take-all n v (omega (arith, length-clauseAt n c)) in
       let none : literals (drop n ss) (drop n v) ≡ [] = ap (literals (drop n ss)) (drop-first n c h) ∙ literals-none (drop n ss) in
-      let all : width ≡ size v + (width - size v) = omega (arith, size-le v, length-clauseAt n c) in
+      let all : mostLiterals ≡ size v + (mostLiterals - size v) = omega (arith, size-le v, length-clauseAt n c) in
       ap (λ (m : ℕ). replicate m (pos 0)) all
-      ∙ sym (replicate-append-replicate (size v) (width - size v) (pos 0))
-      ∙ sym (ap₂ (λ (t : List Digit) (r : List ℤ). replicate (size t) (pos 0) ++ (r ++ replicate (width - size v) (pos 0))) whole none)
+      ∙ sym (replicate-append-replicate (size v) (mostLiterals - size v) (pos 0))
+      ∙ sym (ap₂ (λ (t : List Digit) (r : List ℤ). replicate (size t) (pos 0) ++ (r ++ replicate (mostLiterals - size v) (pos 0))) whole none)
 
   pub put-done : putFrom ss (clauseAt n c) 0 ≡ encode (rowOf ss (clauseAt n c))
   unfolding encode
   put-done =
       let v = clauseAt n c in
       let long = length-clauseAt n c in
-      let e : width ≡ length (literals ss v) + (width - size v) = omega (arith, length-literals ss v (omega arith), size-le v) in
+      let e : mostLiterals ≡ length (literals ss v) + (mostLiterals - size v) = omega (arith, length-literals ss v (omega arith), size-le v) in
       sym
-      (ap (λ (j : ℕ). take j (literals ss v ++ replicate width (pos 0))) e
-      ∙ take-append-add (literals ss v) (replicate width (pos 0)) (width - size v)
-      ∙ ap (λ (z : List ℤ). literals ss v ++ z) (take-replicate (width - size v) width (pos 0) (omega arith)))
+      (ap (λ (j : ℕ). take j (literals ss v ++ replicate mostLiterals (pos 0))) e
+      ∙ take-append-add (literals ss v) (replicate mostLiterals (pos 0)) (mostLiterals - size v)
+      ∙ ap (λ (z : List ℤ). literals ss v ++ z) (take-replicate (mostLiterals - size v) mostLiterals (pos 0) (omega arith)))
 
 -- a turn of the loop that puts in the k-th symbol's literal
 module _ {n c rest k : ℕ} (t : Turn n c rest k) where

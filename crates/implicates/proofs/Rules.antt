@@ -1,22 +1,25 @@
 -- Laws of the rule that a truth table tells: the table of primes has its prime implicates, and what it appends is told by its rows.
 use mathlib.Core.Path.{_≡_, refl, sym, ap, ap₂, _∙_}
-use mathlib.Core.Bool.{Bool, true, false, cond}
+use mathlib.Core.Logic.{_≢_, _⊎_, inl, inr}
+use mathlib.Core.Bool.{Bool, true, false, cond, not, and-false}
 use mathlib.Core.List.{List, [], _∷_, _++_, map, map-append, map-map}
 use Prim.Native.Nat.{ℕ, zero, suc, _+_, _-_, _≤_, _<_, _^_}
 use native.Mathlib.Nat.{zero-add}
 use native.Mathlib.Omega.{arith}
-use borrow.Author.Tests.{le-leb, lt-leb, leb-true}
-use lib.Dec.{leb}
+use borrow.Author.Tests.{le-leb, lt-leb, leb-true, eq-eqb, ne-eqb, eqb-false, not-true}
+use lib.Dec.{leb, eqb}
 use lib.IntN.{ℤ}
 use lib.ListN.{length, getD, take, length-append, length-map, length-replicate, replicate, List·getD-append}
 use lib.Seq.{getD-append-add, getD-take, take-at}
 use Rattle.meaning.specs.Tests.{any}
 use Rattle.meaning.specs.Formulae.{Rule}
 use Rattle.meaning.specs.Clauses.{assignments, Digit, out, hit, prime, inOrder, primesInOrder, rowOf, rowsOf, satisfiable}
+use Rattle.meaning.proofs.Tests.{both-true}
 use Rattle.meaning.proofs.Clauses.{given, hit-same, hit-empty}
 use Rattle.meaning.proofs.Order.{inOrder-same, primes-same}
+use Rattle.literals.specs.Row.{mostRules, ofRule}
 use Rattle.implicates.specs.Hits.{index, satOf, hitTable, marked, primeIn, primeTable}
-use Rattle.implicates.specs.Appending.{ruleBy, appended, answerOf, tableOf}
+use Rattle.implicates.specs.Appending.{ruleBy, appended, fits, answerOf, tableOf}
 use Rattle.implicates.specs.declared.Appended.the-variants.{Rows, Unsatisfiable, Full}
 use Rattle.implicates.proofs.Numbers.{clauses-some, number-empty, table-marks}
 use Rattle.implicates.proofs.Table.{index-below}
@@ -65,30 +68,48 @@ hits-last n truth whole {r} f e =
 
 -- ---- what is told, and the table after it, on each way out
 
-module _ (rule : Rule) (used lent : ℕ) (table : List ℤ) where
-  pub told-unsatisfiable : satisfiable rule ≡ false → (Unsatisfiable ≡ answerOf rule used lent) × (table ≡ tableOf rule used lent table)
+module _ (rule : Rule) (used rules lent : ℕ) (table : List ℤ) where
+  pub told-unsatisfiable : satisfiable rule ≡ false → (Unsatisfiable ≡ answerOf rule used rules lent) × (table ≡ tableOf rule used rules lent table)
   unfolding answerOf tableOf
   told-unsatisfiable s = rw s (refl, refl)
 
-  pub told-full : satisfiable rule ≡ true → lent < used + length (rowsOf rule) → (Full ≡ answerOf rule used lent) × (table ≡ tableOf rule used lent table)
+  pub told-full : satisfiable rule ≡ true → fits used rules lent (rowsOf rule) ≡ false
+      → (Full ≡ answerOf rule used rules lent) × (table ≡ tableOf rule used rules lent table)
   unfolding answerOf tableOf
-  told-full s h = rw (s, lt-leb (used + length (rowsOf rule)) lent h) (refl, refl)
+  told-full s h = rw (s, h) (refl, refl)
 
-  pub told-rows : satisfiable rule ≡ true → used + length (rowsOf rule) ≤ lent
-      → (Rows (length (rowsOf rule)) ≡ answerOf rule used lent) × (appended table used (rowsOf rule) ≡ tableOf rule used lent table)
+  pub told-rows : satisfiable rule ≡ true → fits used rules lent (rowsOf rule) ≡ true
+      → (Rows (length (rowsOf rule)) ≡ answerOf rule used rules lent)
+      × (appended table used (ofRule (suc rules) (rowsOf rule)) ≡ tableOf rule used rules lent table)
   unfolding answerOf tableOf
-  told-rows s h = rw (s, le-leb (used + length (rowsOf rule)) lent h) (refl, refl)
+  told-rows s h = rw (s, h) (refl, refl)
+
+-- ---- whether rows fit, and the rule has a number left
+
+module _ (used rules lent : ℕ) (rows : List (List ℕ)) where
+  pub fits-not : (lent < used + length rows) ⊎ (rules ≡ mostRules) → fits used rules lent rows ≡ false
+  fits-not (inl h) = rw (lt-leb (used + length rows) lent h)
+  fits-not (inr e) = rw (eq-eqb rules mostRules e) (and-false (leb (used + length rows) lent))
+
+  pub fits-so : used + length rows ≤ lent → rules ≢ mostRules → fits used rules lent rows ≡ true
+  fits-so h n = rw (le-leb (used + length rows) lent h, ne-eqb rules mostRules n)
+
+  pub fits-facts : fits used rules lent rows ≡ true → (used + length rows ≤ lent) × (rules ≢ mostRules)
+  fits-facts e =
+      let b = both-true (leb (used + length rows) lent) (not (eqb rules mostRules)) e in
+      (leb-true _ _ (b .0), eqb-false rules mostRules (not-true (eqb rules mostRules) (b .1)))
 
 -- an answer of n rows says that they fit
-pub told-fit : (rule : Rule) (used lent n : ℕ) → answerOf rule used lent ≡ Rows n → (n ≡ length (rowsOf rule)) × (used + n ≤ lent)
+pub told-fit : (rule : Rule) (used rules lent n : ℕ) → answerOf rule used rules lent ≡ Rows n
+    → (n ≡ length (rowsOf rule)) × (used + n ≤ lent)
 unfolding answerOf
-told-fit rule used lent n e = go (satisfiable rule) (leb (used + length (rowsOf rule)) lent) refl e
+told-fit rule used rules lent n e = go (satisfiable rule) (fits used rules lent (rowsOf rule)) refl e
   where
-    go : (s fits : Bool) → leb (used + length (rowsOf rule)) lent ≡ fits → cond s (cond fits (Rows (length (rowsOf rule))) Full) Unsatisfiable ≡ Rows n
+    go : (s enough : Bool) → fits used rules lent (rowsOf rule) ≡ enough → cond s (cond enough (Rows (length (rowsOf rule))) Full) Unsatisfiable ≡ Rows n
         → (n ≡ length (rowsOf rule)) × (used + n ≤ lent)
-    go true true f q = let r : n ≡ length (rowsOf rule) = cc in (r, omega (arith, leb-true (used + length (rowsOf rule)) lent f))
+    go true true f q = let r : n ≡ length (rowsOf rule) = cc in (r, omega (arith, fits-facts used rules lent (rowsOf rule) f .0))
     go true false f q = let z : _≡_ {A = ℕ} 0 1 = cc in absurd (omega arith)
-    go false fits f q = let z : _≡_ {A = ℕ} 0 1 = cc in absurd (omega arith)
+    go false enough f q = let z : _≡_ {A = ℕ} 0 1 = cc in absurd (omega arith)
 
 -- ---- the truth table of a rule tells the rule
 
@@ -131,10 +152,11 @@ module _ (rule : Rule) (truth : List Bool) (e : truth ≡ map (rule .accepts) (a
       ∙ hit-empty (rule .accepts) n
 
   -- so the answer and the table after it are the rule's
-  pub answer-by-table : (used lent : ℕ) → answerOf (ruleBy (rule .symbols) truth) used lent ≡ answerOf rule used lent
+  pub answer-by-table : (used rules lent : ℕ) → answerOf (ruleBy (rule .symbols) truth) used rules lent ≡ answerOf rule used rules lent
   unfolding answerOf
-  answer-by-table used lent = rw (satisfiable-by-table, rows-by-table)
+  answer-by-table used rules lent = rw (satisfiable-by-table, rows-by-table)
 
-  pub append-by-table : (used lent : ℕ) (table : List ℤ) → tableOf (ruleBy (rule .symbols) truth) used lent table ≡ tableOf rule used lent table
+  pub append-by-table : (used rules lent : ℕ) (table : List ℤ)
+      → tableOf (ruleBy (rule .symbols) truth) used rules lent table ≡ tableOf rule used rules lent table
   unfolding tableOf
-  append-by-table used lent table = rw (satisfiable-by-table, rows-by-table)
+  append-by-table used rules lent table = rw (satisfiable-by-table, rows-by-table)

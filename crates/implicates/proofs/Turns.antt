@@ -10,14 +10,14 @@ use native.Mathlib.Numerals.{add-one}
 use borrow.Author.Tests.{eq-eqb, ne-eqb}
 use borrow.Rule.Slice.PartMut.{putMid}
 use lib.Dec.{eqb}
-use lib.ListN.{length, take, drop, length-append, length-map, take-append-drop}
+use lib.ListN.{length, take, drop, set, length-append, length-map, take-append-drop}
 use lib.Seq.{take-suc, take-all}
-use lib.IntN.{ℤ}
+use lib.IntN.{ℤ, pos}
 use Rattle.meaning.specs.Tests.{keep}
 use Rattle.meaning.specs.Clauses.{Digit, clauses, size, chosen, ofSize, belowSize, rowOf}
 use Rattle.meaning.proofs.Tests.{keep-append}
 use Rattle.meaning.proofs.Tables.{le-or-lt}
-use Rattle.literals.specs.Row.{width, encode}
+use Rattle.literals.specs.Row.{width, mostLiterals, encode, Ruled, ofRule}
 use Rattle.implicates.specs.Numbers.{clauseAt}
 use Rattle.implicates.specs.Appending.{appended}
 use Rattle.implicates.proofs.Numbers.{length-clauses, clause-at}
@@ -37,46 +37,57 @@ module _ (test : List Digit → Bool) (k : ℕ) (v : List Digit) where
 
 -- ---- what is appended for some clauses
 
--- the table t with their rows from `row` on, and the next free row
-pub record Stands (t : List ℤ) (row : ℕ) (ss : List ℕ) (vs : List (List Digit)) (table : List ℤ) (next : ℕ) : Type 0 where
-  pub rows : table ≡ appended t row (map (rowOf ss) vs)
+-- their rows, with the rule's number
+abbrev rows-of : (rule : ℕ) → List ℕ → List (List Digit) → List Ruled
+rows-of rule ss vs = ofRule rule (map (rowOf ss) vs)
+
+length-rows-of : (rule : ℕ) (ss : List ℕ) (vs : List (List Digit)) → length (rows-of rule ss vs) ≡ length vs
+length-rows-of rule ss vs = length-map (map (rowOf ss) vs) (λ row. record { rule = rule; row = row }) ∙ length-map vs (rowOf ss)
+
+-- the table t with these from `row` on, and the next free row
+pub record Stands (t : List ℤ) (row rule : ℕ) (ss : List ℕ) (vs : List (List Digit)) (table : List ℤ) (next : ℕ) : Type 0 where
+  pub rows : table ≡ appended t row (rows-of rule ss vs)
   pub count : next ≡ row + length vs
 
-module _ {t : List ℤ} {row : ℕ} {ss : List ℕ} {vs : List (List Digit)} where
+module _ {t : List ℤ} {row rule : ℕ} {ss : List ℕ} {vs : List (List Digit)} where
   -- nothing for none
-  pub skipped : vs ≡ [] → Stands t row ss vs t row
+  pub skipped : vs ≡ [] → Stands t row rule ss vs t row
   skipped e = rw e record { rows = sym (appended-none t row); count = sym (add-zero row) }
 
   -- and one row for one
-  pub one-row : {v : List Digit} {last : List ℤ} → vs ≡ v ∷ [] → last ≡ encode (rowOf ss v)
-      → Stands t row ss vs (putMid (width * row) (width * row + width - width * row) t last) (row + 1)
-  one-row {v} e l = rw (e, l) record { rows = appended-one t row (rowOf ss v); count = refl }
+  pub one-row : {v : List Digit} {last : List ℤ} {number : ℤ} → width * (row + 1) ≤ length t → vs ≡ v ∷ [] → last ≡ encode (rowOf ss v)
+      → number ≡ pos rule
+      → Stands t row rule ss vs (set (putMid (width * row) (width * row + mostLiterals - width * row) t last) (width * row + mostLiterals) number) (row + 1)
+  one-row {v} h e l n = rw (e, l, n) record { rows = appended-one t row rule (rowOf ss v) h; count = refl }
 
-  pub stands-same : {us : List (List Digit)} {table : List ℤ} {next : ℕ} → vs ≡ us → Stands t row ss vs table next → Stands t row ss us table next
-  stands-same {table = table} {next = next} e s = subst (λ (us : List (List Digit)). Stands t row ss us table next) e s
+  pub stands-same : {us : List (List Digit)} {table : List ℤ} {next : ℕ} → vs ≡ us → Stands t row rule ss vs table next → Stands t row rule ss us table next
+  stands-same {table = table} {next = next} e s = subst (λ (us : List (List Digit)). Stands t row rule ss us table next) e s
 
   -- the table keeps its length
-  pub stands-long : {table : List ℤ} {next : ℕ} → Stands t row ss vs table next → width * (row + length vs) ≤ length t → length table ≡ length t
-  stands-long s h = ap length (s .rows) ∙ length-appended t row (map (rowOf ss) vs) (omega (arith, length-map vs (rowOf ss)))
+  pub stands-long : {table : List ℤ} {next : ℕ} → Stands t row rule ss vs table next → width * (row + length vs) ≤ length t → length table ≡ length t
+  stands-long s h = ap length (s .rows) ∙ length-appended t row (rows-of rule ss vs) (omega (arith, length-rows-of rule ss vs))
 
 -- one turn: the rows of `us` stand in the table, and a call appends those of `xs`
-module _ {t : List ℤ} {row : ℕ} {ss : List ℕ} {us vs : List (List Digit)} {table : List ℤ} {next : ℕ}
-    (xs : List (List Digit)) (s : Stands t row ss us table next) (e : vs ≡ us ++ xs) (room : width * (row + length vs) ≤ length t) where
+module _ {t : List ℤ} {row rule : ℕ} {ss : List ℕ} {us vs : List (List Digit)} {table : List ℤ} {next : ℕ}
+    (xs : List (List Digit)) (s : Stands t row rule ss us table next) (e : vs ≡ us ++ xs) (room : width * (row + length vs) ≤ length t) where
   both : length vs ≡ length us + length xs
   both = ap length e ∙ length-append us xs
 
   pub next-room : width * (next + length xs) ≤ length table
   next-room = omega (arith, both, stands-long s (omega (arith, both)))
 
-  pub next-stands : {table′ : List ℤ} {next′ : ℕ} → Stands table next ss xs table′ next′ → Stands t row ss vs table′ next′
+  pub next-stands : {table′ : List ℤ} {next′ : ℕ} → Stands table next rule ss xs table′ next′ → Stands t row rule ss vs table′ next′
   next-stands f =
-      let l = length-map us (rowOf ss) in
+      let l = length-rows-of rule ss us in
+      let joined : rows-of rule ss us ++ rows-of rule ss xs ≡ rows-of rule ss vs =
+      sym (map-append (λ row. record { rule = rule; row = row }) (map (rowOf ss) us) (map (rowOf ss) xs))
+      ∙ ap (ofRule rule) (sym (ap (map (rowOf ss)) e ∙ map-append (rowOf ss) us xs)) in
       record {
         rows =
             f .rows
-            ∙ ap₂ (λ (d : List ℤ) (j : ℕ). appended d j (map (rowOf ss) xs)) (s .rows) (s .count ∙ ap (λ (j : ℕ). row + j) (sym l))
-            ∙ appended-more t row (map (rowOf ss) us) (map (rowOf ss) xs) (omega (arith, l, both))
-            ∙ ap (appended t row) (sym (ap (map (rowOf ss)) e ∙ map-append (rowOf ss) us xs));
+            ∙ ap₂ (λ (d : List ℤ) (j : ℕ). appended d j (rows-of rule ss xs)) (s .rows) (s .count ∙ ap (λ (j : ℕ). row + j) (sym l))
+            ∙ appended-more t row (rows-of rule ss us) (rows-of rule ss xs) (omega (arith, l, both))
+            ∙ ap (appended t row) joined;
         count = omega (arith, both);
       }
 

@@ -11,10 +11,11 @@ ghost use Rattle.meaning.specs.Tests.{all};
 ghost use Rattle.meaning.specs.Literals.{place};
 ghost use Rattle.meaning.specs.Clauses.{size, chosen, ofSize, inOrder, rowOf};
 ghost use Rattle.literals.specs.Literal.{literalAt};
-ghost use Rattle.literals.specs.Row.{width, encode};
+ghost use Rattle.literals.specs.Row.{width, mostLiterals, mostRules, encode, ofRule};
 ghost use Rattle.implicates.specs.Numbers.{clauseAt};
 ghost use Rattle.implicates.specs.Hits.{marked};
 ghost use Rattle.implicates.specs.Appending.{appended};
+use literals::MOST_LITERALS;
 use literals::WIDTH;
 
 // The number of literals of the clause numbered c.
@@ -57,7 +58,7 @@ fn clear(row: &mut [i16])
 
 // Writes the `count` literals of the clause numbered c to the front of a row of zeros, the last one first.
 fn put_literals(row: &mut [i16], symbols: &[u8], n: usize, c: usize, count: usize)
-    requires { ⌜ (now row ≡ replicate width (pos 0)) × (n ≤ 8) × (n ≡ length (now symbols)) × (all (leb 1) (now symbols) ≡ true) × (c < 3 ^ n) × (count ≡ size (clauseAt n c)) ⌝ }
+    requires { ⌜ (now row ≡ replicate mostLiterals (pos 0)) × (n ≤ 8) × (n ≡ length (now symbols)) × (all (leb 1) (now symbols) ≡ true) × (c < 3 ^ n) × (count ≡ size (clauseAt n c)) ⌝ }
     ensures { λ _. ⌜ now (row .exit) ≡ encode (rowOf (now (symbols .entry)) (clauseAt n c)) ⌝ }
 {
     let mut rest = c;
@@ -74,9 +75,9 @@ fn put_literals(row: &mut [i16], symbols: &[u8], n: usize, c: usize, count: usiz
     }
 }
 
-// Writes the clause numbered c, of `count` literals, as a row: the literals, and then zeros.
+// Writes the clause numbered c, of `count` literals, into a row's eight places: the literals, and then zeros.
 fn write_row(row: &mut [i16], symbols: &[u8], n: usize, c: usize, count: usize)
-    requires { ⌜ (length (now row) ≡ width) × (n ≤ 8) × (n ≡ length (now symbols)) × (all (leb 1) (now symbols) ≡ true) × (c < 3 ^ n) × (count ≡ size (clauseAt n c)) ⌝ }
+    requires { ⌜ (length (now row) ≡ mostLiterals) × (n ≤ 8) × (n ≡ length (now symbols)) × (all (leb 1) (now symbols) ≡ true) × (c < 3 ^ n) × (count ≡ size (clauseAt n c)) ⌝ }
     ensures { λ _. ⌜ now (row .exit) ≡ encode (rowOf (now (symbols .entry)) (clauseAt n c)) ⌝ }
 {
     clear(row);
@@ -99,19 +100,20 @@ pub fn row_count(primes: &[bool], n: usize) -> usize
     count
 }
 
-// Appends the clause numbered c at `row` if it is a prime implicate of k literals. Returns the next free row.
+// Appends the clause numbered c at `row`, with its rule's number, if it is a prime implicate of k literals. Returns the next free row.
 fn append_one(
     table: &mut [i16],
     row: usize,
+    rule: usize,
     symbols: &[u8],
     primes: &[bool],
     n: usize,
     k: usize,
     c: usize,
 ) -> usize
-    requires { ⌜ (n ≤ 8) × (n ≡ length (now symbols)) × (all (leb 1) (now symbols) ≡ true) × (c < 3 ^ n) × (3 ^ n ≤ length (now primes)) ⌝ }
+    requires { ⌜ (n ≤ 8) × (n ≡ length (now symbols)) × (all (leb 1) (now symbols) ≡ true) × (c < 3 ^ n) × (3 ^ n ≤ length (now primes)) × (rule ≤ mostRules) ⌝ }
     requires room { ⌜ width * (row + length (chosen (marked (now primes)) k (clauseAt n c ∷ []))) ≤ length (now table) ⌝ }
-    ensures { λ _. ⌜ now (table .exit) ≡ appended (now (table .entry)) row (map (rowOf (now (symbols .entry))) (chosen (marked (now (primes .entry))) k (clauseAt n c ∷ []))) ⌝ }
+    ensures { λ _. ⌜ now (table .exit) ≡ appended (now (table .entry)) row (ofRule rule (map (rowOf (now (symbols .entry))) (chosen (marked (now (primes .entry))) k (clauseAt n c ∷ [])))) ⌝ }
     ensures { λ r. ⌜ r ≡ row + length (chosen (marked (now (primes .entry))) k (clauseAt n c ∷ [])) ⌝ }
 {
     if !primes[c] {
@@ -121,7 +123,8 @@ fn append_one(
         return row;
     }
     let at = WIDTH * row;
-    write_row(&mut table[at..at + WIDTH], symbols, n, c, k);
+    write_row(&mut table[at..at + MOST_LITERALS], symbols, n, c, k);
+    table[at + MOST_LITERALS] = rule as i16;
     row + 1
 }
 
@@ -129,20 +132,21 @@ fn append_one(
 fn append_size(
     table: &mut [i16],
     row: usize,
+    rule: usize,
     symbols: &[u8],
     primes: &[bool],
     n: usize,
     k: usize,
 ) -> usize
-    requires { ⌜ (n ≤ 8) × (n ≡ length (now symbols)) × (all (leb 1) (now symbols) ≡ true) × (length (now primes) ≡ 3 ^ n) ⌝ }
+    requires { ⌜ (n ≤ 8) × (n ≡ length (now symbols)) × (all (leb 1) (now symbols) ≡ true) × (length (now primes) ≡ 3 ^ n) × (rule ≤ mostRules) ⌝ }
     requires room { ⌜ width * (row + length (ofSize (marked (now primes)) n k)) ≤ length (now table) ⌝ }
-    ensures { λ _. ⌜ now (table .exit) ≡ appended (now (table .entry)) row (map (rowOf (now (symbols .entry))) (ofSize (marked (now (primes .entry))) n k)) ⌝ }
+    ensures { λ _. ⌜ now (table .exit) ≡ appended (now (table .entry)) row (ofRule rule (map (rowOf (now (symbols .entry))) (ofSize (marked (now (primes .entry))) n k))) ⌝ }
     ensures { λ r. ⌜ r ≡ row + length (ofSize (marked (now (primes .entry))) n k) ⌝ }
 {
     let mut next = row;
     let mut c = 0;
     while c < primes.len() {
-        next = append_one(table, next, symbols, primes, n, k, c);
+        next = append_one(table, next, rule, symbols, primes, n, k, c);
         c += 1;
     }
     next
@@ -153,19 +157,20 @@ fn append_size(
 pub fn append_primes(
     table: &mut [i16],
     row: usize,
+    rule: usize,
     symbols: &[u8],
     primes: &[bool],
     n: usize,
 ) -> usize
-    requires { ⌜ (n ≤ 8) × (n ≡ length (now symbols)) × (all (leb 1) (now symbols) ≡ true) × (length (now primes) ≡ 3 ^ n) ⌝ }
+    requires { ⌜ (n ≤ 8) × (n ≡ length (now symbols)) × (all (leb 1) (now symbols) ≡ true) × (length (now primes) ≡ 3 ^ n) × (rule ≤ mostRules) ⌝ }
     requires room { ⌜ width * (row + length (inOrder (marked (now primes)) n)) ≤ length (now table) ⌝ }
-    ensures { λ _. ⌜ now (table .exit) ≡ appended (now (table .entry)) row (map (rowOf (now (symbols .entry))) (inOrder (marked (now (primes .entry))) n)) ⌝ }
+    ensures { λ _. ⌜ now (table .exit) ≡ appended (now (table .entry)) row (ofRule rule (map (rowOf (now (symbols .entry))) (inOrder (marked (now (primes .entry))) n))) ⌝ }
     ensures { λ r. ⌜ r ≡ row + length (inOrder (marked (now (primes .entry))) n) ⌝ }
 {
     let mut next = row;
     let mut k = 0;
     while k <= n {
-        next = append_size(table, next, symbols, primes, n, k);
+        next = append_size(table, next, rule, symbols, primes, n, k);
         k += 1;
     }
     next

@@ -13,13 +13,14 @@ use lib.Seq.{getD-take, getD-drop}
 use Rattle.meaning.specs.Tests.{member, none}
 use Rattle.meaning.proofs.Tests.{true-or-false, both-true, one-true, or-left, or-right}
 use Rattle.literals.specs.Literal.{placeOf, literalAt}
-use Rattle.literals.specs.Row.{width, numbersAt, rising, decode, Fit}
+use Rattle.literals.specs.Row.{mostLiterals, numbersAt, rising, decode, Fit}
 use Rattle.literals.proofs.Places.{literal-at-place}
-use Rattle.literals.proofs.Decoding.{decode-zero, decode-literal, sound-decoded, sound-rising, sound-at, zeros-small}
+use Rattle.literals.proofs.Decoding.{decode-zero, decode-literal, sound-decoded, sound-rising, zeros-small}
+use Rattle.literals.proofs.Scanning.{numberAt}
 use Rattle.index.specs.Index.{inCell, empty, holds}
 
 -- there are few cells
-pub few-cells : {places used : ℕ} {table : List ℤ} → Fit places used table → width * used ≤ none
+pub few-cells : {places used : ℕ} {table : List ℤ} → Fit places used table → mostLiterals * used ≤ none
 few-cells f = omega (arith, f .2 .rows)
 
 -- ---- what a cell holds
@@ -115,59 +116,66 @@ rising-two S last (l ∷ ls) e (suc i) (suc j) h n =
 
 -- ---- the cells of a row
 
-number-at : (table : List ℤ) (r j : ℕ) → j < width → getD (numbersAt table r) j (pos 0) ≡ inCell table (width * r + j)
+-- a row's cells hold the numbers of its places
+pub cell-number : (table : List ℤ) (r j : ℕ) → j < mostLiterals → inCell table (mostLiterals * r + j) ≡ numberAt table r j
+cell-number table r j h =
+    let row : (8 * r + j) / 8 ≡ r = omega arith in
+    let place : (8 * r + j) % 8 ≡ j = omega arith in
+    rw (row, place)
+
+number-at : (table : List ℤ) (r j : ℕ) → j < mostLiterals → getD (numbersAt table r) j (pos 0) ≡ inCell table (mostLiterals * r + j)
 unfolding numbersAt
-number-at table r j h = getD-take 8 (drop (8 * r) table) j (pos 0) h ∙ getD-drop (8 * r) table j (pos 0)
+number-at table r j h = getD-take 8 (drop (9 * r) table) j (pos 0) h ∙ getD-drop (9 * r) table j (pos 0) ∙ sym (cell-number table r j h)
 
 -- a cell's number, of those of its row
-in-row : (table : List ℤ) (i : ℕ) → getD (numbersAt table (i / width)) (i % width) (pos 0) ≡ inCell table i
+in-row : (table : List ℤ) (i : ℕ) → getD (numbersAt table (i / mostLiterals)) (i % mostLiterals) (pos 0) ≡ inCell table i
 in-row table i =
     let whole : 8 * (i / 8) + i % 8 ≡ i = omega arith in
     number-at table (i / 8) (i % 8) (omega arith) ∙ ap (λ x. inCell table x) whole
 
 -- a literal of a row stands in one of the row's cells
 pub cell-of : (table : List ℤ) (r p : ℕ) → member p (decode (numbersAt table r)) ≡ true
-    → (i : ℕ) × (width * r ≤ i) × (i < width * r + width) × (holds table p i ≡ true)
+    → (i : ℕ) × (mostLiterals * r ≤ i) × (i < mostLiterals * r + mostLiterals) × (holds table p i ≡ true)
 unfolding Found
 cell-of table r p e =
     let f = number-of p (numbersAt table r) e in
     let j = f .0 in
-    let short : j < 8 = unfold numbersAt in omega (arith, f .1, length-take 8 (drop (8 * r) table)) in
+    let short : j < 8 = unfold numbersAt in omega (arith, f .1, length-take 8 (drop (9 * r) table)) in
     let same = number-at table r j short in
     (8 * r + j, omega arith, omega arith, holds-of table p (8 * r + j) (rw same at (f .2)) (rw same at (f .3)))
 
 module _ {places used : ℕ} {table : List ℤ} (fit : Fit places used table) where
   rises : (r : ℕ) → r < used → rising (fit .0) 0 (numbersAt table r) ≡ true
-  rises r h = sound-rising (fit .0) (numbersAt table r) (sound-at (fit .0) used table (fit .2) r h)
+  rises r h = sound-rising (fit .0) (numbersAt table r) (fit .2 .sound r h)
 
-  module _ {i : ℕ} (inside : i < width * used) where
-    row-low : i / width < used
+  module _ {i : ℕ} (inside : i < mostLiterals * used) where
+    row-low : i / mostLiterals < used
     row-low = omega arith
 
-    here : Some (inCell table i) → Among 0 (numbersAt table (i / width)) (i % width)
-    here n = rising-at (fit .0) 0 (numbersAt table (i / width)) (rises (i / width) row-low) (i % width) (rw (in-row table i) n)
+    here : Some (inCell table i) → Among 0 (numbersAt table (i / mostLiterals)) (i % mostLiterals)
+    here n = rising-at (fit .0) 0 (numbersAt table (i / mostLiterals)) (rises (i / mostLiterals) row-low) (i % mostLiterals) (rw (in-row table i) n)
 
     -- the row of a cell contains the literal that the cell holds
-    pub cell-contains : (p : ℕ) → holds table p i ≡ true → member p (decode (numbersAt table (i / width))) ≡ true
+    pub cell-contains : (p : ℕ) → holds table p i ≡ true → member p (decode (numbersAt table (i / mostLiterals))) ≡ true
     cell-contains p h =
         let w = holds-words table p i h in
-        subst (λ q. member q (decode (numbersAt table (i / width))) ≡ true) (ap placeOf (in-row table i) ∙ w .1) (here (w .0) .decoded)
+        subst (λ q. member q (decode (numbersAt table (i / mostLiterals))) ≡ true) (ap placeOf (in-row table i) ∙ w .1) (here (w .0) .decoded)
 
     -- as many of its cells as it has literals hold one, and the others none
-    pub cell-some : i % width < length (decode (numbersAt table (i / width))) → Some (inCell table i)
+    pub cell-some : i % mostLiterals < length (decode (numbersAt table (i / mostLiterals))) → Some (inCell table i)
     cell-some h z =
-        let row = numbersAt table (i / width) in
-        let d = sound-decoded (fit .0) row (sound-at (fit .0) used table (fit .2) (i / width) row-low) (i % width) h in
+        let row = numbersAt table (i / mostLiterals) in
+        let d = sound-decoded (fit .0) row (fit .2 .sound (i / mostLiterals) row-low) (i % mostLiterals) h in
         omega (arith, d .literal, ap natAbs (in-row table i), z)
 
-    pub cell-zero : length (decode (numbersAt table (i / width))) ≤ i % width → natAbs (inCell table i) ≡ 0
+    pub cell-zero : length (decode (numbersAt table (i / mostLiterals))) ≤ i % mostLiterals → natAbs (inCell table i) ≡ 0
     cell-zero h =
         ⊎-elim (λ e. eqb-true (natAbs (inCell table i)) 0 e)
         (λ e. absurd (omega (arith, here (eqb-false (natAbs (inCell table i)) 0 e) .short, h)))
         (true-or-false (eqb (natAbs (inCell table i)) 0))
 
     -- no cell before it in its row holds the same literal
-    pub cell-alone : (p j : ℕ) → j / width ≡ i / width → j < i → holds table p j ≡ true → holds table p i ≡ true → ⊥
+    pub cell-alone : (p j : ℕ) → j / mostLiterals ≡ i / mostLiterals → j < i → holds table p j ≡ true → holds table p i ≡ true → ⊥
     cell-alone p j same before y h =
         let v = holds-words table p j y in
         let w = holds-words table p i h in

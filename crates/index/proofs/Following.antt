@@ -12,7 +12,7 @@ use lib.ListN.{length, getD}
 use Rattle.meaning.specs.Tests.{none}
 use Rattle.meaning.proofs.Tables.{length-tabulate, getD-tabulate, le-or-lt}
 use Rattle.literals.specs.Literal.{placeOf}
-use Rattle.literals.specs.Row.{width, Fit}
+use Rattle.literals.specs.Row.{mostLiterals, Fit}
 use Rattle.index.specs.Index.{Contains, inCell, empty, holds, nextCell, headsOf, linksOf, Index}
 use Rattle.index.proofs.Cells.{Some, few-cells, holds-words, cell-of, cell-contains}
 use Rattle.index.proofs.Next.{Next, next}
@@ -23,16 +23,16 @@ pub filled : {places used : ℕ} {table : List ℤ} {heads links : List ℕ} (le
 unfolding linksOf empty
 filled {used} {table} {links} lent h l = record { heads-are = h; links-are = λ i p c y. go i p c (holds-words table p i y) }
   where
-    go : (i p : ℕ) → i < width * used → Some (inCell table i) × (placeOf (inCell table i) ≡ p) → getD links i 0 ≡ nextCell used table p (suc i)
+    go : (i p : ℕ) → i < mostLiterals * used → Some (inCell table i) × (placeOf (inCell table i) ≡ p) → getD links i 0 ≡ nextCell used table p (suc i)
     go i p c w =
-        let at-i = getD-tabulate (width * used)
+        let at-i = getD-tabulate (mostLiterals * used)
         (λ j. cond (empty table j) (getD lent j 0) (nextCell used table (placeOf (inCell table j)) (suc j))) i 0 c in
         ap (λ t. getD t i 0) l ∙ at-i ∙ rw (ne-eqb (natAbs (inCell table i)) 0 (w .0), w .1)
 
 -- the way along p's list has come to a cell: it holds p, or the list is at its end; of the rows before it, those that contain p have passed
 pub record Along (used : ℕ) (table : List ℤ) (p cell : ℕ) (Passed : ℕ → Type 0) : Type 0 where
-  pub come : (cell ≡ none) ⊎ ((cell < width * used) × (holds table p cell ≡ true))
-  pub passed : (r : ℕ) → r < used → r < cell / width → Contains table r p → Passed r
+  pub come : (cell ≡ none) ⊎ ((cell < mostLiterals * used) × (holds table p cell ≡ true))
+  pub passed : (r : ℕ) → r < used → r < cell / mostLiterals → Contains table r p → Passed r
 
 pub heads-long : {places used : ℕ} {table : List ℤ} {heads links : List ℕ} → Index places used table heads links → length heads ≡ places
 unfolding headsOf
@@ -61,10 +61,10 @@ module _ {places used : ℕ} {table : List ℤ} {heads links : List ℕ} (fit : 
 
   module _ {cell : ℕ} {P : ℕ → Type 0} (w : Along used table p cell P) where
     -- at the end all have
-    pub along-end : width * used ≤ cell → (r : ℕ) → r < used → Contains table r p → P r
+    pub along-end : mostLiterals * used ≤ cell → (r : ℕ) → r < used → Contains table r p → P r
     along-end past r h m = w .passed r h (omega (arith, past, h)) m
 
-    module _ (inside : cell < width * used) where
+    module _ (inside : cell < mostLiterals * used) where
       held : holds table p cell ≡ true
       held = ⊎-elim (λ e. absurd (omega (arith, e, few-cells fit, inside))) (λ h. h .1) (w .come)
 
@@ -72,10 +72,10 @@ module _ {places used : ℕ} {table : List ℤ} {heads links : List ℕ} (fit : 
       go-on = rw (index .links-are cell p inside held) (next used table (few-cells fit) p (suc cell))
 
       -- the row of the cell is one of them
-      pub along-row : cell / width < used
+      pub along-row : cell / mostLiterals < used
       along-row = omega (arith, inside)
 
-      pub along-contains : Contains table (cell / width) p
+      pub along-contains : Contains table (cell / mostLiterals) p
       along-contains = cell-contains fit inside p held
 
       -- the list rises
@@ -87,7 +87,7 @@ module _ {places used : ℕ} {table : List ℤ} {heads links : List ℕ} (fit : 
       along-linked = long-enough links cell (omega (arith, along-rises))
 
       -- one row more; what passed before may be said anew
-      pub along-link : {Q : ℕ → Type 0} → ((r : ℕ) → r < cell / width → P r → Q r) → Q (cell / width) → Along used table p (getD links cell 0) Q
+      pub along-link : {Q : ℕ → Type 0} → ((r : ℕ) → r < cell / mostLiterals → P r → Q r) → Q (cell / mostLiterals) → Along used table p (getD links cell 0) Q
       along-link {Q} again here =
           record {
             come = ⊎-elim (λ e. inl e) (λ c. inr (c .0, c .1)) (go-on .cell);
@@ -95,5 +95,5 @@ module _ {places used : ℕ} {table : List ℤ} {heads links : List ℕ} (fit : 
                 (λ l. ⊎-elim (λ e. subst Q (sym e) here) (λ s. again r s (w .passed r h s m)) (eq-or-lt-of-le l))
                 (λ l. (let f = cell-of table r p m in
                 absurd (go-on .between (f .0) (omega (arith, f .1, l)) (omega (arith, f .2, b)) (omega (arith, f .2, h)) (f .3))))
-                (le-or-lt r (cell / width));
+                (le-or-lt r (cell / mostLiterals));
           }

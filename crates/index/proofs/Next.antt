@@ -11,23 +11,23 @@ use lib.IntN.{ℤ}
 use Rattle.meaning.specs.Tests.{first, none}
 use Rattle.meaning.proofs.Tests.{both-true, and-intro, false-of, clash}
 use Rattle.meaning.proofs.Tables.{le-or-lt, FirstIs, first-is, first-only}
-use Rattle.literals.specs.Row.{width}
+use Rattle.literals.specs.Row.{mostLiterals}
 use Rattle.index.specs.Index.{holds, nextCell}
 
 -- `to` is that cell, or none where no cell from `from` on holds p
 pub record Next (used : ℕ) (table : List ℤ) (p from to : ℕ) : Type 0 where
-  pub cell : (to ≡ none) ⊎ ((to < width * used) × (holds table p to ≡ true) × (from ≤ to))
-  pub between : (i : ℕ) → from ≤ i → i < to → i < width * used → holds table p i ≡ true → ⊥
+  pub cell : (to ≡ none) ⊎ ((to < mostLiterals * used) × (holds table p to ≡ true) × (from ≤ to))
+  pub between : (i : ℕ) → from ≤ i → i < to → i < mostLiterals * used → holds table p i ≡ true → ⊥
 
-module _ (used : ℕ) (table : List ℤ) (few : width * used ≤ none) where
+module _ (used : ℕ) (table : List ℤ) (few : mostLiterals * used ≤ none) where
   abbrev test : (p from : ℕ) → ℕ → Bool
   test p from i = leb from i && holds table p i
 
   pub next : (p from : ℕ) → Next used table p from (nextCell used table p from)
   unfolding nextCell
-  next p from = go (first (test p from) (width * used)) (first-is (test p from) (width * used) few)
+  next p from = go (first (test p from) (mostLiterals * used)) (first-is (test p from) (mostLiterals * used) few)
     where
-      go : (to : ℕ) → FirstIs (test p from) (width * used) to → Next used table p from to
+      go : (to : ℕ) → FirstIs (test p from) (mostLiterals * used) to → Next used table p from to
       go to (inl f) =
           let b = both-true (leb from to) (holds table p to) (f .1) in
           record {
@@ -43,14 +43,14 @@ module _ (used : ℕ) (table : List ℤ) (few : width * used ≤ none) where
   pub next-only : {p from to : ℕ} → Next used table p from to → to ≡ nextCell used table p from
   unfolding nextCell
   next-only {p} {from} {to} n =
-      first-only (test p from) (width * used) to (first (test p from) (width * used))
+      first-only (test p from) (mostLiterals * used) to (first (test p from) (mostLiterals * used))
       (⊎-elim
       (λ e. inr (e, λ i c. none-at i (omega (arith, e, c)) c))
       (λ h. inl (h .0, and-intro (leb from to) (holds table p to) (le-leb from to (h .2)) (h .1), λ i l. none-at i l (omega (arith, l, h .0))))
       (n .cell))
-      (first-is (test p from) (width * used) few)
+      (first-is (test p from) (mostLiterals * used) few)
     where
-      none-at : (i : ℕ) → i < to → i < width * used → test p from i ≡ false
+      none-at : (i : ℕ) → i < to → i < mostLiterals * used → test p from i ≡ false
       none-at i l c =
           false-of (test p from i) (λ y. (let b = both-true (leb from i) (holds table p i) y in n .between i (leb-true from i (b .0)) l c (b .1)))
 
@@ -66,6 +66,6 @@ module _ (used : ℕ) (table : List ℤ) (few : width * used ≤ none) where
       })
 
   -- a cell that holds p is the lowest from itself on
-  pub next-here : (p from to : ℕ) → to < width * used → holds table p to ≡ true → from ≤ to
+  pub next-here : (p from to : ℕ) → to < mostLiterals * used → holds table p to ≡ true → from ≤ to
       → ((i : ℕ) → from ≤ i → i < to → holds table p i ≡ true → ⊥) → to ≡ nextCell used table p from
   next-here p from to inside y h skip = next-only (record { cell = inr (inside, y, h); between = λ i l u c z. skip i l u z })

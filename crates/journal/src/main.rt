@@ -32,6 +32,7 @@ fn start() -> Run
     let board = Board {
         symbols: 0,
         rows: 0,
+        rules: 0,
         first: [false; 400],
         second: [false; 400],
     };
@@ -110,6 +111,6 @@ fn main() {
         io::write_all(STDOUT_FILENO, b"input too long\n");
         return;
     }
-    let mut table = [0i16; 16384];
+    let mut table = [0i16; 18432];
     journal(&mut table, &input[..n]);
 }

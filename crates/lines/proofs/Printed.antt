@@ -11,7 +11,7 @@ use Rattle.meaning.specs.Formulae.{value, occurs, symbolsOf}
 use Rattle.meaning.specs.Literals.{opp}
 use Rattle.meaning.specs.Rounds.{gives, next, reached, rankBy, firstGiver, supportAt, supportOf}
 use Rattle.literals.specs.Literal.{placeOf, literalAt}
-use Rattle.literals.specs.Row.{numbersAt, zeros, rising, rowSound, rowsSound, decode, rowsIn, encode}
+use Rattle.literals.specs.Row.{numbersAt, ruleAt, zeros, rising, rowSound, ruleBefore, ruleSound, rowsSound, decode, rowsIn, encode}
 use Rattle.formula.specs.Parse.{symbolAt, secondOf, bodyOf, parse, wholeOf}
 use Rattle.implicates.specs.Appending.{appended}
 use Rattle.board.specs.Furnaces.{isFurnace, heldBy, withHeld}
@@ -24,7 +24,7 @@ use Rattle.spelling.specs.Text.{digitsOf, literalList}
 use Rattle.lines.specs.Commands.{literalIn, formulaLength, commandSaid, commandTable, said, saidTable, linesOf}
 
 abbrev start : Board
-start = record { symbols = 0; rows = 0; first = replicate 400 false; second = replicate 400 false }
+start = record { symbols = 0; rows = 0; rules = 0; first = replicate 400 false; second = replicate 400 false }
 
 record Case : Type 0 where
   input : List ℕ
@@ -57,6 +57,6 @@ cases =
     ∷ record { input = 0x01 ∷ 0x04 ∷ 0x03 ∷ 0x05 ∷ 0x00 ∷ []; lines = ascii "1 open ok\n2 hold no 2\n" }
     ∷ []
 
-printed : map (λ (c : Case). linesOf (length (c .input)) 1 start (replicate 16384 (pos 0)) (c .input)) cases ≡ map (λ (c : Case). c .lines) cases
-unfolding hit implicate prime ofSize value occurs symbolsOf opp gives next reached rankBy firstGiver supportAt supportOf placeOf literalAt numbersAt zeros rising rowSound rowsSound decode rowsIn encode symbolAt secondOf bodyOf parse wholeOf appended isFurnace heldBy withHeld premisesFit goodBoard openFaults opened flagFaults flagChanged ruleFaults ruled ruledTable askFaults asked explainFaults reasoned explained digitsOf literalList literalIn formulaLength commandSaid commandTable said saidTable linesOf
+printed : map (λ (c : Case). linesOf (length (c .input)) 1 start (replicate 18432 (pos 0)) (c .input)) cases ≡ map (λ (c : Case). c .lines) cases
+unfolding hit implicate prime ofSize value occurs symbolsOf opp gives next reached rankBy firstGiver supportAt supportOf placeOf literalAt numbersAt ruleAt zeros rising rowSound ruleBefore ruleSound rowsSound decode rowsIn encode symbolAt secondOf bodyOf parse wholeOf appended isFurnace heldBy withHeld premisesFit goodBoard openFaults opened flagFaults flagChanged ruleFaults ruled ruledTable askFaults asked explainFaults reasoned explained digitsOf literalList literalIn formulaLength commandSaid commandTable said saidTable linesOf
 printed = refl

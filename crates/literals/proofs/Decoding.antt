@@ -2,7 +2,7 @@
 use mathlib.Core.Path.{_≡_, refl, sym, ap, _∙_}
 use mathlib.Core.Logic.{_⊎_, inl, inr}
 use mathlib.Core.Bool.{true, _&&_, false≢true}
-use mathlib.Core.List.{List, [], _∷_, _++_, List·Memᴰ as In}
+use mathlib.Core.List.{List, [], _∷_, List·Memᴰ as In}
 use mathlib.Core.List.{List·Memᴰ·cases-cons as in-cons, List·Memᴰ·not-nil as in-nil}
 use Prim.Native.Nat.{ℕ, zero, suc, _*_, _<_, _≤_}
 use native.Mathlib.Omega.{arith}
@@ -11,9 +11,9 @@ use lib.Dec.{eqb, leb, ltb}
 use lib.IntN.{ℤ, pos, natAbs}
 use lib.ListN.{length, getD}
 use Rattle.meaning.proofs.Tests.{both-true, all-at, in-from}
-use Rattle.meaning.proofs.Tables.{length-tabulate, getD-tabulate, tabulate-snoc}
+use Rattle.meaning.proofs.Tables.{length-tabulate, getD-tabulate}
 use Rattle.literals.specs.Literal.{inRange, placeOf}
-use Rattle.literals.specs.Row.{numbersAt, zeros, rising, rowSound, rowsSound, decode, rowsIn, Sound}
+use Rattle.literals.specs.Row.{numbersAt, zeros, rising, rowSound, ruleSound, rowsSound, decode, rowsIn}
 use Rattle.literals.proofs.Places.{place-bound}
 
 -- ---- `decode`, at the first number
@@ -137,10 +137,13 @@ sound-small S (l ∷ ls) e (suc i) = rising-small S (natAbs l) ls (sound-cons S 
 
 -- ---- the rows of a table
 
--- where all rows in use are sound, each is
-pub sound-at : (S used : ℕ) (t : List ℤ) → Sound S used t → (r : ℕ) → r < used → rowSound S (numbersAt t r) ≡ true
+-- where all rows in use are sound, each is: its literals, and its rule's number
+pub sound-both : (S rules used : ℕ) (t : List ℤ) → rowsSound S rules used t ≡ true → (r : ℕ) → r < used
+    → (rowSound S (numbersAt t r) ≡ true) × (ruleSound rules t r ≡ true)
 unfolding rowsSound
-sound-at S used t s r h = all-at (λ r. rowSound S (numbersAt t r)) (s .sound) (in-from 0 used r (omega arith) (omega arith))
+sound-both S rules used t e r h =
+    both-true (rowSound S (numbersAt t r)) (ruleSound rules t r)
+    (all-at (λ r. rowSound S (numbersAt t r) && ruleSound rules t r) e (in-from 0 used r (omega arith) (omega arith)))
 
 pub rows-at : (used : ℕ) (t : List ℤ) (r : ℕ) → r < used → getD (rowsIn used t) r [] ≡ decode (numbersAt t r)
 unfolding rowsIn
@@ -149,8 +152,3 @@ rows-at used t r h = getD-tabulate used (λ r. decode (numbersAt t r)) r [] h
 pub length-rows : (used : ℕ) (t : List ℤ) → length (rowsIn used t) ≡ used
 unfolding rowsIn
 length-rows used t = length-tabulate used (λ r. decode (numbersAt t r))
-
--- one row more in use
-pub rows-snoc : (n : ℕ) (t : List ℤ) → rowsIn (suc n) t ≡ rowsIn n t ++ decode (numbersAt t n) ∷ []
-unfolding rowsIn
-rows-snoc n t = tabulate-snoc n (λ r. decode (numbersAt t r))

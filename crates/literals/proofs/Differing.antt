@@ -13,7 +13,7 @@ use Rattle.meaning.proofs.Tests.{both-true}
 use Rattle.literals.specs.Literal.{placeOf}
 use Rattle.literals.specs.Row.{numbersAt, rising, decode, Fit}
 use Rattle.literals.proofs.Places.{literal-abs, literal-at-place}
-use Rattle.literals.proofs.Decoding.{decode-zero, decode-literal, sound-rising, sound-at}
+use Rattle.literals.proofs.Decoding.{decode-zero, decode-literal, sound-rising}
 
 -- no literal stands in the row twice
 abbrev pub Differ : List ℕ → Type 0
@@ -49,5 +49,5 @@ rising-above S last (l ∷ ls) e = go (natAbs l) refl (λ e′. rising-above S (
 
 pub row-differs : {places used : ℕ} {table : List ℤ} → Fit places used table → (r : ℕ) → r < used → Differ (decode (numbersAt table r))
 row-differs {used} {table} fit r h =
-    let sound = sound-at (fit .0) used table (fit .2) r h in
+    let sound = fit .2 .sound r h in
     rising-above (fit .0) 0 (numbersAt table r) (sound-rising (fit .0) (numbersAt table r) sound) .0

@@ -1,10 +1,11 @@
 -- The definitions at some numbers: each computes.
 use mathlib.Core.Path.{_≡_, refl}
 use mathlib.Core.Bool.{true, false}
-use mathlib.Core.List.{List, [], _∷_}
+use mathlib.Core.List.{List, [], _∷_, _++_}
 use lib.IntN.{ℤ, pos, negsuc}
+use lib.ListN.{take}
 use Rattle.literals.specs.Literal.{inRange, placeOf, literalAt}
-use Rattle.literals.specs.Row.{zeros, rising, rowSound, decode, encode}
+use Rattle.literals.specs.Row.{rowsLent, numbersAt, ruleAt, ruleBefore, zeros, rising, rowSound, ruleSound, rowsSound, decode, encode, ruledIn, ofRule, numbered}
 
 -- +3 stands at place 4 and −3 at place 5
 three : placeOf (pos 3) ≡ 4
@@ -56,3 +57,48 @@ twice-not = refl
 least-not : rowSound 200 (negsuc 32767 ∷ pos 0 ∷ pos 0 ∷ pos 0 ∷ pos 0 ∷ pos 0 ∷ pos 0 ∷ pos 0 ∷ []) ≡ false
 unfolding rowSound
 least-not = refl
+
+-- ---- rows of nine numbers: of rules 1 and 3 of three, since rule 2 has no rows
+
+two-rows : (first second : ℤ) → List ℤ
+two-rows first second =
+    pos 1 ∷ pos 2 ∷ pos 0 ∷ pos 0 ∷ pos 0 ∷ pos 0 ∷ pos 0 ∷ pos 0 ∷ first
+    ∷ negsuc 1 ∷ pos 0 ∷ pos 0 ∷ pos 0 ∷ pos 0 ∷ pos 0 ∷ pos 0 ∷ pos 0 ∷ second ∷ []
+
+two-rows-sound : rowsSound 2 3 2 (two-rows (pos 1) (pos 3)) ≡ true
+unfolding two-rows rowsSound numbersAt rowSound rising zeros ruleSound ruleAt ruleBefore
+two-rows-sound = refl
+
+two-rows-read : ruledIn 2 (two-rows (pos 1) (pos 3)) ≡ ofRule 1 ((0 ∷ 2 ∷ []) ∷ []) ++ ofRule 3 ((3 ∷ []) ∷ [])
+unfolding two-rows ruledIn numbersAt decode placeOf ruleAt
+two-rows-read = refl
+
+two-rows-written : numbered (record { rule = 1; row = 0 ∷ 2 ∷ [] }) ++ numbered (record { rule = 3; row = 3 ∷ [] }) ≡ two-rows (pos 1) (pos 3)
+unfolding two-rows encode literalAt
+two-rows-written = refl
+
+-- a falling rule number is not sound, nor is 0, one beyond the count, or one below 0
+falling-not : rowsSound 2 3 2 (two-rows (pos 3) (pos 2)) ≡ false
+unfolding two-rows rowsSound numbersAt rowSound rising zeros ruleSound ruleAt ruleBefore
+falling-not = refl
+
+none-not : rowsSound 2 3 2 (two-rows (pos 0) (pos 3)) ≡ false
+unfolding two-rows rowsSound numbersAt rowSound rising zeros ruleSound ruleAt ruleBefore
+none-not = refl
+
+beyond-not : rowsSound 2 3 2 (two-rows (pos 1) (pos 4)) ≡ false
+unfolding two-rows rowsSound numbersAt rowSound rising zeros ruleSound ruleAt ruleBefore
+beyond-not = refl
+
+negative-not : rowsSound 2 3 2 (two-rows (negsuc 0) (pos 3)) ≡ false
+unfolding two-rows rowsSound numbersAt rowSound rising zeros ruleSound ruleAt ruleBefore
+negative-not = refl
+
+-- eighteen numbers lend two rows, seventeen one
+two-lent : rowsLent (two-rows (pos 1) (pos 3)) ≡ 2
+unfolding two-rows
+two-lent = refl
+
+one-lent : rowsLent (take 17 (two-rows (pos 1) (pos 3))) ≡ 1
+unfolding two-rows
+one-lent = refl

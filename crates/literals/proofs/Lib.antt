@@ -3,6 +3,8 @@ pub mod Signed
 pub mod Places
 pub mod Opposites
 pub mod Rows
+pub mod RuleNumbers
+pub mod RuledRows
 pub mod Decoding
 pub mod Differing
 pub mod Encoding

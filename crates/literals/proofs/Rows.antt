@@ -1,4 +1,4 @@
--- Parts of a table, and the definitions of `specs/Row.antt` taken one number, or one row, at a time.
+-- Parts of a table, and the definitions of `specs/Row.antt` taken one number at a time.
 use mathlib.Core.Path.{_≡_, refl, sym, ap, _∙_}
 use mathlib.Core.Logic.{⊎-elim}
 use mathlib.Core.Bool.{Bool, true, false, cond, _&&_}
@@ -11,10 +11,9 @@ use lib.Dec.{eqb}
 use lib.IntN.{ℤ, pos, natAbs}
 use lib.ListN.{length, take, drop, getD}
 use lib.Seq.{drop-cons}
-use Rattle.meaning.specs.Tests.{all, from}
 use Rattle.meaning.proofs.Tables.{le-or-lt}
 use Rattle.literals.specs.Literal.{inRange}
-use Rattle.literals.specs.Row.{width, zeros, rising, rowSound}
+use Rattle.literals.specs.Row.{mostLiterals, zeros, rising, rowSound}
 
 -- ---- the numbers from place k up to e
 
@@ -64,35 +63,16 @@ rising-none S last t k e h = rw (part-none t k e h)
 
 -- ---- `rowSound`, at the first number of the row from place `at` on
 
-row-cons : (t : List ℤ) (at : ℕ) → at + width ≤ length t → take width (drop at t) ≡ getD t at (pos 0) ∷ take ((at + width) - (at + 1)) (drop (at + 1) t)
+row-cons : (t : List ℤ) (at : ℕ) → at + mostLiterals ≤ length t → take mostLiterals (drop at t) ≡ getD t at (pos 0) ∷ take ((at + mostLiterals) - (at + 1)) (drop (at + 1) t)
 row-cons t at f =
-    let whole : width ≡ (at + width) - at = omega arith in
-    ap (λ (n : ℕ). take n (drop at t)) whole ∙ part-cons t at (at + width) (omega arith) f
+    let whole : mostLiterals ≡ (at + mostLiterals) - at = omega arith in
+    ap (λ (n : ℕ). take n (drop at t)) whole ∙ part-cons t at (at + mostLiterals) (omega arith) f
 
-module _ (S : ℕ) (t : List ℤ) (at : ℕ) (f : at + width ≤ length t) where
-  pub row-no : inRange S (getD t at (pos 0)) ≡ false → rowSound S (take width (drop at t)) ≡ false
+module _ (S : ℕ) (t : List ℤ) (at : ℕ) (f : at + mostLiterals ≤ length t) where
+  pub row-no : inRange S (getD t at (pos 0)) ≡ false → rowSound S (take mostLiterals (drop at t)) ≡ false
   unfolding rowSound
   row-no e = rw (row-cons t at f, e)
 
-  pub row-first : inRange S (getD t at (pos 0)) ≡ true → (s : ℕ) → s ≡ natAbs (getD t at (pos 0)) → rowSound S (take width (drop at t)) ≡ rising S s (take ((at + width) - (at + 1)) (drop (at + 1) t))
+  pub row-first : inRange S (getD t at (pos 0)) ≡ true → (s : ℕ) → s ≡ natAbs (getD t at (pos 0)) → rowSound S (take mostLiterals (drop at t)) ≡ rising S s (take ((at + mostLiterals) - (at + 1)) (drop (at + 1) t))
   unfolding rowSound
   row-first e s is = rw (row-cons t at f, e, is)
-
--- ---- a test of the numbers from r up to n
-
-from-cons : (n r : ℕ) → r < n → from r (n - r) ≡ r ∷ from (r + 1) (n - (r + 1))
-from-cons n r h =
-    let one-more : n - r ≡ suc (n - suc r) = omega arith in
-    rw (add-one, one-more)
-
-module _ (test : ℕ → Bool) (n r : ℕ) where
-  pub all-no : r < n → test r ≡ false → all test (from r (n - r)) ≡ false
-  all-no h e = rw (from-cons n r h, e)
-
-  pub all-next : r < n → test r ≡ true → all test (from r (n - r)) ≡ all test (from (r + 1) (n - (r + 1)))
-  all-next h e = rw (from-cons n r h, e)
-
-  pub all-none : n ≤ r → all test (from r (n - r)) ≡ true
-  all-none h =
-      let none : n - r ≡ 0 = omega arith in
-      rw none

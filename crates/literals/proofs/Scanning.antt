@@ -11,19 +11,17 @@ use mir.Syntax.{w16}
 use mir.Val.{SFits, ofZ}
 use mir.Facts.{toZ-ofZ}
 use Rattle.meaning.specs.Literals.{opp}
-use Rattle.meaning.specs.Tests.{from, none}
-use Rattle.meaning.proofs.Tests.{all-of, from-in}
+use Rattle.meaning.specs.Tests.{none}
 use Rattle.meaning.proofs.Literals.{opp-in}
 use Rattle.literals.specs.Literal.{placeOf}
-use Rattle.literals.specs.Row.{width, numbersAt, rowSound, rowsSound, decode, rowsIn, Fit}
+use Rattle.literals.specs.Row.{width, mostLiterals, numbersAt, decode, rowsIn, Fit}
 use Rattle.literals.proofs.Signed.{back, back-abs, zero-bits, bits-zero}
 use Rattle.literals.proofs.Places.{place-bound}
 use Rattle.literals.proofs.Opposites.{opposite-abs, opposite-at}
-use Rattle.literals.proofs.Decoding.{length-rows, decode-zero, decode-literal, sound-at, sound-in, sound-small}
+use Rattle.literals.proofs.Decoding.{length-rows, decode-zero, decode-literal, sound-in, sound-small}
 
 -- the rows up to one of a sound table's are sound
 pub fit-row : (places used : ℕ) (table : List ℤ) → Fit places used table → (r : ℕ) → r < used → Fit places (r + 1) table
-unfolding rowsSound
 fit-row places used table f r h =
     let s = f .2 in (
       f .0,
@@ -32,8 +30,7 @@ fit-row places used table f r h =
         symbols = s .symbols;
         rows = omega (arith, s .rows);
         room = omega (arith, s .room);
-        sound = all-of (λ (i : ℕ). rowSound (f .0) (numbersAt table i)) (from 0 (r + 1))
-            (λ i m. (let b = from-in 0 (r + 1) i m in sound-at (f .0) used table s i (omega arith)));
+        sound = λ i m. s .sound i (omega arith);
       },
     )
 
@@ -61,19 +58,19 @@ abbrev pub numberAt : List ℤ → ℕ → ℕ → ℤ
 numberAt table r j = getD table (width * r + j) (pos 0)
 
 module _ {places : ℕ} {table : List ℤ} (r : ℕ) (f : Fit places (r + 1) table) where
-  length-numbers : length (numbersAt table r) ≡ width
+  length-numbers : length (numbersAt table r) ≡ mostLiterals
   unfolding numbersAt
-  length-numbers = length-take-le 8 (drop (8 * r) table) (simp length-drop (omega (arith, f .2 .room)))
+  length-numbers = length-take-le 8 (drop (9 * r) table) (simp length-drop (omega (arith, f .2 .room)))
 
   -- past its eighth number a row has nothing left
-  pub left-last : (j : ℕ) → width ≤ j → left table r j ≡ []
+  pub left-last : (j : ℕ) → mostLiterals ≤ j → left table r j ≡ []
   unfolding left rest decode
   left-last j h = rw (drop-of-length-le (numbersAt table r) {i = j} (omega (arith, length-numbers)))
 
 -- the scan reads number j of row r, one of its eight
 pub record Here (places : ℕ) (table : List ℤ) (r j : ℕ) : Type 0 where
   pub fit : Fit places (r + 1) table
-  pub inside : j < width
+  pub inside : j < mostLiterals
   pub fits : SFits w16 (numberAt table r j)
 
 -- and it is a literal, whose place is q
@@ -94,13 +91,13 @@ module _ {places : ℕ} {table : List ℤ} {r j : ℕ} (here : Here places table
   unfolding rest numbersAt
   cons =
       let inside : j < 8 = here .inside in
-      let short : j < length (take 8 (drop (8 * r) table)) = unfold numbersAt in omega (arith, length-numbers r (here .fit)) in
-      rw (add-one, drop-cons (take 8 (drop (8 * r) table)) j (pos 0), getD-take, getD-drop)
+      let short : j < length (take 8 (drop (9 * r) table)) = unfold numbersAt in omega (arith, length-numbers r (here .fit)) in
+      rw (add-one, drop-cons (take 8 (drop (9 * r) table)) j (pos 0), getD-take, getD-drop)
 
   small : natAbs number ≤ here .fit .0
   unfolding numbersAt
   small =
-      let row-sound = sound-at (here .fit .0) (r + 1) table (here .fit .2) r (omega arith) in
+      let row-sound = here .fit .2 .sound r (omega arith) in
       let inside : j < 8 = here .inside in
       rw (getD-take, getD-drop) at (sound-small (here .fit .0) (numbersAt table r) row-sound j)
 
@@ -153,4 +150,4 @@ module _ {places : ℕ} {table : List ℤ} {r j q : ℕ} (l : Literal places tab
 -- a literal of a sound row is one of the places
 pub row-in : (places r : ℕ) (table : List ℤ) → Fit places (r + 1) table → {p : ℕ} → In p (decode (numbersAt table r)) → p < places
 row-in places r table f m =
-    let b = sound-in (f .0) (numbersAt table r) (sound-at (f .0) (r + 1) table (f .2) r (omega arith)) m in omega (arith, f .1)
+    let b = sound-in (f .0) (numbersAt table r) (f .2 .sound r (omega arith)) m in omega (arith, f .1)

@@ -18,6 +18,9 @@ one-opposite κs a x y = (cc, refl)
 one-rows-lent : One literals.rows_lent.ended literals.rows_lent.Reads.Post
 one-rows-lent κs a x y = (cc, refl)
 
+one-rule-at : One literals.rule_at.ended literals.rule_at.Reads.Post
+one-rule-at κs a x y = (cc, refl)
+
 one-rows-sound : One literals.rows_sound.ended literals.rows_sound.Reads.Post
 one-rows-sound κs a x y = (cc, refl)
 

@@ -7,10 +7,15 @@ ghost use Prim.Native.Nat.{_+_, _*_, _≤_, _<_};
 ghost use lib.IntN.{natAbs, negℤ};
 ghost use lib.ListN.{length, take, drop};
 ghost use Rattle.literals.specs.Literal.{inRange, placeOf};
-ghost use Rattle.literals.specs.Row.{width, rowsLent, rowSound, rowsSound, decode};
+ghost use Rattle.literals.specs.Row.{width, mostLiterals, rowsLent, ruleAt, rowSound, rowsSound, decode};
 
-// How many numbers a row has.
-pub const WIDTH: usize = 8;
+// How many numbers a row has: places for its literals, and the number of its rule.
+pub const WIDTH: usize = 9;
+
+pub const MOST_LITERALS: usize = 8;
+
+// The most rules that a board counts.
+pub const MOST_RULES: usize = 32767;
 
 // The most rows that are used, however many are lent.
 const MOST_ROWS: usize = 2048;
@@ -68,17 +73,17 @@ pub fn rows_lent(table: &[i16]) -> usize
     if n < MOST_ROWS { n } else { MOST_ROWS }
 }
 
-// Whether the eight numbers from place `at` on are a sound row: one to eight literals of the symbols 1 to `symbols` with rising
+// Whether the eight numbers from place `at` on are a sound row's: one to eight literals of the symbols 1 to `symbols` with rising
 // symbol numbers, and zeros after them. After a zero `last` is the largest symbol, so that no literal may follow.
 fn row_sound(table: &[i16], at: usize, symbols: usize) -> bool
-    requires { do ⌜ at + width ≤ (← ⟦table.len()⟧) ⌝ }
-    ensures { λ r. ⌜ r ≡ rowSound symbols (take width (drop at (now (table .entry)))) ⌝ }
+    requires { do ⌜ at + mostLiterals ≤ (← ⟦table.len()⟧) ⌝ }
+    ensures { λ r. ⌜ r ≡ rowSound symbols (take mostLiterals (drop at (now (table .entry)))) ⌝ }
 {
     let first = table[at];
     if !in_range(first, symbols) {
         return false;
     }
-    let end = at + WIDTH;
+    let end = at + MOST_LITERALS;
     let mut last = symbol(first);
     let mut k = at + 1;
     while k < end {
@@ -96,32 +101,54 @@ fn row_sound(table: &[i16], at: usize, symbols: usize) -> bool
     true
 }
 
-// Whether the first `used` rows of `table` are all sound. `board` tests first that so many rows are lent.
-pub fn rows_sound(table: &[i16], used: usize, symbols: usize) -> bool
-    requires { do ⌜ width * used ≤ (← ⟦table.len()⟧) ⌝ }
-    ensures { λ r. ⌜ r ≡ rowsSound symbols used (now (table .entry)) ⌝ }
+// The number of the rule that a row is from; 0 for a number below 0, which is no rule's.
+pub fn rule_at(table: &[i16], row: usize) -> usize
+    requires { ⌜ width * (row + 1) ≤ length (now table) ⌝ }
+    ensures { λ r. ⌜ r ≡ ruleAt (now (table .entry)) row ⌝ }
 {
+    let n = table[WIDTH * row + MOST_LITERALS];
+    if n >= 0 {
+        return n as usize;
+    }
+    0
+}
+
+// Whether the first `used` rows of `table` are all sound, where `rules` are counted: the literals of each, and its rule's number. Numbers that do
+// not fall are at most the last of them, so only that one is compared with the count. `board` tests first that so many rows are lent.
+pub fn rows_sound(table: &[i16], used: usize, symbols: usize, rules: usize) -> bool
+    requires { do ⌜ width * used ≤ (← ⟦table.len()⟧) ⌝ }
+    ensures { λ r. ⌜ r ≡ rowsSound symbols rules used (now (table .entry)) ⌝ }
+{
+    if used == 0 {
+        return true;
+    }
+    let mut last: i16 = 1;
     let mut row = 0;
     while row < used {
         if !row_sound(table, WIDTH * row, symbols) {
             return false;
         }
+        let rule = table[WIDTH * row + MOST_LITERALS];
+        if rule < last {
+            return false;
+        }
+        last = rule;
         row += 1;
     }
-    true
+    last as usize <= rules
 }
 
 // How many literals the row from place `at` on has: its numbers before the first 0. `board` and `panel` ask it of rows in use.
 pub fn literal_count(table: &[i16], at: usize) -> usize
-    requires { ⌜ at + width ≤ length (now table) ⌝ }
-    ensures { λ r. ⌜ r ≡ length (decode (take width (drop at (now (table .entry))))) ⌝ }
+    requires { ⌜ at + mostLiterals ≤ length (now table) ⌝ }
+    ensures { λ r. ⌜ r ≡ length (decode (take mostLiterals (drop at (now (table .entry))))) ⌝ }
 {
     let mut n = 0;
-    while n < WIDTH {
+    while n < MOST_LITERALS {
         if table[at + n] == 0 {
             return n;
         }
         n += 1;
     }
-    WIDTH
+    MOST_LITERALS
 }

@@ -3,7 +3,7 @@ use Prim.Native.Nat.{ℕ, zero, suc, _+_, _≤_, _<_}
 use mathlib.Core.Path.{_≡_, refl, sym, ap, _∙_, subst}
 use mathlib.Core.Logic.{_⊎_, inl, inr, ⊎-elim}
 use mathlib.Core.Bool.{Bool, true, false, cond, _&&_, _||_, true≢false}
-use mathlib.Core.List.{List, [], _∷_, _++_, map}
+use mathlib.Core.List.{List, [], _∷_, _++_, map, List·Memᴰ as In, List·Memᴰ·cases-cons as in-cons, List·Memᴰ·not-nil as in-nil}
 use native.Mathlib.Nat.{le-of-suc-le-suc, not-suc-le-zero, eq-or-lt-of-le}
 use native.Mathlib.Omega.{arith}
 use lib.ListN.{length, getD, set}
@@ -37,6 +37,12 @@ module _ {A : Type 0} where
   pub tabulate-snoc : (n : ℕ) (f : ℕ → A) → tabulate (suc n) f ≡ tabulate n f ++ f n ∷ []
   tabulate-snoc zero f = refl
   tabulate-snoc (suc n) f = ap (λ l. f 0 ∷ l) (tabulate-snoc n (λ i. f (suc i)))
+
+  -- an element of it is the value at some number
+  pub tabulate-in : (n : ℕ) (f : ℕ → A) {x : A} → In x (tabulate n f) → (i : ℕ) × (i < n) × (x ≡ f i)
+  tabulate-in zero f m = absurd (in-nil m)
+  tabulate-in (suc n) f m =
+      ⊎-elim (λ e. (zero, omega arith, e)) (λ t. (let r = tabulate-in n (λ j. f (suc j)) t in (suc (r .0), omega (arith, r .1), r .2))) (in-cons m)
 
   -- filling a list from the front by the values of a function: one more
   pub filled-more : (d : A) (f : ℕ → A) (l : List A) (p : ℕ) (v : A) → p < length l → ((i : ℕ) → i < p → getD l i d ≡ f i) → v ≡ f p

@@ -4,21 +4,24 @@ use mathlib.Core.Bool.{Bool, true, false, cond}
 use mathlib.Core.List.{List}
 use Prim.Native.Nat.{ℕ, _+_, _≤_, _<_}
 use native.Mathlib.Omega.{arith}
-use borrow.Author.Tests.{leb-true, not-false}
+use borrow.Author.Tests.{not-false}
 use lib.IntN.{ℤ}
 use lib.ListN.{length}
-use Rattle.literals.specs.Row.{rowsLent}
+use Rattle.literals.specs.Row.{mostRules, rowsLent}
 use Rattle.literals.specs.declared.refusal.Refusal.the-variants.{BadText}
 use Rattle.board.specs.Furnaces.{withHeld}
-use Rattle.board.specs.Faults.{firstFault}
+use Rattle.implicates.specs.Appending.{fits}
+use Rattle.implicates.proofs.Rules.{fits-facts}
+use Rattle.board.specs.Faults.{firstFault, goodBoard}
 use Rattle.board.specs.Changes.{changed, emptyBoard, openFaults, opened, withFlag, holdFaults, held, withdrawFaults, withdrawn, flagChanged}
 use Rattle.board.specs.Rules.{breaksAt, ruleFaults, rowsOfBytes, ruled}
 use Rattle.board.specs.declared.Board.{Board}
 use Rattle.board.specs.declared.Outcome.{Outcome}
 use Rattle.board.specs.declared.Outcome.the-variants.{Done, Refused}
 use Rattle.board.proofs.Answered.{none-given}
+use Rattle.board.proofs.Goodness.{good-is}
 use Rattle.dimacs.specs.Reading.{readAnswer, readFaults}
-use Rattle.dimacs.proofs.ClauseCount.{read-fits, told-few}
+use Rattle.dimacs.proofs.ClauseCount.{read-fits, read-rules, told-few}
 use Rattle.chains.specs.Form.{wholeText}
 use Rattle.text.specs.Reading.{bytesIn}
 use Rattle.text.specs.Adding.{textRefused, ruledText}
@@ -31,12 +34,13 @@ narrow-changed (Refused why) given next n m = n
 pub narrow-opened : (S : ℕ) → S < 65536 → Narrow (opened S .board)
 unfolding opened
 narrow-opened S h =
-    narrow-changed (firstFault (openFaults S)) (emptyBoard 0) (emptyBoard S) (record { symbols = omega arith; rows = omega arith }) (record { symbols = h; rows = omega arith })
+    narrow-changed (firstFault (openFaults S)) (emptyBoard 0) (emptyBoard S) (record { symbols = omega arith; rows = omega arith; rules = omega arith })
+    (record { symbols = h; rows = omega arith; rules = omega arith })
 
 module _ (table : List ℤ) (b : Board) (n : Narrow b) where
   narrow-flagged : (o : Outcome) (furnace : ℕ) (l : ℤ) (flag : Bool) → Narrow (changed o b (withFlag b furnace l flag) .board)
   unfolding withHeld
-  narrow-flagged o furnace l flag = narrow-changed o b (withFlag b furnace l flag) n (record { symbols = n .symbols; rows = n .rows })
+  narrow-flagged o furnace l flag = narrow-changed o b (withFlag b furnace l flag) n (record { symbols = n .symbols; rows = n .rows; rules = n .rules })
 
   pub narrow-held : (furnace : ℕ) (l : ℤ) → Narrow (held table b furnace l .board)
   unfolding flagChanged
@@ -46,13 +50,15 @@ module _ (table : List ℤ) (b : Board) (n : Narrow b) where
   unfolding flagChanged
   narrow-withdrawn furnace l = narrow-flagged (firstFault (withdrawFaults table b furnace l)) furnace l false
 
-  -- "rows in use plus its prime implicates" are at most the rows lent
-  few-rows : (bytes : List ℕ) → firstFault (ruleFaults table b bytes) ≡ Done → b .rows + length (rowsOfBytes (b .symbols) bytes) ≤ 2048
+  -- "rows in use plus its prime implicates" are at most the rows lent, and the rules counted at most 32,767
+  few-rows : (bytes : List ℕ) → firstFault (ruleFaults table b bytes) ≡ Done
+      → (b .rows + length (rowsOfBytes (b .symbols) bytes) ≤ 2048) × (b .rules ≤ mostRules)
   unfolding ruleFaults
   few-rows bytes e =
-      let fits : b .rows + length (rowsOfBytes (b .symbols) bytes) ≤ rowsLent table =
-      leb-true _ _ (not-false _ (none-given (ruleFaults table b bytes) e 4)) in
-      omega arith
+      let given = none-given (ruleFaults table b bytes) e in
+      let rows = rowsOfBytes (b .symbols) bytes in
+      let enough = fits-facts (b .rows) (b .rules) (rowsLent table) rows (not-false (fits (b .rows) (b .rules) (rowsLent table) rows) (given 4)) in
+      (omega (arith, enough .0), good-is table b (not-false (goodBoard table b) (given 0)) .few)
 
   pub narrow-ruled : (bytes : List ℕ) → Narrow (ruled table b bytes .board) × (ruled table b bytes .added < 65536)
   unfolding ruled
@@ -61,7 +67,7 @@ module _ (table : List ℤ) (b : Board) (n : Narrow b) where
       go : (o : Outcome) → firstFault (ruleFaults table b bytes) ≡ o → Narrow (ruled table b bytes .board) × (ruled table b bytes .added < 65536)
       go Done e =
           let few = few-rows bytes e in
-          rw e (record { symbols = n .symbols; rows = omega arith }, omega arith)
+          rw e (record { symbols = n .symbols; rows = omega (arith, few .0); rules = omega (arith, few .1) }, omega (arith, few .0))
       go (Refused why) e = rw e (n, omega arith)
 
   -- a rule from text is one from its bytes, or adds nothing
@@ -83,7 +89,7 @@ module _ (table : List ℤ) (b : Board) (n : Narrow b) where
           → Narrow (readAnswer table b text .board) × (readAnswer table b text .added < 65536)
       go Done e =
           let fits = read-fits table b text e in
-          rw e (record { symbols = n .symbols; rows = omega arith }, omega arith)
+          rw e (record { symbols = n .symbols; rows = omega arith; rules = omega (arith, read-rules table b text e) }, omega arith)
       go (Refused why) e = rw e (n, omega arith)
 
   -- its clauses are not more than a header can count

@@ -31,15 +31,16 @@ flagOf byte = not (eqb byte 0)
 
 -- a board from C, and a board to C
 abbrev pub boardIn : PanelBoard → Board
-boardIn b = record { symbols = b .symbols; rows = b .rows; first = map flagOf (b .first); second = map flagOf (b .second) }
+boardIn b = record { symbols = b .symbols; rows = b .rows; rules = b .rules; first = map flagOf (b .first); second = map flagOf (b .second) }
 
 abbrev pub boardOut : Board → PanelBoard
-boardOut b = record { symbols = b .symbols; rows = b .rows; first = map byteOf (b .first); second = map byteOf (b .second) }
+boardOut b = record { symbols = b .symbols; rows = b .rows; rules = b .rules; first = map byteOf (b .first); second = map byteOf (b .second) }
 
--- both numbers of a board fit C's sixteen bits
+-- the three numbers of a board fit C's sixteen bits
 pub record Narrow (b : Board) : Type 0 where
   pub symbols : b .symbols < 65536
   pub rows : b .rows < 65536
+  pub rules : b .rules < 65536
 
 -- a refused call hands back the very board that it was given
 abbrev pub nextOut : PanelBoard → Outcome → Board → PanelBoard
@@ -72,4 +73,4 @@ answerOut (Refused why) = record { refusal = numberOf why; standing = 0 }
 
 -- explain's numbers, and how many literals the part has
 abbrev pub reasonOut : Reason → (literals : ℕ) → PanelReason
-reasonOut r literals = record { refusal = numberIn (r .outcome); literals = literals; rank = r .rank; row = r .row }
+reasonOut r literals = record { refusal = numberIn (r .outcome); literals = literals; rank = r .rank; row = r .row; rule = r .rule }

@@ -25,13 +25,20 @@ use literals::refusal::number;
 use text::Spelling;
 
 // A board on which each furnace holds what its bytes say: both sets in one pass.
-fn board_of<'a>(symbols: usize, rows: usize, first: &'a [u8], second: &'a [u8]) -> Board
+fn board_of<'a>(
+    symbols: usize,
+    rows: usize,
+    rules: usize,
+    first: &'a [u8],
+    second: &'a [u8],
+) -> Board
     requires { ⌜ (length (now first) ≡ 400) × (length (now second) ≡ 400) ⌝ }
-    ensures { λ r. ⌜ r ≡ record { symbols = symbols; rows = rows; first = map flagOf (now (first .entry)); second = map flagOf (now (second .entry)) } ⌝ }
+    ensures { λ r. ⌜ r ≡ record { symbols = symbols; rows = rows; rules = rules; first = map flagOf (now (first .entry)); second = map flagOf (now (second .entry)) } ⌝ }
 {
     let mut board = Board {
         symbols,
         rows,
+        rules,
         first: [false; 400],
         second: [false; 400],
     };
@@ -45,13 +52,20 @@ fn board_of<'a>(symbols: usize, rows: usize, first: &'a [u8], second: &'a [u8]) 
 }
 
 // The same for C, by the flags of each furnace.
-fn panel_of<'a>(symbols: u16, rows: u16, first: &'a [bool], second: &'a [bool]) -> PanelBoard
+fn panel_of<'a>(
+    symbols: u16,
+    rows: u16,
+    rules: u16,
+    first: &'a [bool],
+    second: &'a [bool],
+) -> PanelBoard
     requires { ⌜ (length (now first) ≡ 400) × (length (now second) ≡ 400) ⌝ }
-    ensures { λ r. ⌜ r ≡ record { symbols = symbols; rows = rows; first = map byteOf (now (first .entry)); second = map byteOf (now (second .entry)) } ⌝ }
+    ensures { λ r. ⌜ r ≡ record { symbols = symbols; rows = rows; rules = rules; first = map byteOf (now (first .entry)); second = map byteOf (now (second .entry)) } ⌝ }
 {
     let mut out = PanelBoard {
         symbols,
         rows,
+        rules,
         first: [0; 400],
         second: [0; 400],
     };
@@ -71,6 +85,7 @@ pub fn board_in(given: PanelBoard) -> Board
     board_of(
         given.symbols as usize,
         given.rows as usize,
+        given.rules as usize,
         &given.first,
         &given.second,
     )
@@ -84,6 +99,7 @@ pub fn board_out(board: Board) -> PanelBoard
     panel_of(
         board.symbols as u16,
         board.rows as u16,
+        board.rules as u16,
         &board.first,
         &board.second,
     )

@@ -33,6 +33,7 @@ use literals::WIDTH;
 pub struct PanelBoard {
     pub symbols: u16,
     pub rows: u16,
+    pub rules: u16,
     pub first: [u8; 400],
     pub second: [u8; 400],
 }
@@ -84,6 +85,7 @@ pub struct PanelReason {
     pub literals: u8,
     pub rank: u16,
     pub row: u16,
+    pub rule: u16,
 }
 
 #[no_mangle]
@@ -221,6 +223,7 @@ pub extern "C" fn tup_explain(given: PanelBoard, table: &[i16], furnace: u8, l: 
         literals,
         rank: reason.rank,
         row: reason.row,
+        rule: reason.rule,
     }
 }
 

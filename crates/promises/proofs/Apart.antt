@@ -36,7 +36,7 @@ use Rattle.text.specs.Reading.{bytesIn, readTextFaults, readTextOutcome, readTe
 use Rattle.text.specs.Adding.{textRefused, ruledText}
 use Rattle.text.specs.Writing.{writeTextFaults, writeTextOutcome, writeTextAnswer, writeTextBytes}
 use Rattle.promises.specs.Calls.{Call, opens, adds, holds, withdraws, asks, explains, settles, grounds, blames, reads, writes, readsText, addsText, writesText}
-use Rattle.promises.specs.Calls.{ofRule, ofReading, World, front, answer, outcomeOf, outcome, after, run, formulaIn, notOpen, names, changes, without}
+use Rattle.promises.specs.Calls.{ofAddition, ofReading, World, front, answer, outcomeOf, outcome, after, run, formulaIn, notOpen, names, changes, without}
 use Rattle.promises.specs.Demands.{Alike, FurnacesApart}
 use Rattle.promises.proofs.Refusals.{done-or-refused, refused-untouched, so-after}
 use Rattle.promises.proofs.Changes.{Flagged, hold-flagged, withdraw-flagged}
@@ -45,34 +45,34 @@ use Rattle.promises.proofs.Tested.{Added, rule-added, rule-text-added, 
 -- ---- what a rule and a reading tell, but for the board
 
 rule-tells : (table : List ℤ) (b : Board) (bytes : List ℕ) → let a = ruled table b bytes in let o = firstFault (ruleFaults table b bytes) in
-    ofRule (a .outcome) (a .place) (a .added)
-    ≡ ofRule o (placeTold o (wholeOf (b .symbols) bytes)) (ifDone o (length (rowsOfBytes (b .symbols) bytes)) (λ _. 0))
+    ofAddition (a .outcome) (a .place) (a .added)
+    ≡ ofAddition o (placeTold o (wholeOf (b .symbols) bytes)) (ifDone o (length (rowsOfBytes (b .symbols) bytes)) (λ _. 0))
 unfolding ruled
 rule-tells table b bytes = go (firstFault (ruleFaults table b bytes)) refl
   where
     go : (o : Outcome) → firstFault (ruleFaults table b bytes) ≡ o → let a = ruled table b bytes in
-        ofRule (a .outcome) (a .place) (a .added)
-        ≡ ofRule (firstFault (ruleFaults table b bytes)) (placeTold (firstFault (ruleFaults table b bytes)) (wholeOf (b .symbols) bytes))
+        ofAddition (a .outcome) (a .place) (a .added)
+        ≡ ofAddition (firstFault (ruleFaults table b bytes)) (placeTold (firstFault (ruleFaults table b bytes)) (wholeOf (b .symbols) bytes))
         (ifDone (firstFault (ruleFaults table b bytes)) (length (rowsOfBytes (b .symbols) bytes)) (λ _. 0))
     go Done e = rw e
     go (Refused why) e = rw e
 
 text-tells : (table : List ℤ) (b : Board) (text : List ℕ) → let a = ruledText table b text in let r = ruled table b (bytesIn text) in
-    ofRule (a .outcome) (a .place) (a .added)
-    ≡ cond (textRefused table b text) (ofRule (Refused BadText) (breaksAt (wholeText text)) 0) (ofRule (r .outcome) (r .place) (r .added))
+    ofAddition (a .outcome) (a .place) (a .added)
+    ≡ cond (textRefused table b text) (ofAddition (Refused BadText) (breaksAt (wholeText text)) 0) (ofAddition (r .outcome) (r .place) (r .added))
 unfolding ruledText
 text-tells table b text = go (textRefused table b text)
   where
     go : (t : Bool) → let r = ruled table b (bytesIn text) in
         let a = cond t (record { outcome = Refused BadText; place = breaksAt (wholeText text); added = 0; board = b }) r in
-        ofRule (a .outcome) (a .place) (a .added)
-        ≡ cond t (ofRule (Refused BadText) (breaksAt (wholeText text)) 0) (ofRule (r .outcome) (r .place) (r .added))
+        ofAddition (a .outcome) (a .place) (a .added)
+        ≡ cond t (ofAddition (Refused BadText) (breaksAt (wholeText text)) 0) (ofAddition (r .outcome) (r .place) (r .added))
     go true = refl
     go false = refl
 
 reading-tells : (table : List ℤ) (b : Board) (text : List ℕ) → let a = readAnswer table b text in let o = firstFault (readFaults table b text) in
     ofReading (a .outcome) (a .clauses) (a .added)
-    ≡ ofReading o (cond (goodBoard table b) (passed (b .symbols) (b .rows) (rowsLent table) (clausesOf (parseText text))) 0)
+    ≡ ofReading o (cond (goodBoard table b) (passed (b .symbols) (b .rows) (b .rules) (rowsLent table) (clausesOf (parseText text))) 0)
     (ifDone o (length (rowsOfText (b .symbols) (parseText text))) (λ _. 0))
 unfolding readAnswer
 reading-tells table b text = go (firstFault (readFaults table b text)) refl
@@ -80,7 +80,7 @@ reading-tells table b text = go (firstFault (readFaults table b text)) refl
     go : (o : Outcome) → firstFault (readFaults table b text) ≡ o → let a = readAnswer table b text in
         ofReading (a .outcome) (a .clauses) (a .added)
         ≡ ofReading (firstFault (readFaults table b text))
-        (cond (goodBoard table b) (passed (b .symbols) (b .rows) (rowsLent table) (clausesOf (parseText text))) 0)
+        (cond (goodBoard table b) (passed (b .symbols) (b .rows) (b .rules) (rowsLent table) (clausesOf (parseText text))) 0)
         (ifDone (firstFault (readFaults table b text)) (length (rowsOfText (b .symbols) (parseText text))) (λ _. 0))
     go Done e = rw e
     go (Refused why) e = rw e
@@ -98,15 +98,15 @@ module _ {f : ℕ} {v u : World} (s : Same f v u) where
 
   good : (lent : ℕ) → goodBoard (front v lent) (v .board) ≡ goodBoard (front u lent) (u .board)
   unfolding goodBoard
-  good lent = rw (s .fit, a .symbols, a .rows, a .table)
+  good lent = rw (s .fit, a .symbols, a .rows, a .rules, a .table)
 
   rule-same : (lent : ℕ) (bytes : List ℕ)
       → let x = ruled (front v lent) (v .board) bytes in let y = ruled (front u lent) (u .board) bytes in
-      ofRule (x .outcome) (x .place) (x .added) ≡ ofRule (y .outcome) (y .place) (y .added)
+      ofAddition (x .outcome) (x .place) (x .added) ≡ ofAddition (y .outcome) (y .place) (y .added)
   unfolding ruleFaults
   rule-same lent bytes =
       rule-tells (front v lent) (v .board) bytes
-      ∙ rw (good lent, a .symbols, a .rows, a .table, ← rule-tells (front u lent) (u .board) bytes)
+      ∙ rw (good lent, a .symbols, a .rows, a .rules, a .table, ← rule-tells (front u lent) (u .board) bytes)
 
   -- the same answer to every call that does not name the furnace
   same-answer : (c : Call) → names f c ≡ false → answer v c ≡ answer u c
@@ -122,7 +122,7 @@ module _ {f : ℕ} {v u : World} (s : Same f v u) where
   same-answer (blames lent g marks) n = rw (good lent, a .premises g (eqb-false g f n), a .symbols, a .rows, a .table)
   same-answer (reads lent text) n =
       reading-tells (front v lent) (v .board) text
-      ∙ rw (good lent, a .symbols, a .rows, a .table, ← reading-tells (front u lent) (u .board) text)
+      ∙ rw (good lent, a .symbols, a .rows, a .rules, a .table, ← reading-tells (front u lent) (u .board) text)
   same-answer (writes lent out) n = rw (good lent, a .symbols, a .rows, a .table)
   same-answer (readsText lent text out) n = rw (good lent, a .symbols)
   same-answer (addsText lent text) n =
@@ -143,9 +143,10 @@ module _ {f : ℕ} {v u : World} (s : Same f v u) where
       record {
         alike =
             record {
-              table = x .table ∙ rw (a .symbols, a .rows, a .table, ← y .table);
+              table = x .table ∙ rw (a .symbols, a .rows, a .rules, a .table, ← y .table);
               symbols = ap (λ (b : Board). b .symbols) (x .board) ∙ a .symbols ∙ ap (λ (b : Board). b .symbols) (sym (y .board));
-              rows = ap (λ (b : Board). b .rows) (x .board) ∙ rw (a .symbols, a .rows) (ap (λ (b : Board). b .rows) (sym (y .board)));
+              rows = ap (λ (b : Board). b .rows) (x .board) ∙ rw (a .symbols, a .rows, a .rules) (ap (λ (b : Board). b .rows) (sym (y .board)));
+              rules = ap (λ (b : Board). b .rules) (x .board) ∙ rw (a .rules) (ap (λ (b : Board). b .rules) (sym (y .board)));
               premises = λ g apart. rw (x .board, y .board) (a .premises g apart);
             };
         fit = rw (x .board, y .board) (s .fit);
@@ -157,7 +158,7 @@ module _ {f : ℕ} {v u : World} (s : Same f v u) where
   same-flagged {g = g} {l = l} {flag = flag} other x y =
       rw (x .next-is, y .next-is)
       (record {
-        alike = record { table = a .table; symbols = a .symbols; rows = a .rows; premises = λ h apart. set-same h apart (eqb g h) refl };
+        alike = record { table = a .table; symbols = a .symbols; rows = a .rows; rules = a .rules; premises = λ h apart. set-same h apart (eqb g h) refl };
         fit = flag-fits (v .board) g l flag (x .range) ∙ s .fit ∙ sym (flag-fits (u .board) g l flag (y .range));
       })
     where
@@ -184,7 +185,7 @@ module _ {f : ℕ} {v u : World} (s : Same f v u) where
   same-after : (c : Call) → changes c && names f c ≡ false → Same f (after v c) (after u c)
   unfolding after
   same-after (opens S) n =
-      record { alike = record { table = a .table; symbols = refl; rows = refl; premises = λ g apart. refl }; fit = refl }
+      record { alike = record { table = a .table; symbols = refl; rows = refl; rules = refl; premises = λ g apart. refl }; fit = refl }
   same-after (adds lent bytes) n =
       so-both (adds lent bytes) refl refl
       (λ e d.
@@ -220,6 +221,7 @@ module _ {f : ℕ} {v u : World} (s : Same f v u) where
               table = a .table;
               symbols = a .symbols;
               rows = a .rows;
+              rules = a .rules;
               premises =
                   λ h apart.
                   a .premises h apart ∙ sym (held-other (u .board) g (set (heldBy (u .board) g) (placeOf l) flag) h (λ k. apart (sym k ∙ own)));
@@ -260,7 +262,7 @@ runs-apart f {v} {u} s (c ∷ calls) =
     go false e left-out made = rw e (made e)
 
 itself : (f : ℕ) (w : World) → Same f w w
-itself f w = record { alike = record { table = refl; symbols = refl; rows = refl; premises = λ g apart. refl }; fit = refl }
+itself f w = record { alike = record { table = refl; symbols = refl; rows = refl; rules = refl; premises = λ g apart. refl }; fit = refl }
 
 pub furnaces-apart : FurnacesApart
 furnaces-apart w f calls c n =

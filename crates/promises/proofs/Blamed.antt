@@ -18,6 +18,7 @@ use Rattle.meaning.proofs.Tests.{true-or-false, clash}
 use Rattle.meaning.proofs.Literals.{has-below}
 use Rattle.meaning.proofs.Blame.{length-blame, blame-at, blamed-is, blame-held, blame-enough}
 use Rattle.literals.specs.Literal.{placeOf}
+use Rattle.literals.specs.Row.{Ruled}
 use Rattle.literals.proofs.Decoding.{length-rows}
 use Rattle.board.specs.Furnaces.{isFurnace, heldBy, withHeld}
 use Rattle.board.specs.Faults.{goodBoard, Fault}
@@ -34,7 +35,7 @@ use Rattle.promises.specs.Demands.{rowsOfWorld, premisesOf, derivedSet, 
 use Rattle.promises.specs.Demands.{BlameAlone, ConflictStays}
 use Rattle.promises.proofs.Refusals.{so-after}
 use Rattle.promises.proofs.Changes.{hold-puts, withdraw-takes}
-use Rattle.promises.proofs.Stored.{rule-appends, text-appends, read-appends}
+use Rattle.promises.proofs.Stored.{rows-grown, rule-appends, text-appends, read-appends}
 use Rattle.promises.proofs.Told.{rows-read, blame-tells}
 
 -- a premise held stays where another is put
@@ -130,11 +131,11 @@ module _ (w : World) (lent furnace : ℕ) (marks : List ℕ) (e : outcome w (bla
 
   module _ (v : World) (k : Kept v) where
     -- rules more
-    grown : {next : World} {new : List (List ℕ)} {count : ℕ} → Appends v next new count → Kept next
+    grown : {next : World} {rules : ℕ} {new : List Ruled} {count : ℕ} → Appends v next rules new count → Kept next
     grown a =
         record {
           symbols = a .symbols ∙ k .symbols;
-          rows = λ row m. rw (a .rows) (Memᴰ·append-left _ (k .rows row m));
+          rows = λ row m. rw (rows-grown a) (Memᴰ·append-left _ (k .rows row m));
           premises = λ p h. rw (a .premises furnace) (k .premises p h);
         }
 

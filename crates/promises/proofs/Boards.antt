@@ -12,7 +12,7 @@ use Rattle.meaning.specs.Clauses.{hit, implicate, prime, ofSize}
 use Rattle.meaning.specs.Rounds.{gives, next, reached, rankBy, firstGiver, supportAt, supportOf, labelsOf}
 use Rattle.meaning.specs.Ground.{reachesIn, reaches, largerRank, blamed, blame}
 use Rattle.literals.specs.Literal.{placeOf, literalAt}
-use Rattle.literals.specs.Row.{numbersAt, zeros, rising, rowSound, rowsSound, decode, rowsIn, encode}
+use Rattle.literals.specs.Row.{numbersAt, ruleAt, zeros, rising, rowSound, ruleBefore, ruleSound, rowsSound, decode, rowsIn, encode}
 use Rattle.formula.specs.Parse.{symbolAt, secondOf, bodyOf, parse, wholeOf}
 use Rattle.formula.specs.Bytes.{bytesOf}
 use Rattle.implicates.specs.Appending.{appended}
@@ -77,7 +77,7 @@ data Answer : Type 0 where
 
 -- how many numbers the table has, and how many are lent to each call: 8 rows
 abbrev pub lent : ℕ
-lent = 64
+lent = 72
 
 -- whose premises are held and asked for
 abbrev furnace : ℕ
@@ -134,7 +134,7 @@ forth = rule (0x14 ∷ 0x10 ∷ 1 ∷ 0x10 ∷ 2 ∷ [])
 abbrev otherwise : Call
 otherwise = rule (0x14 ∷ 0x11 ∷ 0x10 ∷ 1 ∷ 0x10 ∷ 2 ∷ [])
 
-abbrev back : Call
+abbrev pub back : Call
 back = rule (0x14 ∷ 0x10 ∷ 2 ∷ 0x10 ∷ 1 ∷ [])
 
 -- 1 implies 2, 2 implies 3, as clauses of a text; and a text that says that it has another clause
@@ -239,7 +239,7 @@ boards =
           ∷ (past short labels, bytes (1 ∷ 1 ∷ 1 ∷ []))
           ∷ (stops (ascii "p cnf 4 3\n-3 0\n3 -3 0\n-4 0\n"), stopped 2 2)
           ∷ (stops (ascii "p cnf 3 2\n-3 0\n0\n"), stopped 8 1)
-          ∷ (refusal (reads 16 (ascii "p cnf 3 1\n-3 0\n")), number 9)
+          ∷ (refusal (reads 18 (ascii "p cnf 3 1\n-3 0\n")), number 9)
           ∷ [],
     )
     -- "Text and bytes of one formula add the same rows." 15 "at the first offending place"; "2 and 5 carry their place in the resulting bytes"
@@ -274,5 +274,5 @@ abbrev due : List Call × List (Question × Answer) → List ℕ × List Answer
 due b = (map (λ c. 0) (b .0), map (λ q. q .1) (b .1))
 
 boards-hold : map found boards ≡ map due boards
-unfolding tell answer outcome after opp value occurs symbolsOf hit implicate prime ofSize gives next reached rankBy firstGiver supportAt supportOf labelsOf reachesIn reaches largerRank blamed blame placeOf literalAt numbersAt zeros rising rowSound rowsSound decode rowsIn encode symbolAt secondOf bodyOf parse wholeOf appended isFurnace heldBy withHeld premisesFit goodBoard openFaults opened flagFaults flagChanged ruleFaults ruled ruledTable settleFaults settleOutcome settledLabels askFaults asked explainFaults reasoned blameFaults blameOutcome blameMarks digitsOf upTo since wordsIn decimal numberOf literalOf pastComments startsWith countsIn headerIn clausesIn parseText oneOf clauseFaults clausesFaults passed textFaults readFaults readAnswer readTable spaced clauseLines textOf literalsOf clausesAt textOn writeFaults writeOutcome writeAnswer writeBytes bytesOf lead unitOf fromMark goOn more atClose closed bracketAt wholeText unitText spelled readTextFaults readTextOutcome readTextAnswer readTextBytes ruledText ruledTextTable writeTextFaults writeTextOutcome writeTextAnswer writeTextBytes
+unfolding tell answer outcome after opp value occurs symbolsOf hit implicate prime ofSize gives next reached rankBy firstGiver supportAt supportOf labelsOf reachesIn reaches largerRank blamed blame placeOf literalAt numbersAt ruleAt zeros rising rowSound ruleBefore ruleSound rowsSound decode rowsIn encode symbolAt secondOf bodyOf parse wholeOf appended isFurnace heldBy withHeld premisesFit goodBoard openFaults opened flagFaults flagChanged ruleFaults ruled ruledTable settleFaults settleOutcome settledLabels askFaults asked explainFaults reasoned blameFaults blameOutcome blameMarks digitsOf upTo since wordsIn decimal numberOf literalOf pastComments startsWith countsIn headerIn clausesIn parseText oneOf clauseFaults clausesFaults passed textFaults readFaults readAnswer readTable spaced clauseLines textOf literalsOf clausesAt textOn writeFaults writeOutcome writeAnswer writeBytes bytesOf lead unitOf fromMark goOn more atClose closed bracketAt wholeText unitText spelled readTextFaults readTextOutcome readTextAnswer readTextBytes ruledText ruledTextTable writeTextFaults writeTextOutcome writeTextAnswer writeTextBytes
 boards-hold = refl

@@ -1,60 +1,59 @@
 -- Demand 1, refusal 1: after a good open and any calls but an open, the board is good for the whole table.
-use mathlib.Core.Path.{_≡_, refl, sym, ap, _∙_}
+use mathlib.Core.Path.{_≡_, refl, sym, ap, subst, _∙_}
 use mathlib.Core.Logic.{⊎-elim}
 use mathlib.Core.Bool.{Bool, true, _&&_}
-use mathlib.Core.List.{List, [], _∷_, _++_, append-assoc}
+use mathlib.Core.List.{List, [], _∷_, _++_}
 use mathlib.Core.List.{List·Memᴰ as In, List·Memᴰ·head as here, List·Memᴰ·tail as there}
 use Prim.Native.Nat.{ℕ, zero, suc, _+_, _-_, _*_, _≤_, _<_}
 use native.Mathlib.Omega.{arith}
-use borrow.Author.Tests.{ltb-true, ltb-false}
-use lib.Dec.{leb, ltb}
+use lib.Dec.{leb}
 use lib.IntN.{ℤ}
-use lib.ListN.{length, take, drop, length-append}
-use lib.Seq.{drop-drop, take-at, drop-at}
+use lib.ListN.{length, drop, getD, length-append, length-map, List·getD-append}
+use lib.Seq.{drop-drop, drop-at, getD-append-add}
 use Rattle.meaning.specs.Tests.{all, from}
-use Rattle.meaning.specs.Formulae.{Formula}
-use Rattle.meaning.proofs.Tests.{true-or-false, both-true, clash, all-of, from-in}
-use Rattle.literals.specs.Row.{width, rowsLent, numbersAt, rowSound, rowsSound, encode, Sound}
-use Rattle.literals.proofs.Decoding.{sound-at}
-use Rattle.literals.proofs.Encoding.{length-encode, encode-sound}
+use Rattle.meaning.specs.Formulae.{Formula, Rule, ruleOf}
+use Rattle.meaning.specs.SecondWay.{rulesOf}
+use Rattle.meaning.proofs.Tests.{both-true, clash, and-intro, all-of, from-in, in-at}
+use Rattle.meaning.proofs.Tables.{le-or-lt}
+use Rattle.literals.specs.Row.{width, rowsLent, numbersAt, ruleAt, ruleBefore, rowSound, ruleSound, rowsSound, encode, Ruled, ruledIn, ofRules}
+use Rattle.literals.specs.Row.{numbered, Sound}
+use Rattle.literals.proofs.Encoding.{encode-sound}
+use Rattle.literals.proofs.RuleNumbers.{rule-sound, rule-facts}
+use Rattle.literals.proofs.RuledRows.{length-ruled, ruled-at, of-rules-range, numbers-climb}
 use Rattle.implicates.specs.Appending.{encodeAll, appended}
 use Rattle.implicates.proofs.Appending.{length-appended}
 use Rattle.board.specs.Faults.{premisesFit, goodBoard}
 use Rattle.board.specs.Changes.{openFaults, opened}
-use Rattle.board.specs.Rules.{withRows}
-use Rattle.board.proofs.Goodness.{by-premises, empty-good, flag-good}
+use Rattle.board.specs.Rules.{withRules}
+use Rattle.board.proofs.Goodness.{by-rows, empty-good, flag-good}
 use Rattle.promises.specs.Calls.{Call, opens, adds, holds, withdraws, asks, explains, settles, grounds, blames, reads, writes}
 use Rattle.promises.specs.Calls.{readsText, addsText, writesText, World, front, after, run, notOpen}
 use Rattle.promises.specs.Demands.{StaysGood}
 use Rattle.promises.proofs.Refusals.{so-after}
 use Rattle.promises.proofs.Changes.{Flagged, hold-flagged, withdraw-flagged}
-use Rattle.promises.proofs.Tested.{rowsFor, Added, sound-rows, rule-added, rule-text-added, text-added}
+use Rattle.promises.proofs.Tested.{ruledFor, Added, rule-added, rule-text-added, text-added}
 use Rattle.promises.proofs.Lent.{numbers-front, numbers-lent}
-use Rattle.promises.proofs.Stored.{kept, after-them, whole, kept-long}
+use Rattle.promises.proofs.Stored.{its-places, after-it, kept, after-them, whole, kept-long, rows-appended, new-room, new-row}
 
--- ---- rows appended to a table of sound rows
+-- ---- the literals of rows appended to a table of sound rows
 
 module _ (S : ℕ) where
   -- rows as they are written, one after the other
-  written-sound : (rows : List (List ℕ)) (rest : List ℤ) → ((row : List ℕ) → In row rows → rowSound S (encode row) ≡ true)
+  written-sound : (rows : List Ruled) (rest : List ℤ) → ((x : Ruled) → In x rows → rowSound S (encode (x .row)) ≡ true)
       → (i : ℕ) → i < length rows → rowSound S (numbersAt (encodeAll rows ++ rest) i) ≡ true
   unfolding numbersAt
   written-sound [] rest fine i h = absurd (omega arith)
-  written-sound (row ∷ rows) rest fine zero h =
-      let first : take width ((encode row ++ encodeAll rows) ++ rest) ≡ encode row =
-      ap (take width) (append-assoc (encode row) (encodeAll rows) rest) ∙ take-at (encode row) (encodeAll rows ++ rest) width (length-encode row) in
-      rw first (fine row (here refl))
-  written-sound (row ∷ rows) rest fine (suc i) h =
+  written-sound (x ∷ rows) rest fine zero h = rw (its-places x rows rest) (fine x (here refl))
+  written-sound (x ∷ rows) rest fine (suc i) h =
       let e : width + width * i ≡ width * suc i = omega arith in
-      let later : drop (width * suc i) ((encode row ++ encodeAll rows) ++ rest) ≡ drop (width * i) (encodeAll rows ++ rest) =
-      ap (drop (width * suc i)) (append-assoc (encode row) (encodeAll rows) rest)
-      ∙ ap (λ (k : ℕ). drop k (encode row ++ (encodeAll rows ++ rest))) (sym e)
-      ∙ sym (drop-drop (width * i) width (encode row ++ (encodeAll rows ++ rest)))
-      ∙ ap (drop (width * i)) (drop-at (encode row) (encodeAll rows ++ rest) width (length-encode row)) in
+      let later : drop (width * suc i) ((numbered x ++ encodeAll rows) ++ rest) ≡ drop (width * i) (encodeAll rows ++ rest) =
+      ap (λ (k : ℕ). drop k ((numbered x ++ encodeAll rows) ++ rest)) (sym e)
+      ∙ sym (drop-drop (width * i) width ((numbered x ++ encodeAll rows) ++ rest))
+      ∙ ap (drop (width * i)) (after-it x rows rest) in
       rw later (written-sound rows rest (λ r m. fine r (there m)) i (omega arith))
 
-  module _ (table rest : List ℤ) (used : ℕ) (rows : List (List ℕ)) (room : width * (used + length rows) ≤ length table)
-      (fine : (row : List ℕ) → In row rows → rowSound S (encode row) ≡ true) (s : Sound S used table) where
+  module _ (table rest : List ℤ) (used : ℕ) (rows : List Ruled) (room : width * (used + length rows) ≤ length table)
+      (fine : (x : Ruled) → In x rows → rowSound S (encode (x .row)) ≡ true) (s : Sound S used table) where
     abbrev front-rows : List ℤ
     front-rows = kept table rest used rows room
 
@@ -64,7 +63,7 @@ module _ (S : ℕ) where
     old-sound : (r : ℕ) → r < used → rowSound S (numbersAt (front-rows ++ new-rows) r) ≡ true
     old-sound r h =
         let long = kept-long table rest used rows room in
-        rw (numbers-front front-rows new-rows r (omega arith), numbers-lent (width * used) used table (omega arith) r h) (sound-at S used table s r h)
+        rw (numbers-front front-rows new-rows r (omega arith), numbers-lent (width * used) used table (omega arith) r h) (s .sound r h)
 
     new-sound : (r : ℕ) → used ≤ r → r < used + length rows → rowSound S (numbersAt (front-rows ++ new-rows) r) ≡ true
     unfolding numbersAt
@@ -76,14 +75,67 @@ module _ (S : ℕ) where
         ∙ ap (drop (width * (r - used))) (drop-at front-rows new-rows (width * used) (kept-long table rest used rows room)) in
         rw later (written-sound rows (after-them table rest used rows room) fine (r - used) (omega arith))
 
-    appended-sound : rowsSound S (used + length rows) (appended table used rows ++ rest) ≡ true
-    unfolding rowsSound
-    appended-sound =
-        rw (whole table rest used rows room)
-        (all-of (λ r. rowSound S (numbersAt (front-rows ++ new-rows) r)) (from 0 (used + length rows))
-        (λ r m.
-        ⊎-elim (λ e. old-sound r (ltb-true r used e)) (λ e. new-sound r (ltb-false r used e) (omega (arith, from-in 0 (used + length rows) r m .1)))
-        (true-or-false (ltb r used))))
+    literals-sound : (r : ℕ) → r < used + length rows → rowSound S (numbersAt (appended table used rows ++ rest) r) ≡ true
+    literals-sound r h = rw (whole table rest used rows room) (⊎-elim (λ l. new-sound r l h) (λ l. old-sound r l) (le-or-lt used r))
+
+-- ---- and the numbers of their rules: those before are at most the count of rules, and the new ones go on above it
+
+module _ (rules : ℕ) (new : List Rule) (used : ℕ) (table after : List ℤ) (old : (r : ℕ) → r < used → ruleSound rules table r ≡ true)
+    (is : ruledIn (used + length (ofRules (suc rules) new)) after ≡ ruledIn used table ++ ofRules (suc rules) new) where
+  abbrev added : List Ruled
+  added = ofRules (suc rules) new
+
+  abbrev nothing : Ruled
+  nothing = record { rule = 0; row = [] }
+
+  -- the number at r, of those before or of the new ones
+  number-is : (r : ℕ) → r < used + length added → ruleAt after r ≡ getD (ruledIn used table ++ added) r nothing .rule
+  number-is r h =
+      ap (λ (x : Ruled). x .rule) (sym (ruled-at (used + length added) after nothing r h) ∙ ap (λ (xs : List Ruled). getD xs r nothing) is)
+
+  old-number : (r : ℕ) → r < used → ruleAt after r ≡ ruleAt table r
+  old-number r h =
+      let long = length-ruled used table in
+      number-is r (omega arith)
+      ∙ ap (λ (x : Ruled). x .rule) (List·getD-append (ruledIn used table) added nothing r (omega arith) ∙ ruled-at used table nothing r h)
+
+  new-number : (r : ℕ) → used ≤ r → r < used + length added → ruleAt after r ≡ getD added (r - used) nothing .rule
+  new-number r low high =
+      let e : r ≡ length (ruledIn used table) + (r - used) = omega (arith, length-ruled used table) in
+      number-is r high
+      ∙ ap (λ (x : Ruled). x .rule) (ap (λ (k : ℕ). getD (ruledIn used table ++ added) k nothing) e
+      ∙ getD-append-add (ruledIn used table) added (r - used) nothing)
+
+  new-range : (r : ℕ) → used ≤ r → r < used + length added → (suc rules ≤ ruleAt after r) × (ruleAt after r ≤ rules + length new)
+  new-range r low high =
+      let f = of-rules-range (suc rules) new (in-at added (r - used) nothing (omega arith)) in
+      (omega (arith, new-number r low high, f .0), omega (arith, new-number r low high, f .1))
+
+  old-before : (r : ℕ) → r < used → ruleBefore after r ≡ ruleBefore table r
+  unfolding ruleBefore
+  old-before zero h = refl
+  old-before (suc r) h = old-number r (omega arith)
+
+  new-before : (r : ℕ) → used ≤ r → r < used + length added → ruleBefore after r ≤ ruleAt after r
+  unfolding ruleBefore
+  new-before zero low high = omega (arith, new-range zero low high .0)
+  new-before (suc r) low high =
+      ⊎-elim
+      (λ l. rw (new-number r l (omega arith), new-number (suc r) low high)
+      (numbers-climb (suc rules) new nothing (r - used) (suc r - used) (omega arith) (omega arith)))
+      (λ l. omega (arith, old-number r l, rule-facts rules table r (old r l) .1, new-range (suc r) low high .0))
+      (le-or-lt used r)
+
+  numbers-sound : (r : ℕ) → r < used + length added → ruleSound (rules + length new) after r ≡ true
+  numbers-sound r h =
+      ⊎-elim
+      (λ l. (let range = new-range r l h in
+      rule-sound (rules + length new) after r (omega (arith, range .0)) (range .1) (new-before r l h)))
+      (λ l. (let facts = rule-facts rules table r (old r l) in
+      let same = old-number r l in
+      rule-sound (rules + length new) after r (omega (arith, same, facts .0)) (omega (arith, same, facts .1))
+      (omega (arith, same, old-before r l, facts .2))))
+      (le-or-lt used r)
 
 -- ---- a call
 
@@ -101,23 +153,32 @@ module _ (w : World) (g : Whole w) where
   flagged-good {furnace = furnace} {l = l} {flag = flag} f =
       rw (f .next-is, flag-good (w .board) furnace l flag (f .range) (w .table)) g
 
-  -- the rows of accepted rules are sound, and lie in the part that the call was lent
+  -- the rows of accepted rules are sound, and lie in the part that the call was lent; their numbers go on from those before
   added-good : {next : World} {lent : ℕ} {fs : List Formula} {count : ℕ} → Added w next lent fs count → Whole next
-  unfolding premisesFit
+  unfolding premisesFit rowsSound
   added-good {lent = lent} {fs = fs} a =
-      let S = w .board .symbols in
-      let rows = rowsFor w fs in
+      let b = w .board in
+      let S = b .symbols in
+      let rows = ruledFor w fs in
       let part = front w lent in
       let rest = drop lent (w .table) in
-      let room : width * (w .board .rows + length rows) ≤ length part = omega (arith, a .fits) in
-      let fine : (row : List ℕ) → In row rows → rowSound S (encode row) ≡ true =
-      λ row m. let x = sound-rows S fs (a .accepted) row m in encode-sound S row (x .some) (x .rising) (x .below) in
-      let fits : w .board .rows + length rows ≤ rowsLent (appended part (w .board .rows) rows ++ rest) =
-      omega (arith, a .fits, length-append (appended part (w .board .rows) rows) rest, length-appended part (w .board .rows) rows room) in
+      let room = new-room a in
+      let rules = b .rules + length fs in
+      let table = appended part (b .rows) rows ++ rest in
+      let fine : (x : Ruled) → In x rows → rowSound S (encode (x .row)) ≡ true =
+      λ x m. let sound = new-row a x m in encode-sound S (x .row) (sound .some) (sound .rising) (sound .below) in
+      let same = rows-appended part rest (b .rows) rows room (λ x m. new-row a x m .most) in
+      let counted : length (rulesOf S fs) ≡ length fs = length-map fs (ruleOf S) in
+      let each : (r : ℕ) → r < b .rows + length rows → rowSound S (numbersAt table r) && ruleSound rules table r ≡ true =
+      λ r h. and-intro (rowSound S (numbersAt table r)) (ruleSound rules table r) (literals-sound S part rest (b .rows) rows room fine (a .good .sound) r h)
+      (subst (λ (n : ℕ). ruleSound (b .rules + n) table r ≡ true) counted
+      (numbers-sound (b .rules) (rulesOf S fs) (b .rows) part table (a .good .numbers) same r h)) in
+      let fits : b .rows + length rows ≤ rowsLent table = omega (arith, a .fits, length-append (appended part (b .rows) rows) rest, length-appended part (b .rows) rows room) in
+      let sound : rowsSound S rules (b .rows + length rows) table ≡ true =
+      all-of (λ r. rowSound S (numbersAt table r) && ruleSound rules table r) (from 0 (b .rows + length rows))
+      (λ r m. each r (omega (arith, from-in 0 (b .rows + length rows) r m .1))) in
       rw (a .board, a .table)
-      (by-premises (appended part (w .board .rows) rows ++ rest) (withRows (w .board) (length rows)) (a .good .some) (a .good .sound .symbols) fits
-      (appended-sound S part rest (w .board .rows) rows room fine (a .good .sound))
-      ∙ a .good .fit)
+      (by-rows table (withRules b (length rows) (length fs)) (a .good .some) (a .good .sound .symbols) (a .counted) fits ∙ rw sound (a .good .fit))
 
   step : (c : Call) → notOpen c ≡ true → Whole (after w c)
   unfolding after

@@ -1,37 +1,45 @@
--- What is so after an open and any calls: the rows in use are those of the rules accepted since the last open.
-use mathlib.Core.Path.{_≡_, refl, _∙_}
+-- What is so after an open and any calls: the rows in use are those of the rules accepted since the last open, each with its rule's number.
+use mathlib.Core.Path.{_≡_, refl, sym, ap, _∙_}
 use mathlib.Core.Logic.{⊎-elim}
 use mathlib.Core.Bool.{Bool, true, false}
-use mathlib.Core.List.{List, [], _∷_, _++_, map-append}
-use Prim.Native.Nat.{ℕ}
+use mathlib.Core.List.{List, [], _∷_, _++_, map, map-append}
+use Prim.Native.Nat.{ℕ, suc, _+_}
+use native.Mathlib.Omega.{arith}
 use lib.IntN.{ℤ}
+use lib.ListN.{length, length-append, length-map}
 use Rattle.meaning.specs.Tests.{all}
 use Rattle.meaning.specs.Formulae.{Formula, ruleOf}
 use Rattle.meaning.specs.Clauses.{allRows}
 use Rattle.meaning.specs.SecondWay.{accepted, rulesOf}
 use Rattle.meaning.proofs.Tests.{and-intro, all-append}
-use Rattle.meaning.proofs.Rows.{all-rows-append}
-use Rattle.literals.specs.Row.{rowsIn}
+use Rattle.literals.specs.Row.{Ruled, ruledIn, ofRules}
+use Rattle.literals.proofs.RuledRows.{rows-of-table, rows-of-rules, of-rules-append}
 use Rattle.board.specs.Furnaces.{withHeld}
 use Rattle.board.specs.Faults.{firstFault, ifDone}
 use Rattle.board.specs.Changes.{emptyBoard, openFaults, opened, withFlag}
 use Rattle.board.specs.declared.Outcome.the-variants.{Done}
 use Rattle.promises.specs.Calls.{Call, opens, adds, holds, withdraws, asks, explains, settles, grounds, blames, reads, writes}
 use Rattle.promises.specs.Calls.{readsText, addsText, writesText, World, outcome, after, run, rulesAfter, rulesAfterAll, notOpen}
-use Rattle.promises.specs.Demands.{rowsOfWorld, since, acceptedSince}
+use Rattle.promises.specs.Demands.{rowsOfWorld, ruledRows, since, acceptedSince}
 use Rattle.promises.proofs.Refusals.{done-or-refused, so-refused, so-after}
 use Rattle.promises.proofs.Changes.{hold-puts, withdraw-takes}
 use Rattle.promises.proofs.Tested.{Added, rule-added, rule-text-added, text-added}
 use Rattle.promises.proofs.Stored.{appends}
 
 pub record Keeps (w : World) (fs : List Formula) : Type 0 where
-  pub rows : rowsOfWorld w ≡ allRows (rulesOf (w .board .symbols) fs)
+  pub ruled : ruledRows w ≡ ofRules 1 (rulesOf (w .board .symbols) fs)
+  pub count : w .board .rules ≡ length fs
   pub fine : all (accepted (w .board .symbols)) fs ≡ true
+
+-- so the rows are the rules'
+pub rows-kept : {w : World} {fs : List Formula} → Keeps w fs → rowsOfWorld w ≡ allRows (rulesOf (w .board .symbols) fs)
+rows-kept {w} {fs} k =
+    sym (rows-of-table (w .board .rows) (w .table)) ∙ ap (map (λ (r : Ruled). r .row)) (k .ruled) ∙ rows-of-rules 1 (rulesOf (w .board .symbols) fs)
 
 -- an open, good or refused, leaves no rows in use
 empty : (S : ℕ) (table : List ℤ) → Keeps (record { board = emptyBoard S; table = table }) []
-unfolding rowsIn
-empty S table = record { rows = refl; fine = refl }
+unfolding ruledIn
+empty S table = record { ruled = refl; count = refl; fine = refl }
 
 open-step : (w : World) (S : ℕ) → Keeps (after w (opens S)) []
 unfolding after opened
@@ -45,15 +53,19 @@ module _ (w : World) (fs : List Formula) (k : Keeps w fs) where
   -- the premises don't matter
   flagged : (furnace : ℕ) (l : ℤ) (flag : Bool) → Keeps (record { board = withFlag (w .board) furnace l flag; table = w .table }) fs
   unfolding withHeld
-  flagged furnace l flag = record { rows = k .rows; fine = k .fine }
+  flagged furnace l flag = record { ruled = k .ruled; count = k .count; fine = k .fine }
 
   -- accepted rules more, and their rows
   more : {next : World} {lent : ℕ} {new : List Formula} {count : ℕ} → Added w next lent new count → Keeps next (fs ++ new)
   more {new = new} a =
       let S = w .board .symbols in
       let grown = appends a in
+      let next-number : suc (w .board .rules) ≡ 1 + length (rulesOf S fs) = omega (arith, k .count, length-map fs (ruleOf S)) in
       record {
-        rows = grown .rows ∙ rw (grown .symbols, k .rows, map-append (ruleOf S) fs new, all-rows-append (rulesOf S fs) (rulesOf S new));
+        ruled =
+            grown .rows
+            ∙ rw (grown .symbols, k .ruled, next-number, map-append (ruleOf S) fs new, of-rules-append 1 (rulesOf S fs) (rulesOf S new));
+        count = omega (arith, grown .counted, k .count, length-append fs new);
         fine = rw (grown .symbols, all-append (accepted S) fs new) (and-intro (all (accepted S) fs) (all (accepted S) new) (k .fine) (a .accepted));
       }
 

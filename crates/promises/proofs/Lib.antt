@@ -15,9 +15,11 @@ pub mod FormulaTexts
 pub mod Explained
 pub mod Bounded
 mod History
+pub mod Numbered
 pub mod Good
 pub mod Ways
 pub mod Apart
 mod Boards
 mod TwoFurnaces
+mod NumberedBoards
 mod Carried

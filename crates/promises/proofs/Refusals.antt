@@ -175,7 +175,7 @@ unfolding faults reasoned explained readAnswer answer outcome writeAnswer readTe
 refused-hands-back w lent why =
     record {
       rule = λ bytes e. rule-refused w lent bytes why e .0;
-      explain = λ furnace l e. (let f = cases w (explains lent furnace l) e in (rw f, rw f, rw f, rw f));
+      explain = λ furnace l e. (let f = cases w (explains lent furnace l) e in (rw f, rw f, rw f, rw f, rw f));
       read = λ text e. rw (cases w (reads lent text) e);
       write = λ out e. rw e;
       read-text = λ text out e. rw e;

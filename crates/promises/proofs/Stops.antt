@@ -3,7 +3,7 @@ use mathlib.Core.Path.{_≡_, refl, sym, ap, _∙_}
 use mathlib.Core.Bool.{Bool, true, false, cond}
 use mathlib.Core.List.{List, [], _∷_, _++_, map}
 use mathlib.Core.Logic.{_≢_, _⊎_, inl, inr}
-use Prim.Native.Nat.{ℕ, _+_}
+use Prim.Native.Nat.{ℕ, suc, _+_}
 use native.Mathlib.Nat.{add-zero}
 use native.Mathlib.Omega.{arith}
 use lib.IntN.{ℤ}
@@ -34,44 +34,45 @@ module _ (S lent : ℕ) (why : Refusal) where
   abbrev behind : ℕ → List ℤ → ℕ
   behind used c = used + length (rowsOfClause S c)
 
-  abbrev others : ℕ → List ℤ → List (List ℤ) → List Fault
-  others used c cs = clausesFaults S (behind used c) lent cs
+  abbrev others : (used rules : ℕ) → List ℤ → List (List ℤ) → List Fault
+  others used rules c cs = clausesFaults S (behind used c) (suc rules) lent cs
 
-  module _ (used : ℕ) (c : List ℤ) (cs : List (List ℤ)) where
+  module _ (used rules : ℕ) (c : List ℤ) (cs : List (List ℤ)) where
     -- the first clause is at fault
-    stops-here : firstFault (clauseFaults S used lent c) ≡ Refused why → StopsAt S used lent (c ∷ cs) why (passed S used lent (c ∷ cs))
+    stops-here : firstFault (clauseFaults S used rules lent c) ≡ Refused why → StopsAt S used rules lent (c ∷ cs) why (passed S used rules lent (c ∷ cs))
     unfolding clausesFaults passed
-    stops-here e = rw e (record { stands = omega arith; before = refl; at = rw add-zero e })
+    stops-here e = rw e (record { stands = omega arith; before = refl; at = rw (add-zero, add-zero) e })
 
     -- it is not, and with its rows in use another is
-    stops-later : firstFault (clauseFaults S used lent c) ≡ Done → StopsAt S (behind used c) lent cs why (passed S (behind used c) lent cs)
-        → StopsAt S used lent (c ∷ cs) why (passed S used lent (c ∷ cs))
+    stops-later : firstFault (clauseFaults S used rules lent c) ≡ Done → StopsAt S (behind used c) (suc rules) lent cs why (passed S (behind used c) (suc rules) lent cs)
+        → StopsAt S used rules lent (c ∷ cs) why (passed S used rules lent (c ∷ cs))
     unfolding clausesFaults passed
     stops-later e s =
-        let k = passed S (behind used c) lent cs in
+        let k = passed S (behind used c) (suc rules) lent cs in
         let rows = allRows (rulesOf S (map oneOf (take k cs))) in
         let sum : used + length (rowsOfClause S c ++ rows) ≡ behind used c + length rows = omega (arith, length-append (rowsOfClause S c) rows) in
+        let count : rules + suc k ≡ suc rules + k = omega arith in
         rw e
         (record {
           stands = omega (arith, s .stands);
-          before = first-append (clauseFaults S used lent c) (others used c (take k cs)) ∙ rw e (s .before);
-          at = rw sum (s .at);
+          before = first-append (clauseFaults S used rules lent c) (others used rules c (take k cs)) ∙ rw e (s .before);
+          at = rw (sum, count) (s .at);
         })
 
-  stops : (used : ℕ) (cs : List (List ℤ)) → firstFault (clausesFaults S used lent cs) ≡ Refused why
-      → StopsAt S used lent cs why (passed S used lent cs)
+  stops : (used rules : ℕ) (cs : List (List ℤ)) → firstFault (clausesFaults S used rules lent cs) ≡ Refused why
+      → StopsAt S used rules lent cs why (passed S used rules lent cs)
   unfolding clausesFaults
-  stops used [] e = let z : _≡_ {A = ℕ} 0 1 = cc in absurd (omega arith)
-  stops used (c ∷ cs) e =
-      go (firstFault (clauseFaults S used lent c)) refl (sym (first-append (clauseFaults S used lent c) (others used c cs)) ∙ e)
-      (λ f. stops (behind used c) cs f)
+  stops used rules [] e = let z : _≡_ {A = ℕ} 0 1 = cc in absurd (omega arith)
+  stops used rules (c ∷ cs) e =
+      go (firstFault (clauseFaults S used rules lent c)) refl (sym (first-append (clauseFaults S used rules lent c) (others used rules c cs)) ∙ e)
+      (λ f. stops (behind used c) (suc rules) cs f)
     where
-      go : (o : Outcome) → firstFault (clauseFaults S used lent c) ≡ o
-          → ifDone o (firstFault (others used c cs)) (λ other. Refused other) ≡ Refused why
-          → (firstFault (others used c cs) ≡ Refused why → StopsAt S (behind used c) lent cs why (passed S (behind used c) lent cs))
-          → StopsAt S used lent (c ∷ cs) why (passed S used lent (c ∷ cs))
-      go Done o e rest = stops-later used c cs o (rest e)
-      go (Refused other) o e rest = stops-here used c cs (o ∙ e)
+      go : (o : Outcome) → firstFault (clauseFaults S used rules lent c) ≡ o
+          → ifDone o (firstFault (others used rules c cs)) (λ other. Refused other) ≡ Refused why
+          → (firstFault (others used rules c cs) ≡ Refused why → StopsAt S (behind used c) (suc rules) lent cs why (passed S (behind used c) (suc rules) lent cs))
+          → StopsAt S used rules lent (c ∷ cs) why (passed S used rules lent (c ∷ cs))
+      go Done o e rest = stops-later used rules c cs o (rest e)
+      go (Refused other) o e rest = stops-here used rules c cs (o ∙ e)
 
 -- ---- of a text
 
@@ -79,7 +80,7 @@ module _ (w : World) (lent : ℕ) (text : List ℕ) (why : Refusal) (e : outcome
     (board : numberOf why ≢ 1) (form : numberOf why ≢ 15) where
   abbrev Stops : Type 0
   Stops =
-      StopsAt (w .board .symbols) (w .board .rows) (rowsLent (front w lent)) (clausesOf (parseText text)) why
+      StopsAt (w .board .symbols) (w .board .rows) (w .board .rules) (rowsLent (front w lent)) (clausesOf (parseText text)) why
       (readAnswer (front w lent) (w .board) text .clauses)
 
   first : firstFault (readFaults (front w lent) (w .board) text) ≡ Refused why
@@ -95,7 +96,7 @@ module _ (w : World) (lent : ℕ) (text : List ℕ) (why : Refusal) (e : outcome
       go true false is kept = absurd (form (sym (ap numberIn (rw (is, kept) at first))))
       go true true is kept =
           let clauses = clausesOf (parseText text) in
-          rw (first, is) (stops (w .board .symbols) (rowsLent (front w lent)) why (w .board .rows) clauses (rw (is, kept) at first))
+          rw (first, is) (stops (w .board .symbols) (rowsLent (front w lent)) why (w .board .rows) (w .board .rules) clauses (rw (is, kept) at first))
 
 pub read-stops : ReadStops
 read-stops w lent text why e board form = at-clause w lent text why e board form
@@ -107,7 +108,7 @@ read-counts w lent text e =
     let done = text-done w lent text e in
     let clauses = read-clauses part (w .board) text done in
     rw (done, read-good part (w .board) text done)
-    (clauses-passed (w .board .symbols) (w .board .rows) (rowsLent part) (clausesOf (parseText text)) clauses)
+    (clauses-passed (w .board .symbols) (w .board .rows) (w .board .rules) (rowsLent part) (clausesOf (parseText text)) clauses)
 
 -- where the board or the form is at fault, none
 pub read-tells-none : ReadTellsNone
@@ -118,7 +119,7 @@ read-tells-none w lent text h =
     clauses-told table b text ∙ go (goodBoard table b) (parseText text) h
   where
     go : (g : Bool) (p : Parsed) → (g ≡ false) ⊎ (isGood p ≡ false)
-        → cond g (passed (w .board .symbols) (w .board .rows) (rowsLent (front w lent)) (clausesOf p)) 0 ≡ 0
+        → cond g (passed (w .board .symbols) (w .board .rows) (w .board .rules) (rowsLent (front w lent)) (clausesOf p)) 0 ≡ 0
     go false p h = refl
     go true broken h = refl
     go true (good variables clauses) (inl e) = clash refl e

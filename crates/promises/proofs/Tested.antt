@@ -2,11 +2,11 @@
 use mathlib.Core.Path.{_≡_, refl, sym, subst}
 use mathlib.Core.Bool.{true, _&&_}
 use mathlib.Core.List.{List, [], _∷_, _++_, append-nil, Memᴰ·of-map, List·Memᴰ as In}
-use Prim.Native.Nat.{ℕ, _+_, _≤_}
+use Prim.Native.Nat.{ℕ, suc, _+_, _≤_}
 use native.Mathlib.Omega.{arith}
 use borrow.Author.Tests.{leb-true, not-false}
 use lib.Dec.{leb}
-use lib.ListN.{length, drop}
+use lib.ListN.{length, drop, length-map}
 use Rattle.meaning.specs.Tests.{all}
 use Rattle.meaning.specs.Formulae.{Formula, inside, symbolsOf, Rule, ruleOf}
 use Rattle.meaning.specs.Clauses.{rowsOf, allRows, satisfiable}
@@ -15,20 +15,23 @@ use Rattle.meaning.proofs.Tests.{and-intro, all-at, clash}
 use Rattle.meaning.proofs.Rows.{all-rows-in}
 use Rattle.meaning.proofs.SoundRows.{SoundRow, rows-sound}
 use Rattle.meaning.proofs.Forced.{accepted-words}
-use Rattle.literals.specs.Row.{width, rowsLent}
+use Rattle.literals.specs.Row.{mostLiterals, mostRules, rowsLent, Ruled, ofRule, ofRules}
+use Rattle.literals.proofs.RuledRows.{length-of-rule, length-of-rules}
 use Rattle.formula.specs.Parse.{Parsed, good, bad, wholeOf}
 use Rattle.formula.specs.Answers.{isGood, formulaOf}
 use Rattle.formula.proofs.Widening.{whole-read}
-use Rattle.implicates.specs.Appending.{appended}
+use Rattle.implicates.specs.Appending.{fits, appended}
+use Rattle.implicates.proofs.Rules.{fits-facts}
 use Rattle.board.specs.Faults.{goodBoard, firstFault}
-use Rattle.board.specs.Rules.{ruleFaults, withRows, ruled, ruledTable}
+use Rattle.board.specs.Rules.{ruleFaults, withRules, ruled, ruledTable}
 use Rattle.board.specs.declared.Outcome.the-variants.{Done}
 use Rattle.board.proofs.Goodness.{Good, good-is}
 use Rattle.board.proofs.Answered.{none-given}
 use Rattle.dimacs.specs.Form.{clausesOf, parseText}
+use Rattle.dimacs.specs.Clauses.{oneOf}
 use Rattle.dimacs.specs.Reading.{formulaeIn, readFaults, readAnswer, readTable}
 use Rattle.dimacs.proofs.FirstFaults.{clauses-accepted}
-use Rattle.dimacs.proofs.ClauseCount.{read-clauses, read-fits, read-good}
+use Rattle.dimacs.proofs.ClauseCount.{read-clauses, read-fits, read-rules, read-good}
 use Rattle.chains.specs.Form.{wholeText}
 use Rattle.text.specs.Reading.{bytesIn, readIn}
 use Rattle.text.specs.Adding.{ruledText}
@@ -37,21 +40,22 @@ use Rattle.promises.specs.Calls.{adds, reads, addsText, World, front, fa
 use Rattle.promises.proofs.RuleTexts.{done-same}
 use Rattle.promises.proofs.Refusals.{cases}
 
--- the rows of rules on a world's board
-abbrev pub rowsFor : World → List Formula → List (List ℕ)
-rowsFor w fs = allRows (rulesOf (w .board .symbols) fs)
+-- the rows of rules, with the numbers that they get on a world's board
+abbrev pub ruledFor : World → List Formula → List Ruled
+ruledFor w fs = ofRules (suc (w .board .rules)) (rulesOf (w .board .symbols) fs)
 
 -- a call that was lent `lent` numbers of the table and left the world `next` has added the rules of these formulae, and told so many rows
 pub record Added (w next : World) (lent : ℕ) (fs : List Formula) (count : ℕ) : Type 0 where
   pub good : Good (front w lent) (w .board)
   pub accepted : all (accepted (w .board .symbols)) fs ≡ true
-  pub fits : w .board .rows + length (rowsFor w fs) ≤ rowsLent (front w lent)
-  pub told : count ≡ length (rowsFor w fs)
-  pub board : next .board ≡ withRows (w .board) (length (rowsFor w fs))
-  pub table : next .table ≡ appended (front w lent) (w .board .rows) (rowsFor w fs) ++ drop lent (w .table)
+  pub fits : w .board .rows + length (ruledFor w fs) ≤ rowsLent (front w lent)
+  pub counted : w .board .rules + length fs ≤ mostRules
+  pub told : count ≡ length (ruledFor w fs)
+  pub board : next .board ≡ withRules (w .board) (length (ruledFor w fs)) (length fs)
+  pub table : next .table ≡ appended (front w lent) (w .board .rows) (ruledFor w fs) ++ drop lent (w .table)
 
--- the rows of accepted rules are sound, and none has more literals than a row has numbers
-pub sound-rows : (S : ℕ) (fs : List Formula) → all (accepted S) fs ≡ true → (row : List ℕ) → In row (allRows (rulesOf S fs)) → SoundRow S width row
+-- the rows of accepted rules are sound, and none has more literals than a row has places for
+pub sound-rows : (S : ℕ) (fs : List Formula) → all (accepted S) fs ≡ true → (row : List ℕ) → In row (allRows (rulesOf S fs)) → SoundRow S mostLiterals row
 sound-rows S fs ok row m =
     let rule = all-rows-in (rulesOf S fs) row m in
     let f = Memᴰ·of-map (ruleOf S) fs (rule .1) in
@@ -83,9 +87,14 @@ rule-added w lent bytes e =
     let f = formulaIn S bytes in
     let done : firstFault (ruleFaults part (w .board) bytes) ≡ Done = cases w (adds lent bytes) e in
     let given = none-given (ruleFaults part (w .board) bytes) done in
-    let one = append-nil (rowsOf (ruleOf S f)) in
+    let rows = rowsOf (ruleOf S f) in
+    let one = append-nil (ofRule (suc (w .board .rules)) rows) in
+    let long : length rows ≡ length (ofRule (suc (w .board .rules)) rows) = sym (length-of-rule (suc (w .board .rules)) rows) in
+    let good = good-is part (w .board) (not-false (goodBoard part (w .board)) (given 0)) in
+    let enough = fits-facts (w .board .rows) (w .board .rules) (rowsLent part) rows
+    (not-false (fits (w .board .rows) (w .board .rules) (rowsLent part) rows) (given 4)) in
     record {
-      good = good-is part (w .board) (not-false (goodBoard part (w .board)) (given 0));
+      good = good;
       accepted =
           and-intro (accepted S f) true
           (and-intro (inside S f && leb (length (symbolsOf S f)) 8) (satisfiable (ruleOf S f))
@@ -93,9 +102,10 @@ rule-added w lent bytes e =
           (not-false (leb (length (symbolsOf S f)) 8) (given 2)))
           (not-false (satisfiable (ruleOf S f)) (given 3)))
           refl;
-      fits = rw one (leb-true _ _ (not-false (leb (w .board .rows + length (rowsOf (ruleOf S f))) (rowsLent part)) (given 4)));
-      told = rw (done, one);
-      board = rw (done, one);
+      fits = rw (one, ← long) (enough .0);
+      counted = omega (arith, enough .1, good .few);
+      told = rw (done, one, ← long);
+      board = rw (done, one, ← long);
       table = rw (done, one);
     }
 
@@ -133,11 +143,13 @@ module _ (w : World) (lent : ℕ) (text : List ℕ) (e : outcome w (reads lent t
   text-added =
       let part = front w lent in
       let clauses = read-clauses part (w .board) text text-done in
+      let long = length-of-rules (suc (w .board .rules)) (rulesOf (w .board .symbols) (formulaeIn (parseText text))) in
       record {
         good = good-is part (w .board) (read-good part (w .board) text text-done);
-        accepted = clauses-accepted (w .board .symbols) (w .board .rows) (rowsLent part) (clausesOf (parseText text)) clauses;
-        fits = read-fits part (w .board) text text-done;
-        told = rw text-done;
-        board = rw text-done;
+        accepted = clauses-accepted (w .board .symbols) (w .board .rows) (w .board .rules) (rowsLent part) (clausesOf (parseText text)) clauses;
+        fits = rw long (read-fits part (w .board) text text-done);
+        counted = rw (length-map (clausesOf (parseText text)) oneOf) (read-rules part (w .board) text text-done);
+        told = rw (text-done, long);
+        board = rw (text-done, long, length-map (clausesOf (parseText text)) oneOf);
         table = rw text-done;
       }

@@ -11,7 +11,7 @@ use Rattle.meaning.specs.Formulae.{value, occurs, symbolsOf}
 use Rattle.meaning.specs.Clauses.{hit, implicate, prime, ofSize}
 use Rattle.meaning.specs.Rounds.{gives, next, reached, rankBy, firstGiver, supportAt, supportOf, ranksOf, supportsOf, labelsOf}
 use Rattle.literals.specs.Literal.{placeOf, literalAt}
-use Rattle.literals.specs.Row.{numbersAt, zeros, rising, rowSound, rowsSound, decode, rowsIn, encode}
+use Rattle.literals.specs.Row.{numbersAt, ruleAt, zeros, rising, rowSound, ruleBefore, ruleSound, rowsSound, decode, rowsIn, encode}
 use Rattle.formula.specs.Parse.{symbolAt, secondOf, bodyOf, parse, wholeOf}
 use Rattle.formula.specs.Bytes.{bytesOf}
 use Rattle.implicates.specs.Appending.{appended}
@@ -198,5 +198,5 @@ abbrev due : World × List Call × List (Question × Found) → List ℕ × List
 due b = (map (λ c. 0) (b .1), map (λ q. q .1) (b .2))
 
 two-furnaces-hold : map found boards ≡ map due boards
-unfolding tell outcome answer after opp value occurs symbolsOf hit implicate prime ofSize gives next reached rankBy firstGiver supportAt supportOf ranksOf supportsOf labelsOf placeOf literalAt numbersAt zeros rising rowSound rowsSound decode rowsIn encode symbolAt secondOf bodyOf parse wholeOf appended isFurnace heldBy withHeld premisesFit goodBoard openFaults opened flagFaults flagChanged ruleFaults ruled ruledTable settleFaults settleOutcome settledLabels settledRanks settledSupports askFaults asked explainFaults reasoned groundFaults groundOutcome blameFaults blameOutcome digitsOf upTo since wordsIn decimal numberOf literalOf pastComments startsWith countsIn headerIn clausesIn parseText oneOf clauseFaults clausesFaults passed textFaults readFaults readAnswer spaced clauseLines textOf literalsOf clausesAt textOn writeFaults writeOutcome writeAnswer bytesOf lead unitOf fromMark goOn more atClose closed bracketAt wholeText unitText spelled readTextFaults readTextOutcome readTextAnswer ruledText writeTextFaults writeTextOutcome writeTextAnswer
+unfolding tell outcome answer after opp value occurs symbolsOf hit implicate prime ofSize gives next reached rankBy firstGiver supportAt supportOf ranksOf supportsOf labelsOf placeOf literalAt numbersAt ruleAt zeros rising rowSound ruleBefore ruleSound rowsSound decode rowsIn encode symbolAt secondOf bodyOf parse wholeOf appended isFurnace heldBy withHeld premisesFit goodBoard openFaults opened flagFaults flagChanged ruleFaults ruled ruledTable settleFaults settleOutcome settledLabels settledRanks settledSupports askFaults asked explainFaults reasoned groundFaults groundOutcome blameFaults blameOutcome digitsOf upTo since wordsIn decimal numberOf literalOf pastComments startsWith countsIn headerIn clausesIn parseText oneOf clauseFaults clausesFaults passed textFaults readFaults readAnswer spaced clauseLines textOf literalsOf clausesAt textOn writeFaults writeOutcome writeAnswer bytesOf lead unitOf fromMark goOn more atClose closed bracketAt wholeText unitText spelled readTextFaults readTextOutcome readTextAnswer ruledText writeTextFaults writeTextOutcome writeTextAnswer
 two-furnaces-hold = refl

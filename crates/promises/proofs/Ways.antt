@@ -15,13 +15,13 @@ use Rattle.meaning.proofs.Rounds.{reached-length}
 use Rattle.meaning.proofs.DemandThree.{demand-three, demand-three-computed}
 use Rattle.promises.specs.Demands.{rowsOfWorld, since, acceptedSince, premisesOf, derivedSet, WaysAgree, SettleAgrees}
 use Rattle.promises.proofs.Told.{label-at}
-use Rattle.promises.proofs.History.{keeps}
+use Rattle.promises.proofs.History.{rows-kept, keeps}
 
 pub ways-agree : WaysAgree
 ways-agree w₀ S calls held =
     let w = since w₀ S calls in
     let k = keeps w₀ S calls in
-    rw (k .rows) (demand-three (w .board .symbols) (acceptedSince w₀ S calls) held (k .fine))
+    rw (rows-kept k) (demand-three (w .board .symbols) (acceptedSince w₀ S calls) held (k .fine))
 
 -- ---- in labels: some symbol has label 3 exactly if there is a conflict
 
@@ -65,7 +65,7 @@ settle-agrees w₀ S calls lent furnace labels ranks supports e =
     let known = secondWay (w .board .symbols) (acceptedSince w₀ S calls) (premisesOf w furnace) in
     let k = keeps w₀ S calls in
     let found = demand-three-computed (w .board .symbols) (acceptedSince w₀ S calls) (premisesOf w furnace) (k .fine) in
-    let both : conflict (derivedSet w furnace) ≡ conflict known = rw (k .rows) (found .conflicts) in
+    let both : conflict (derivedSet w furnace) ≡ conflict known = rw (rows-kept k) (found .conflicts) in
     let here = label-at w lent furnace labels ranks supports e in
     let long = reached-length (2 * w .board .symbols) (byRows (rowsOfWorld w)) (premisesOf w furnace) (2 * w .board .symbols) in
     record {
@@ -75,5 +75,5 @@ settle-agrees w₀ S calls lent furnace labels ranks supports e =
             (let r = conflict-three (derivedSet w furnace) (w .board .symbols) long (both ∙ c) in
             (r .0, r .1, r .2, here (r .0) (r .1) (r .2) ∙ r .3)),
       );
-      same = λ peace s low high. here s low high ∙ rw (k .rows) (found .labels (rw (k .rows) at (both ∙ peace)) s);
+      same = λ peace s low high. here s low high ∙ rw (rows-kept k) (found .labels (rw (rows-kept k) at (both ∙ peace)) s);
     }

@@ -86,7 +86,7 @@ askOutcome (Unasked why) = Refused why
 -- it is lent. Explain's part is told by where it lies in the clause table.
 pub data Answer : Type 0 where
   ofChange : Outcome → Answer
-  ofRule : Outcome → (place added : ℕ) → Answer
+  ofAddition : Outcome → (place added : ℕ) → Answer
   ofReading : Outcome → (clauses added : ℕ) → Answer
   ofWriting : Writing → (out : List ℕ) → Answer
   ofSpelling : Spelling → (out : List ℕ) → Answer
@@ -97,7 +97,7 @@ pub data Answer : Type 0 where
 
 unfoldable pub answer : World → Call → Answer
 answer w (opens S) = ofChange (opened S .outcome)
-answer w (adds lent bytes) = let a = ruled (front w lent) (w .board) bytes in ofRule (a .outcome) (a .place) (a .added)
+answer w (adds lent bytes) = let a = ruled (front w lent) (w .board) bytes in ofAddition (a .outcome) (a .place) (a .added)
 answer w (holds lent furnace l) = ofChange (held (front w lent) (w .board) furnace l .outcome)
 answer w (withdraws lent furnace l) = ofChange (withdrawn (front w lent) (w .board) furnace l .outcome)
 answer w (asks lent furnace l) = ofAsk (asked (front w lent) (w .board) furnace l)
@@ -115,14 +115,14 @@ answer w (reads lent text) = let a = readAnswer (front w lent) (w .board) text i
 answer w (writes lent out) = ofWriting (writeAnswer (front w lent) (w .board) out) (writeBytes (front w lent) (w .board) out)
 answer w (readsText lent text out) =
     ofSpelling (readTextAnswer (front w lent) (w .board) text out) (readTextBytes (front w lent) (w .board) text out)
-answer w (addsText lent text) = let a = ruledText (front w lent) (w .board) text in ofRule (a .outcome) (a .place) (a .added)
+answer w (addsText lent text) = let a = ruledText (front w lent) (w .board) text in ofAddition (a .outcome) (a .place) (a .added)
 answer w (writesText lent bytes out) =
     ofSpelling (writeTextAnswer (front w lent) (w .board) bytes out) (writeTextBytes (front w lent) (w .board) bytes out)
 
 -- what a call comes to, as its own answer tells it
 abbrev pub outcomeOf : Answer → Outcome
 outcomeOf (ofChange o) = o
-outcomeOf (ofRule o place added) = o
+outcomeOf (ofAddition o place added) = o
 outcomeOf (ofReading o clauses added) = o
 outcomeOf (ofWriting w out) = w .outcome
 outcomeOf (ofSpelling s out) = s .outcome

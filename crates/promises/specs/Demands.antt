@@ -3,20 +3,20 @@ use mathlib.Core.Path.{_≡_}
 use mathlib.Core.Logic.{_↔_, _≢_, _⊎_}
 use mathlib.Core.Bool.{Bool, true, false, cond, _&&_, _||_}
 use mathlib.Core.List.{List, [], _∷_, _++_, map, List·Memᴰ as In}
-use Prim.Native.Nat.{ℕ, _+_, _-_, _*_, _≤_, _<_}
+use Prim.Native.Nat.{ℕ, suc, _+_, _-_, _*_, _≤_, _<_}
 use lib.Dec.{leb}
 use lib.IntN.{ℤ}
 use lib.ListN.{length, take, drop, getD}
 use Rattle.meaning.specs.Tests.{all}
 use Rattle.meaning.specs.Literals.{place, has, conflict}
-use Rattle.meaning.specs.Formulae.{Formula, ruleOf}
+use Rattle.meaning.specs.Formulae.{Formula, symbol, ruleOf}
 use Rattle.meaning.specs.Clauses.{rowsOf, allRows}
 use Rattle.meaning.specs.Rounds.{label}
 use Rattle.meaning.specs.Ground.{reaches, ground, blame}
 use Rattle.meaning.specs.SecondWay.{secondWay, rulesOf}
 use Rattle.meaning.specs.Promises.{Earliest, Derived, Forced, TwoWays}
 use Rattle.literals.specs.Literal.{placeOf}
-use Rattle.literals.specs.Row.{width, rowsLent, decode}
+use Rattle.literals.specs.Row.{width, rowsLent, numbersAt, ruleAt, decode, Ruled, ruledIn, ofRule, ofRules, withNumber}
 use Rattle.literals.specs.Refusals.{numberOf}
 use Rattle.literals.specs.declared.refusal.Refusal.{Refusal}
 use Rattle.formula.specs.Promises.{Breaks}
@@ -33,7 +33,7 @@ use Rattle.board.specs.Grounds.{byteOf, groundMarks, blameMarks}
 use Rattle.board.specs.declared.Outcome.the-variants.{Done, Refused}
 use Rattle.dimacs.specs.Form.{isGood, clausesOf, parseText}
 use Rattle.dimacs.specs.Clauses.{oneOf, clauseFaults, clausesFaults}
-use Rattle.dimacs.specs.Reading.{rowsOfText, readAnswer}
+use Rattle.dimacs.specs.Reading.{formulaeIn, readAnswer}
 use Rattle.dimacs.specs.Writing.{textOn, writeAnswer, writeBytes}
 use Rattle.chains.specs.Form.{wholeText}
 use Rattle.chains.specs.Promises.{Says, Offends}
@@ -58,7 +58,7 @@ abbrev pub DoneExactly : Type 0
 DoneExactly = (w : World) (c : Call) → (outcome w c ≡ Done) ↔ ((f : Fault) → In f (faults w c) → f .given ≡ false)
 
 -- what a refused call leaves: board and table as they were, "except that a refused open returns a board with S = 0, no rows in use
--- and no premises"
+-- and no premises". 02, Ticket 8: "every open, a refused one too, sets the count to 0"
 abbrev pub asBefore : World → Call → World
 asBefore w c = cond (notOpen c) w (record { board = emptyBoard 0; table = w .table })
 
@@ -84,11 +84,12 @@ abbrev pub RefusedUnwritten : Type 0
 RefusedUnwritten = (w : World) (lent : ℕ) (why : Refusal) → Unwritten w lent why
 
 -- what it hands back besides: a rule, in bytes or in text, and a DIMACS text read no rows; a DIMACS text written, and formula text read or written, no
--- bytes; "A refused explain hands back the empty part at the table's front, and 65535 for rank and row number."
+-- bytes; "A refused explain hands back the empty part at the table's front, and 65535 for rank and row number", and 0 for the rule's (02, Ticket 8)
 pub record HandedBack (w : World) (lent : ℕ) (why : Refusal) : Type 0 where
   pub rule : (bytes : List ℕ) → outcome w (adds lent bytes) ≡ Refused why → ruled (front w lent) (w .board) bytes .added ≡ 0
   pub explain : (furnace : ℕ) (l : ℤ) → outcome w (explains lent furnace l) ≡ Refused why
       → (reasoned (front w lent) (w .board) furnace l .rank ≡ 65535) × (reasoned (front w lent) (w .board) furnace l .row ≡ 65535)
+      × (reasoned (front w lent) (w .board) furnace l .rule ≡ 0)
       × (explained (front w lent) (w .board) furnace l .start ≡ 0) × (explained (front w lent) (w .board) furnace l .stop ≡ 0)
   pub read : (text : List ℕ) → outcome w (reads lent text) ≡ Refused why → readAnswer (front w lent) (w .board) text .added ≡ 0
   pub write : (out : List ℕ) → outcome w (writes lent out) ≡ Refused why → writeAnswer (front w lent) (w .board) out .bytes ≡ 0
@@ -113,17 +114,18 @@ NoPlaceElse =
     (w : World) (lent : ℕ) (bytes : List ℕ) → let number = numberIn (outcome w (adds lent bytes)) in
     (number < 2) ⊎ (6 < number) → ruled (front w lent) (w .board) bytes .place ≡ noPlace
 
--- 02, Ticket 2: "for the first clause at fault, 2, 7, 8, 9": the clauses told come before it and have no fault, with the rows of each in use for
--- the next
-pub record StopsAt (S used lent : ℕ) (clauses : List (List ℤ)) (why : Refusal) (k : ℕ) : Type 0 where
+-- 02, Ticket 2: "for the first clause at fault, 2, 7, 8, 9": the clauses told come before it and have no fault, with the rows of each in use, and
+-- each counted, for the next
+pub record StopsAt (S used rules lent : ℕ) (clauses : List (List ℤ)) (why : Refusal) (k : ℕ) : Type 0 where
   pub stands : k < length clauses
-  pub before : firstFault (clausesFaults S used lent (take k clauses)) ≡ Done
-  pub at : firstFault (clauseFaults S (used + length (allRows (rulesOf S (map oneOf (take k clauses))))) lent (getD clauses k [])) ≡ Refused why
+  pub before : firstFault (clausesFaults S used rules lent (take k clauses)) ≡ Done
+  pub at : firstFault (clauseFaults S (used + length (allRows (rulesOf S (map oneOf (take k clauses))))) (rules + k) lent (getD clauses k []))
+      ≡ Refused why
 
 abbrev pub ReadStops : Type 0
 ReadStops =
     (w : World) (lent : ℕ) (text : List ℕ) (why : Refusal) → outcome w (reads lent text) ≡ Refused why → numberOf why ≢ 1 → numberOf why ≢ 15
-    → StopsAt (w .board .symbols) (w .board .rows) (rowsLent (front w lent)) (clausesOf (parseText text)) why
+    → StopsAt (w .board .symbols) (w .board .rows) (w .board .rules) (rowsLent (front w lent)) (clausesOf (parseText text)) why
     (readAnswer (front w lent) (w .board) text .clauses)
 
 -- where the reading is done they are all the clauses
@@ -162,7 +164,8 @@ WriteTextPlaces =
 
 -- ---- demand 2: what the calls leave
 
--- "A good open touches no row; rows in use and premises start empty." 02, Ticket 6: "opening empties both sets"
+-- "A good open touches no row; rows in use and premises start empty." 02, Ticket 6: "opening empties both sets"; and Ticket 8: "every open, a refused
+-- one too, sets the count to 0"
 abbrev pub OpenLeaves : Type 0
 OpenLeaves = (w : World) (S : ℕ) → outcome w (opens S) ≡ Done → after w (opens S) ≡ record { board = emptyBoard S; table = w .table }
 
@@ -186,13 +189,19 @@ premisesOf w furnace = heldBy (w .board) furnace
 abbrev pub rowsOfWorld : World → List (List ℕ)
 rowsOfWorld w = rowsOn (w .table) (w .board)
 
--- a good call that adds rules: `new` are their prime implicates, as rows
-pub record Appends (w next : World) (new : List (List ℕ)) (added : ℕ) : Type 0 where
+-- and with the numbers of their rules
+abbrev pub ruledRows : World → List Ruled
+ruledRows w = ruledIn (w .board .rows) (w .table)
+
+-- a good call that adds so many rules: `new` are their prime implicates, as rows with the rules' numbers
+pub record Appends (w next : World) (rules : ℕ) (new : List Ruled) (added : ℕ) : Type 0 where
   -- "The rows stored for a rule are all its prime implicates and no others": the rows in use are those before, and then the new ones
-  pub rows : rowsOfWorld next ≡ rowsOfWorld w ++ new
+  pub rows : ruledRows next ≡ ruledRows w ++ new
   -- so many are told, and so many more are in use
   pub told : added ≡ length new
   pub used : next .board .rows ≡ w .board .rows + length new
+  -- "A board counts its accepted rules"
+  pub counted : next .board .rules ≡ w .board .rules + rules
   -- "adding a rule changes neither S nor the premises", those of both furnaces
   pub symbols : next .board .symbols ≡ w .board .symbols
   pub premises : (furnace : ℕ) → premisesOf next furnace ≡ premisesOf w furnace
@@ -203,14 +212,17 @@ pub record Appends (w next : World) (new : List (List ℕ)) (added : ℕ) : Type
 abbrev pub RuleAppends : Type 0
 RuleAppends =
     (w : World) (lent : ℕ) (bytes : List ℕ) → outcome w (adds lent bytes) ≡ Done
-    → Appends w (after w (adds lent bytes)) (rowsOf (ruleOf (w .board .symbols) (formulaIn (w .board .symbols) bytes)))
+    → Appends w (after w (adds lent bytes)) 1
+    (ofRule (suc (w .board .rules)) (rowsOf (ruleOf (w .board .symbols) (formulaIn (w .board .symbols) bytes))))
     (ruled (front w lent) (w .board) bytes .added)
 
 -- 02, Ticket 2: "Each clause is added as one rule, in order."
 abbrev pub ReadAppends : Type 0
 ReadAppends =
     (w : World) (lent : ℕ) (text : List ℕ) → outcome w (reads lent text) ≡ Done
-    → Appends w (after w (reads lent text)) (rowsOfText (w .board .symbols) (parseText text)) (readAnswer (front w lent) (w .board) text .added)
+    → let clauses = formulaeIn (parseText text) in
+    Appends w (after w (reads lent text)) (length clauses) (ofRules (suc (w .board .rules)) (rulesOf (w .board .symbols) clauses))
+    (readAnswer (front w lent) (w .board) text .added)
 
 -- 02, Ticket 5: "Text and bytes of one formula add the same rows": the two calls answer the same and leave the same
 abbrev pub TextIsBytes : Type 0
@@ -231,7 +243,8 @@ OneFormula =
 abbrev pub TextAppends : Type 0
 TextAppends =
     (w : World) (lent : ℕ) (text : List ℕ) → outcome w (addsText lent text) ≡ Done
-    → Appends w (after w (addsText lent text)) (rowsOf (ruleOf (w .board .symbols) (formulaOf (wholeText text))))
+    → Appends w (after w (addsText lent text)) 1
+    (ofRule (suc (w .board .rules)) (rowsOf (ruleOf (w .board .symbols) (formulaOf (wholeText text)))))
     (ruledText (front w lent) (w .board) text .added)
 
 -- ---- demand 2: what the calls tell, "over the rows in the table and the premises then held, in 01's rounds". 02, Ticket 6: "From here demands 2
@@ -284,10 +297,11 @@ AskTells =
     (w : World) (lent furnace : ℕ) (l : ℤ) → outcome w (asks lent furnace l) ≡ Done
     → asked (front w lent) (w .board) furnace l ≡ standing (derivedSet w furnace) (placeOf l)
 
--- the rank and the row number, and the literals of that row
+-- the rank, the row number, the number of that row's rule, and the literals of that row
 pub record Explains (w : World) (lent furnace : ℕ) (l : ℤ) : Type 0 where
   pub rank : reasoned (front w lent) (w .board) furnace l .rank ≡ rankIn w furnace (placeOf l)
   pub row : reasoned (front w lent) (w .board) furnace l .row ≡ supportIn w furnace (placeOf l)
+  pub rule : reasoned (front w lent) (w .board) furnace l .rule ≡ ruleAt (w .table) (supportIn w furnace (placeOf l))
   pub part : let span = explained (front w lent) (w .board) furnace l in
       decode (take (span .stop - span .start) (drop (span .start) (w .table))) ≡ getD (rowsOfWorld w) (supportIn w furnace (placeOf l)) []
 
@@ -366,13 +380,16 @@ WriteTells =
     → let text = textOn (w .table) (w .board) in
     (writeAnswer (front w lent) (w .board) out .bytes ≡ length text) × (writeBytes (front w lent) (w .board) out ≡ text ++ drop (length text) out)
 
--- "Reading what was written onto a new board of equal S gives the same rows, if as many are lent."
+-- "Reading what was written onto a new board of equal S gives the same rows, if as many are lent": the same literals, from Ticket 8 on. Each row is a
+-- rule of its own, so row r, from 0, has the number r + 1
 abbrev pub RoundTrip : Type 0
 RoundTrip =
     (w : World) (lent : ℕ) (out : List ℕ) (v : World) (room : ℕ) → outcome w (writes lent out) ≡ Done → w .board .rows ≤ rowsLent (front v room)
     → let text = take (writeAnswer (front w lent) (w .board) out .bytes) (writeBytes (front w lent) (w .board) out) in
     let new = after v (opens (w .board .symbols)) in
-    (outcome new (reads room text) ≡ Done) × (rowsOfWorld (after new (reads room text)) ≡ rowsOfWorld w)
+    let read = after new (reads room text) in
+    (outcome new (reads room text) ≡ Done) × (rowsOfWorld read ≡ rowsOfWorld w) × (read .board .rules ≡ w .board .rows)
+    × ((r : ℕ) → r < w .board .rows → ruleAt (read .table) r ≡ suc r)
 
 -- 02, Ticket 5: a text that is read leaves its formula's bytes, and the bytes beyond them stay
 abbrev pub ReadTextTells : Type 0
@@ -414,6 +431,7 @@ pub record Alike (furnace : ℕ) (v u : World) : Type 0 where
   pub table : v .table ≡ u .table
   pub symbols : v .board .symbols ≡ u .board .symbols
   pub rows : v .board .rows ≡ u .board .rows
+  pub rules : v .board .rules ≡ u .board .rules
   pub premises : (other : ℕ) → other ≢ furnace → premisesOf v other ≡ premisesOf u other
 
 -- Of any sequence of calls, leave out every hold and withdraw for one furnace, wherever they stand. Then every call that does not name that furnace
@@ -455,11 +473,68 @@ SettleAgrees =
     → LabelsAgree (w .board .symbols) (settledLabels (front w lent) (w .board) furnace labels ranks supports)
     (secondWay (w .board .symbols) (acceptedSince w₀ S calls) (premisesOf w furnace))
 
+-- ---- 02, Ticket 8: "Which rule is this row from?"
+
+-- the rows in use that carry the number i, in their order
+abbrev pub rowsOfRule : World → (i : ℕ) → List (List ℕ)
+rowsOfRule w i = withNumber i (ruledRows w)
+
+-- what the numbers say, where these are the formulae of the rules accepted since the last open
+pub record Numbers (w : World) (fs : List Formula) : Type 0 where
+  -- the board counts the rules,
+  pub count : w .board .rules ≡ length fs
+  -- the rows in use are those of the rules, from 1 "in order of acceptance, rules with no rows counted":
+  pub ruled : ruledRows w ≡ ofRules 1 (rulesOf (w .board .symbols) fs)
+  -- the rows that carry the number i + 1 are exactly the prime implicates, in order, of the rule at i, from 0; of a rule with no rows there are none,
+  pub rows : (i : ℕ) → i < length fs → rowsOfRule w (suc i) ≡ rowsOf (ruleOf (w .board .symbols) (getD fs i (symbol 0)))
+  -- and no row carries a number that is no rule's
+  pub range : (r : ℕ) → r < w .board .rows → (1 ≤ ruleAt (w .table) r) × (ruleAt (w .table) r ≤ length fs)
+
+abbrev pub RuleNumbers : Type 0
+RuleNumbers = (w₀ : World) (S : ℕ) (calls : List Call) → Numbers (since w₀ S calls) (acceptedSince w₀ S calls)
+
+-- so explain's number names the rule that the mark stands on: it is the supporting row's own, and that row is one of the rule's prime implicates
+abbrev pub ExplainNames : Type 0
+ExplainNames =
+    (w₀ : World) (S : ℕ) (calls : List Call) (lent furnace : ℕ) (l : ℤ)
+    → let w = since w₀ S calls in
+    let fs = acceptedSince w₀ S calls in
+    let number = reasoned (front w lent) (w .board) furnace l .rule in
+    outcome w (explains lent furnace l) ≡ Done
+    → (number ≡ ruleAt (w .table) (supportIn w furnace (placeOf l))) × (1 ≤ number) × (number ≤ length fs)
+    × In (getD (rowsOfWorld w) (supportIn w furnace (placeOf l)) []) (rowsOf (ruleOf (w .board .symbols) (getD fs (number - 1) (symbol 0))))
+
+-- two worlds of one S, with the same premises and the same literals in the rows in use; the numbers of the rules, their count and the rest of the
+-- table may differ
+pub record SameLiterals (v w : World) : Type 0 where
+  pub symbols : v .board .symbols ≡ w .board .symbols
+  pub rows : v .board .rows ≡ w .board .rows
+  pub premises : (furnace : ℕ) → premisesOf v furnace ≡ premisesOf w furnace
+  pub literals : (r : ℕ) → r < v .board .rows → numbersAt (v .table) r ≡ numbersAt (w .table) r
+
+-- are told the same: every label, rank, support, ground and blame, how each literal stands, and the DIMACS text; of what explain tells all but the
+-- rule's number
+pub record SameTold (v w : World) (lent furnace : ℕ) : Type 0 where
+  pub settle : (labels ranks supports : List ℕ) → let c = settles lent furnace labels ranks supports in answer v c ≡ answer w c
+  pub ask : (l : ℤ) → answer v (asks lent furnace l) ≡ answer w (asks lent furnace l)
+  pub ground : (l : ℤ) (marks : List ℕ) → answer v (grounds lent furnace l marks) ≡ answer w (grounds lent furnace l marks)
+  pub blame : (marks : List ℕ) → answer v (blames lent furnace marks) ≡ answer w (blames lent furnace marks)
+  pub explain : (l : ℤ) → let a = reasoned (front v lent) (v .board) furnace l in let b = reasoned (front w lent) (w .board) furnace l in
+      (a .outcome ≡ b .outcome) × (a .rank ≡ b .rank) × (a .row ≡ b .row)
+      × (explained (front v lent) (v .board) furnace l ≡ explained (front w lent) (w .board) furnace l)
+  -- "DIMACS text leaves rule numbers out"
+  pub write : (out : List ℕ) → answer v (writes lent out) ≡ answer w (writes lent out)
+
+abbrev pub NumbersApart : Type 0
+NumbersApart =
+    (v w : World) (lent furnace : ℕ) → SameLiterals v w → goodBoard (front v lent) (v .board) ≡ true → goodBoard (front w lent) (w .board) ≡ true
+    → SameTold v w lent furnace
+
 -- ---- demand 1: a board that the calls made is a good one
 
 -- Refusal 1 is for "S is outside 1 to 200, rows in use exceed rows lent, a row in use isn't sound, or a held premise is of a symbol
--- beyond S". After a good open and any calls but an open none of these is so, by the whole table and of either furnace's premises: a caller who
--- lends it whole to the next call never meets refusal 1.
+-- beyond S", and "also for a count above 32,767". After a good open and any calls but an open none of these is so, by the whole table and of either
+-- furnace's premises: a caller who lends it whole to the next call never meets refusal 1.
 abbrev pub StaysGood : Type 0
 StaysGood =
     (w₀ : World) (S : ℕ) (calls : List Call) → leb 1 S && leb S 200 ≡ true → all notOpen calls ≡ true

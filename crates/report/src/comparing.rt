@@ -53,6 +53,9 @@ pub fn same_board(a: Board, b: Board) -> bool {
     if a.rows != b.rows {
         return false;
     }
+    if a.rules != b.rules {
+        return false;
+    }
     if !same_flags(&a.first, &b.first) {
         return false;
     }

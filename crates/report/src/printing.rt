@@ -64,17 +64,17 @@ pub fn numbers(row: &[i16]) {
 }
 
 // The rows of a table from row `from` on, `count` of them.
-fn rows(table: &[i16], from: usize, count: usize) {
+pub fn rows(table: &[i16], from: usize, count: usize) {
     let mut row = 0;
     let mut at = 0;
-    while table.len() - at >= 8 {
+    while table.len() - at >= 9 {
         if row >= from {
             if row - from < count {
-                numbers(&table[at..at + 8]);
+                numbers(&table[at..at + 9]);
             }
         }
         row += 1;
-        at += 8;
+        at += 9;
     }
 }
 
@@ -145,6 +145,7 @@ fn premises(held: &[bool]) {
 pub fn board(b: Board) {
     counted(b" S", b.symbols);
     counted(b" rows", b.rows);
+    counted(b" rules", b.rules);
     text(b" held");
     premises(&b.first);
     text(b" and");

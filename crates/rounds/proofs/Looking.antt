@@ -4,7 +4,7 @@ use mathlib.Core.Path.{_≡_, refl, sym, ap, _∙_}
 use mathlib.Core.Logic.{_⊎_, ⊎-elim}
 use mathlib.Core.Bool.{Bool, true, false, _&&_, _||_, or-false}
 use mathlib.Core.List.{List, [], _∷_, _++_, List·Memᴰ as In, List·Memᴰ·head as here, List·Memᴰ·tail as there, Memᴰ·append-left, Memᴰ·append-right}
-use mathlib.Core.List.{List·Memᴰ·cases-cons as in-cons, List·Memᴰ·not-nil as in-nil, List·Memᴰ·append-cases, List·Memᴰ·eq-of-singleton}
+use mathlib.Core.List.{List·Memᴰ·not-nil as in-nil, List·Memᴰ·append-cases, List·Memᴰ·eq-of-singleton}
 use native.Mathlib.Nat.{le-of-suc-le-suc, not-suc-le-zero}
 use native.Mathlib.Omega.{arith}
 use lib.Dec.{eqb}
@@ -14,6 +14,7 @@ use Rattle.meaning.specs.Tests.{member, none, tabulate}
 use Rattle.meaning.specs.Literals.{opp, has}
 use Rattle.meaning.specs.Rounds.{gives, byRows}
 use Rattle.meaning.proofs.Tests.{same-test, any-found, any-at, any-append}
+use Rattle.meaning.proofs.Tables.{tabulate-in}
 use Rattle.literals.specs.Row.{numbersAt, decode, rowsIn}
 use Rattle.findings.specs.Ranks.{below}
 use Rattle.rounds.specs.Ranks.{mark, ranksAfter}
@@ -26,11 +27,6 @@ in-tabulate : {A : Type 0} (n : ℕ) (f : ℕ → A) (i : ℕ) → i < n → In 
 in-tabulate zero f i h = absurd (not-suc-le-zero h)
 in-tabulate (suc n) f zero h = here refl
 in-tabulate (suc n) f (suc i) h = there (in-tabulate n (λ j. f (suc j)) i (le-of-suc-le-suc h))
-
-tabulate-in : {A : Type 0} (n : ℕ) (f : ℕ → A) {x : A} → In x (tabulate n f) → (i : ℕ) × (i < n) × (x ≡ f i)
-tabulate-in zero f m = absurd (in-nil m)
-tabulate-in (suc n) f m =
-    ⊎-elim (λ e. (zero, omega arith, e)) (λ t. (let r = tabulate-in n (λ j. f (suc j)) t in (suc (r .0), omega (arith, r .1), r .2))) (in-cons m)
 
 pub row-of : (used : ℕ) (table : List ℤ) (r : ℕ) → r < used → In (decode (numbersAt table r)) (rowsIn used table)
 unfolding rowsIn

@@ -13,7 +13,7 @@ use borrow.Author.Tests.{lt-ltb, le-ltb}
 use Rattle.meaning.specs.Tests.{none}
 use Rattle.meaning.specs.Rounds.{gives}
 use Rattle.meaning.proofs.Tables.{le-or-lt}
-use Rattle.literals.specs.Row.{width, numbersAt, decode, Fit}
+use Rattle.literals.specs.Row.{mostLiterals, numbersAt, decode, Fit}
 use Rattle.index.specs.Index.{Contains, Index}
 use Rattle.findings.specs.Ranks.{below}
 use Rattle.findings.proofs.Queueing.{same-or-not}
@@ -54,7 +54,7 @@ fallen-struck n old was = ⊎-elim few more (le-or-lt n 2)
 pub record Visited (k used : ℕ) (table : List ℤ) (p : ℕ) (old ranks : List ℕ) (cell : ℕ) (new after : List ℕ) : Type 0 where
   pub way : Along used table p cell (λ r. Fallen (getD new r 0) (getD old r 0))
   pub others : (r : ℕ) → (getD new r 0 ≡ getD old r 0) ⊎ (Contains table r p × Fallen (getD new r 0) (getD old r 0))
-  pub looked : Looked k used table (λ r. (r < cell / width) × Contains table r p × (getD new r 0 ≤ 1)) ranks after
+  pub looked : Looked k used table (λ r. (r < cell / mostLiterals) × Contains table r p × (getD new r 0 ≤ 1)) ranks after
 
 module _ {places used : ℕ} {table : List ℤ} {heads links : List ℕ} (fit : Fit places used table) (index : Index places used table heads links)
     {k p : ℕ} {old ranks : List ℕ} where
@@ -70,17 +70,17 @@ module _ {places used : ℕ} {table : List ℤ} {heads links : List ℕ} (fit : 
 
   module _ {cell : ℕ} {new after : List ℕ} (w : Visited k used table p old ranks cell new after) where
     -- the list rises
-    pub visited-rises : cell < width * used → cell < getD links cell 0
+    pub visited-rises : cell < mostLiterals * used → cell < getD links cell 0
     visited-rises inside = along-rises fit index (w .way) inside
 
-    pub visited-linked : cell < width * used → cell < length links
+    pub visited-linked : cell < mostLiterals * used → cell < length links
     visited-linked inside = along-linked fit index (w .way) inside
 
     -- one cell more: its row is struck
-    module _ (inside : cell < width * used) (long : length new ≡ used) {next : List ℕ}
-        (is : next ≡ set new (cell / width) (struck (getD new (cell / width) 0))) where
+    module _ (inside : cell < mostLiterals * used) (long : length new ≡ used) {next : List ℕ}
+        (is : next ≡ set new (cell / mostLiterals) (struck (getD new (cell / mostLiterals) 0))) where
       abbrev row : ℕ
-      row = cell / width
+      row = cell / mostLiterals
 
       abbrev n : ℕ
       n = getD new row 0
@@ -100,7 +100,7 @@ module _ {places used : ℕ} {table : List ℤ} {heads links : List ℕ} (fit : 
       falls-low low = ⊎-elim (λ h. h) (λ h. absurd (omega (arith, low, here, struck-more n h, h))) (le-or-lt n 2)
 
       -- of the rows before the next cell, one is that of the cell, and the others that contain p are before it
-      reached : (r : ℕ) → r < used → r < getD links cell 0 / width → Contains table r p → (r < row) ⊎ (r ≡ row)
+      reached : (r : ℕ) → r < used → r < getD links cell 0 / mostLiterals → Contains table r p → (r < row) ⊎ (r ≡ row)
       reached =
           let both : Along used table p (getD links cell 0) (λ r. (r < row) ⊎ (r ≡ row)) =
           along-link fit index (w .way) inside (λ r b f. inl b) (inr refl) in
@@ -108,7 +108,7 @@ module _ {places used : ℕ} {table : List ℤ} {heads links : List ℕ} (fit : 
 
       -- it is looked at where two literals or fewer were left
       pub visited-more : {last : List ℕ} → k < none
-          → last ≡ cond (ltb 2 (getD new (cell / width) 0)) after (mark k (gives (below k after) (decode (numbersAt table (cell / width)))) after)
+          → last ≡ cond (ltb 2 (getD new (cell / mostLiterals) 0)) after (mark k (gives (below k after) (decode (numbersAt table (cell / mostLiterals)))) after)
           → Visited k used table p old ranks (getD links cell 0) next last
       visited-more {last} small given =
           record {
@@ -121,7 +121,7 @@ module _ {places used : ℕ} {table : List ℤ} {heads links : List ℕ} (fit : 
           }
         where
           Due : ℕ → Type 0
-          Due r = (r < getD links cell 0 / width) × Contains table r p × (getD next r 0 ≤ 1)
+          Due r = (r < getD links cell 0 / mostLiterals) × Contains table r p × (getD next r 0 ≤ 1)
 
           few : n ≤ 2 → Looked k used table Due ranks last
           few h =
@@ -138,10 +138,10 @@ module _ {places used : ℕ} {table : List ℤ} {heads links : List ℕ} (fit : 
               (reached r b (d .0) (d .1))))
 
     -- at the end all rows that contain p are behind
-    pub visited-looked : width * used ≤ cell → Looked k used table (λ r. Contains table r p × (getD new r 0 ≤ 1)) ranks after
+    pub visited-looked : mostLiterals * used ≤ cell → Looked k used table (λ r. Contains table r p × (getD new r 0 ≤ 1)) ranks after
     visited-looked past = looked-less (w .looked) (λ r h d. (omega (arith, h, past), d .0, d .1))
 
-    pub visited-struck : width * used ≤ cell → Struck used table p old new
+    pub visited-struck : mostLiterals * used ≤ cell → Struck used table p old new
     visited-struck past =
         record {
           less = λ r h m. along-end fit index (w .way) past r h m;

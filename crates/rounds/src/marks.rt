@@ -12,6 +12,7 @@ ghost use Rattle.findings.specs.Queue.{Room, Queued};
 ghost use Rattle.rounds.specs.Queue.{ranked};
 ghost use Rattle.rounds.specs.Ranks.{openIn, mark};
 use findings::NONE;
+use literals::MOST_LITERALS;
 use literals::WIDTH;
 
 // Which literals of a row have an opposite without a rank below some k.
@@ -30,7 +31,7 @@ fn open_in(table: &[i16], row: usize, ranks: &[u16], k: u16) -> Open
     let base = WIDTH * row;
     let mut one: i16 = 0;
     let mut j = 0;
-    while j < WIDTH {
+    while j < MOST_LITERALS {
         let l = table[base + j];
         if l == 0 {
             break;
@@ -83,7 +84,7 @@ pub fn mark_all(
     let base = WIDTH * row;
     let mut next = end;
     let mut j = 0;
-    while j < WIDTH {
+    while j < MOST_LITERALS {
         let l = table[base + j];
         if l == 0 {
             break;

@@ -6,7 +6,7 @@ ghost use Prim.Native.Nat.{_+_, _*_, _≤_};
 ghost use lib.ListN.{length, replicate};
 ghost use Rattle.meaning.specs.Tests.{none, tabulate};
 ghost use Rattle.meaning.specs.Rounds.{ranksOf, supportOf};
-ghost use Rattle.literals.specs.Row.{width, rowsIn, Fit};
+ghost use Rattle.literals.specs.Row.{mostLiterals, rowsIn, Fit};
 ghost use Rattle.findings.specs.Reach.{reachedAsked};
 use crate::ranks::rank_all;
 use crate::ranks::start_ranks;
@@ -15,7 +15,7 @@ use findings::PLACES;
 use findings::reach::reach_asked;
 use findings::supports::clear;
 use findings::supports::write_supports;
-use literals::WIDTH;
+use literals::MOST_LITERALS;
 
 // Room for the rows of any table and their cells, and for those of one with few rows: room is cleared when it is made, which is most of what a
 // small board would pay.
@@ -46,7 +46,7 @@ fn propagate_in(
     requires { ⌜ (length (now ranks) ≤ length (now held)) × (from + length (now supports) ≤ length (now ranks)) ⌝ }
     requires { ⌜ (length (now marks) ≡ length (now ranks) → now marks ≡ replicate (length (now ranks)) false) ⌝ }
     requires { ⌜ now heads ≡ replicate (length (now ranks)) none ⌝ }
-    requires { ⌜ (length (now links) ≡ width * rows) × (length (now ranks) ≤ length (now queue)) × (length (now counts) ≡ rows) ⌝ }
+    requires { ⌜ (length (now links) ≡ mostLiterals * rows) × (length (now ranks) ≤ length (now queue)) × (length (now counts) ≡ rows) ⌝ }
     ensures { λ _. ⌜ now (ranks .exit) ≡ ranksOf (length (now (ranks .entry))) (rowsIn rows (now (table .entry))) (now (held .entry)) ⌝ }
     ensures { λ _. ⌜ now (supports .exit) ≡ tabulate (length (now (supports .entry))) (λ i. supportOf (length (now (ranks .entry))) (rowsIn rows (now (table .entry))) (now (held .entry)) (from + i)) ⌝ }
     ensures { λ _. ⌜ (length (now (marks .entry)) ≡ length (now (ranks .entry)) → now (marks .exit) ≡ reachedAsked (length (now (ranks .entry))) (rowsIn rows (now (table .entry))) (now (held .entry)) p) ⌝ }
@@ -79,7 +79,7 @@ fn propagate_all(
     ensures { λ _. ⌜ (length (now (marks .entry)) ≡ length (now (ranks .entry)) → now (marks .exit) ≡ reachedAsked (length (now (ranks .entry))) (rowsIn rows (now (table .entry))) (now (held .entry)) p) ⌝ }
 {
     let places = ranks.len();
-    let cells = WIDTH * rows;
+    let cells = MOST_LITERALS * rows;
     let mut heads = [NONE; PLACES];
     let mut queue = [0; PLACES];
     if rows <= FEW_ROWS {

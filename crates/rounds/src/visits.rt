@@ -19,7 +19,7 @@ ghost use Rattle.rounds.specs.Ranks.{mark};
 ghost use Rattle.rounds.specs.Visits.{Touched, Looked, struck, Counts, Struck};
 use crate::marks::mark_all;
 use crate::marks::mark_row;
-use literals::WIDTH;
+use literals::MOST_LITERALS;
 
 // The place of the opposite: the other one of the symbol's two.
 fn opposite_place(p: usize) -> usize
@@ -77,11 +77,11 @@ fn visit(
     ensures { λ r. ⌜ Queued ranked 0 (now (ranks .entry)) (now (ranks .exit)) (now (queue .entry)) end (now (queue .exit)) r ⌝ }
     ensures { λ r. ⌜ Struck rows (now (table .entry)) p (now (counts .entry)) (now (counts .exit)) ⌝ }
 {
-    let cells = WIDTH * rows;
+    let cells = MOST_LITERALS * rows;
     let mut next = end;
     let mut cell = heads[p] as usize;
     while cell < cells {
-        next = strike(table, cell / WIDTH, ranks, k, queue, next, counts);
+        next = strike(table, cell / MOST_LITERALS, ranks, k, queue, next, counts);
         cell = links[cell] as usize;
     }
     next

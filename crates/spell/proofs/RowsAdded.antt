@@ -4,12 +4,13 @@ use mathlib.Core.Bool.{true}
 use mathlib.Core.List.{List}
 use Prim.Native.Nat.{ℕ, _+_, _*_, _≤_}
 use native.Mathlib.Omega.{arith}
-use borrow.Author.Tests.{leb-true, not-false}
-use lib.Dec.{leb}
+use borrow.Author.Tests.{not-false}
 use lib.IntN.{ℤ}
 use lib.ListN.{length}
-use Rattle.literals.specs.Row.{rowsLent}
+use Rattle.literals.specs.Row.{width, rowsLent}
 use Rattle.formula.specs.Answers.{isGood}
+use Rattle.implicates.specs.Appending.{fits}
+use Rattle.implicates.proofs.Rules.{fits-facts}
 use Rattle.board.specs.Faults.{firstFault}
 use Rattle.board.specs.Rules.{ruleFaults, ruled, rowsOfBytes}
 use Rattle.board.specs.declared.Board.{Board}
@@ -24,19 +25,20 @@ use Rattle.text.proofs.RuledText.{text-bytes}
 
 module _ (table : List ℤ) (b : Board) where
   -- an accepted rule is not refused with 9
-  fits : (bytes : List ℕ) → firstFault (ruleFaults table b bytes) ≡ Done → b .rows + length (rowsOfBytes (b .symbols) bytes) ≤ rowsLent table
+  enough : (bytes : List ℕ) → firstFault (ruleFaults table b bytes) ≡ Done → b .rows + length (rowsOfBytes (b .symbols) bytes) ≤ rowsLent table
   unfolding ruleFaults
-  fits bytes e =
-      let rows = length (rowsOfBytes (b .symbols) bytes) in
-      leb-true (b .rows + rows) (rowsLent table) (not-false (leb (b .rows + rows) (rowsLent table)) (none-given (ruleFaults table b bytes) e 4))
+  enough bytes e =
+      let rows = rowsOfBytes (b .symbols) bytes in
+      let given = none-given (ruleFaults table b bytes) e 4 in
+      fits-facts (b .rows) (b .rules) (rowsLent table) rows (not-false (fits (b .rows) (b .rules) (rowsLent table) rows) given) .0
 
-  few : (bytes : List ℕ) → 8 * ruled table b bytes .added ≤ length table
+  few : (bytes : List ℕ) → width * ruled table b bytes .added ≤ length table
   unfolding ruled
   few bytes = go (firstFault (ruleFaults table b bytes)) refl
     where
-      go : (o : Outcome) → firstFault (ruleFaults table b bytes) ≡ o → 8 * ruled table b bytes .added ≤ length table
-      go Done e = rw e (omega (arith, fits bytes e))
+      go : (o : Outcome) → firstFault (ruleFaults table b bytes) ≡ o → width * ruled table b bytes .added ≤ length table
+      go Done e = rw e (omega (arith, enough bytes e))
       go (Refused why) e = rw e (omega arith)
 
-  pub rows-within : (text : List ℕ) {told : Addition} → isGood (wholeText text) ≡ true → told ≡ ruledText table b text → 8 * told .added ≤ length table
+  pub rows-within : (text : List ℕ) {told : Addition} → isGood (wholeText text) ≡ true → told ≡ ruledText table b text → width * told .added ≤ length table
   rows-within text keeps e = rw (e, text-bytes table b text keeps) (few (bytesIn text))

@@ -4,6 +4,7 @@ ghost use mathlib.Core.Path.{_≡_};
 ghost use mathlib.Core.Bool.{true};
 ghost use Prim.Native.Nat.{_+_, _*_, _≤_};
 ghost use lib.ListN.{length};
+ghost use Rattle.literals.specs.Row.{width};
 ghost use Rattle.formula.specs.Answers.{isGood};
 ghost use Rattle.chains.specs.Form.{wholeText};
 ghost use Rattle.spell.specs.Shown.{tooManyOpen};
@@ -28,7 +29,7 @@ const SYMBOLS: usize = 200;
 
 // A good rule: its bytes and its rows.
 fn answer_rule(bytes: &[u8], table: &[i16], rows: usize, page: &mut [u8])
-    requires { ⌜ (8 * rows ≤ length (now table)) × (3 * length (now bytes) + 4 ≤ length (now page)) ⌝ }
+    requires { ⌜ (width * rows ≤ length (now table)) × (3 * length (now bytes) + 4 ≤ length (now page)) ⌝ }
 {
     show_bytes(page, bytes, b"\n");
     if rows == 0 {
@@ -49,7 +50,7 @@ fn answer_refused(line: &[u8], bytes: &[u8], place: usize, why: Refusal, page: &
 
 // What adding a rule came to. A refusal that tells no place has one beyond all bytes.
 fn answer_outcome(line: &[u8], bytes: &[u8], told: Addition, table: &[i16], page: &mut [u8])
-    requires { ⌜ (8 * told .added ≤ length (now table)) × (length (now line) + 1 ≤ length (now page)) × (3 * length (now bytes) + 4 ≤ length (now page)) ⌝ }
+    requires { ⌜ (width * told .added ≤ length (now table)) × (length (now line) + 1 ≤ length (now page)) × (3 * length (now bytes) + 4 ≤ length (now page)) ⌝ }
 {
     let outcome = told.outcome;
     match outcome {

@@ -57,7 +57,7 @@ fn main() {
         sentences::complain(b"spell: input too long: more than 32768 bytes\n");
         return;
     }
-    let mut table = [0i16; 16384];
+    let mut table = [0i16; 18432];
     let mut bytes = [0u8; 65536];
     let mut page = [0u8; 196612];
     answer_lines(&input[..n], &mut table, &mut bytes, &mut page);

@@ -3,6 +3,7 @@
 ghost use mathlib.Core.Path.{_≡_};
 ghost use Prim.Native.Nat.{_+_, _*_, _<_, _≤_};
 ghost use lib.ListN.{length};
+ghost use Rattle.literals.specs.Row.{width};
 ghost use Rattle.spell.specs.Shown.{shownOf};
 use crate::pieces::put_barred;
 use crate::pieces::put_blanks;
@@ -88,7 +89,7 @@ fn show_row(part: &[i16])
 
 // The first so many rows of a table, one a line.
 pub fn show_rows(table: &[i16], rows: usize)
-    requires { ⌜ 8 * rows ≤ length (now table) ⌝ }
+    requires { ⌜ width * rows ≤ length (now table) ⌝ }
 {
     let mut row = 0;
     while row < rows {

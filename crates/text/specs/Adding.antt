@@ -32,4 +32,4 @@ unfoldable pub ruleTextFaults : List ℤ → Board → (text : List ℕ) → Lis
 ruleTextFaults table b text =
     record { given = not (goodBoard table b); refusal = BadBoard }
     ∷ record { given = not (isGood (wholeText text)); refusal = BadText }
-    ∷ bytesFaults (b .symbols) (b .rows) (rowsLent table) (bytesIn text)
+    ∷ bytesFaults (b .symbols) (b .rows) (b .rules) (rowsLent table) (bytesIn text)

@@ -1,22 +1,25 @@
 -- `append_rule` meets its contract: the table of hits is filled and tells whether the rule is satisfiable, the table of primes that is
 -- written over it has the rule's prime implicates, and those that fit are appended.
-use mathlib.Core.Path.{_≡_, refl, sym, ap, _∙_}
+use mathlib.Core.Path.{_≡_, refl, sym, ap, ap₂, _∙_}
+use mathlib.Core.Logic.{_⊎_, inl, inr, ⊎-elim}
 use mathlib.Core.Bool.{Bool, true, false}
 use mathlib.Core.List.{List, _++_, map}
-use Prim.Native.Nat.{ℕ, _-_, _≤_}
+use Prim.Native.Nat.{ℕ, _+_, _-_, _≤_, _<_}
+use native.Mathlib.Numerals.{add-one}
 use native.Mathlib.Omega.{arith}
 use borrow.Author.Needs.{needs}
-use borrow.Author.Tests.{not-true, not-false}
+use borrow.Author.Tests.{not-true, not-false, eqb-true, eqb-false}
 use lib.ListN.{length, getD, take, drop, replicate, length-replicate, length-map}
 use lib.Seq.{length-take-le}
 use Rattle.meaning.specs.Formulae.{Rule}
 use Rattle.meaning.specs.Clauses.{inOrder, rowOf, rowsOf, satisfiable}
+use Rattle.literals.specs.Row.{mostRules, ofRule}
 use Rattle.implicates.specs.Hits.{hitTable, marked, primeTable}
-use Rattle.implicates.specs.Appending.{ruleBy, appended}
+use Rattle.implicates.specs.Appending.{ruleBy, fits, appended}
 use Rattle.implicates.specs.declared.Appended.the-variants.{Rows}
 use Rattle.implicates.proofs.Numbers.{clauses-some, clauses-more}
 use Rattle.implicates.proofs.Table.{length-hitTable, length-primeTable}
-use Rattle.implicates.proofs.Rules.{Front, front-of, hits-last, primes-listed, told-unsatisfiable, told-full, told-rows}
+use Rattle.implicates.proofs.Rules.{Front, front-of, hits-last, primes-listed, told-unsatisfiable, told-full, told-rows, fits-not, fits-so}
 use Rattle.implicates.proofs.append_rule.Statement.{statement}
 use Rattle.implicates.proofs.append_rule.Tie as tie
 
@@ -120,7 +123,8 @@ array-read-if1 c = let k = c .before .before .before in omega (arith, room k, k 
 returns : tie.Need-returns
 returns c =
     let s = start (counting (c .before .before)) in
-    told-unsatisfiable (rule s) (s .args .used) (s .args .lent) (s .args .table .now) (sym (last-tells (c .before)) ∙ not-true _ (c .if1 .taken))
+    let a = s .args in
+    told-unsatisfiable (rule s) (a .used) (a .rules) (a .lent) (a .table .now) (sym (last-tells (c .before)) ∙ not-true _ (c .if1 .taken))
 
 array-borrow-prefix-clauses-2 : tie.Need-array-borrow-prefix-clauses-2
 array-borrow-prefix-clauses-2 c = hits-in (c .before .before) .room
@@ -144,32 +148,48 @@ returns-2 : tie.Need-returns-2
 returns-2 c =
     let m = marking (c .before) in
     let s = start (counting (filling m)) in
-    told-full (rule s) (s .args .used) (s .args .lent) (s .args .table .now) (satisfied (m .before .before))
-    (omega (arith, counted (c .before), c .if2 .taken, s .pre .1 .0))
+    let a = s .args in
+    let full : (a .lent < a .used + length (rowsOf (rule s))) ⊎ (a .rules ≡ mostRules) =
+    ⊎-elim (λ w. inl (omega (arith, counted (c .before), w .taken, s .pre .1 .0))) (λ w. inr (eqb-true (a .rules) mostRules (w .1 .taken))) (c .if2 .came) in
+    told-full (rule s) (a .used) (a .rules) (a .lent) (a .table .now) (satisfied (m .before .before))
+    (fits-not (a .used) (a .rules) (a .lent) (rowsOf (rule s)) full)
+
+-- the rows fit, and the rule has a number
+enough : (c : tie.Else3) → let r = c .before .before in let s = start (counting (filling (marking r))) in
+    fits (s .args .used) (s .args .rules) (s .args .lent) (rowsOf (rule s)) ≡ true
+enough c =
+    let r = c .before .before in
+    let s = start (counting (filling (marking r))) in
+    fits-so (s .args .used) (s .args .rules) (s .args .lent) (rowsOf (rule s))
+    (omega (arith, counted r, c .before .if2 .left, s .pre .1 .0)) (eqb-false (s .args .rules) mostRules (c .if3 .left))
 
 array-share-prefix-clauses-2 : tie.Need-array-share-prefix-clauses-2
-array-share-prefix-clauses-2 c = primes-in (marking (c .before .before)) .room
+array-share-prefix-clauses-2 c = primes-in (marking (c .before .before .before)) .room
 
 slice-aggregate-append-primes : tie.Need-slice-aggregate-append-primes
-slice-aggregate-append-primes c = sym (primes-in (marking (c .before .before .before)) .long)
+slice-aggregate-append-primes c = sym (primes-in (marking (c .before .before .before .before)) .long)
 
 append-primes-requires : tie.Need-append-primes-requires
 append-primes-requires c κs =
-    let e = c .before .before in
+    let e = c .before .before .before in
     let m = marking (e .before) in
     let k = counting (filling m) in
-    let p = start k .pre in
-    ((p .0 .0, refl, p .0 .1, primes-in m .long ∙ k .clause-count .ensures), omega (arith, e .before .row-count .ensures, e .if2 .left, p .1))
+    let p = start k .pre in (
+      (p .0 .0, refl, p .0 .1, primes-in m .long ∙ k .clause-count .ensures, omega (arith, p .1 .3, eqb-false (start k .args .rules) mostRules (c .before .before .if3 .left))),
+      omega (arith, e .before .row-count .ensures, e .if2 .left, p .1),
+    )
 
 returns-3 : tie.Need-returns-3
 returns-3 c =
     let e = c .before .before .before .before in
-    let m = marking (e .before) in
+    let r = e .before .before in
+    let m = marking r in
     let s = start (counting (filling m)) in
-    let told = told-rows (rule s) (s .args .used) (s .args .lent) (s .args .table .now) (satisfied (m .before .before))
-    (omega (arith, counted (e .before), e .if2 .left, s .pre .1 .0)) in (
-      ap Rows (counted (e .before)) ∙ told .0,
-      c .before .append-primes .ensures .0 ∙ ap (appended (s .args .table .now) (s .args .used)) (rows-are m) ∙ told .1,
+    let a = s .args in
+    let told = told-rows (rule s) (a .used) (a .rules) (a .lent) (a .table .now) (satisfied (m .before .before)) (enough e) in (
+      ap Rows (counted r) ∙ told .0,
+      c .before .append-primes .ensures .0
+          ∙ ap₂ (λ (rows : List (List ℕ)) (n : ℕ). appended (a .table .now) (a .used) (ofRule n rows)) (rows-are m) (add-one (a .rules)) ∙ told .1,
     )
 
 pub append-rule-spec : {M : Type 1} → statement M
@@ -191,6 +211,7 @@ append-rule-spec =
     row-count-requires
     (λ c. search needs)
     returns-2
+    (λ c. search needs)
     array-share-prefix-clauses-2
     slice-aggregate-append-primes
     append-primes-requires

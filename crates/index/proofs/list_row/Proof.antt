@@ -4,7 +4,7 @@ use Prim.Native.Nat.{suc, _≤_, _+_, _*_, _-_}
 use mathlib.Core.Path.{_≡_, ap, _∙_}
 use native.Mathlib.Omega.{arith}
 use lib.ListN.{length}
-use Rattle.literals.specs.Row.{width, numbersAt, decode}
+use Rattle.literals.specs.Row.{mostLiterals, numbersAt, decode}
 use Rattle.literals.proofs.Scanning.{left, left-all, left-last, left-end, Here, Literal, literal, place-allowed}
 use Rattle.index.specs.Listing.{Listed}
 use Rattle.index.proofs.Listing.{listed-none, listed-more}
@@ -12,11 +12,11 @@ use Rattle.index.proofs.list_row.Statement.{statement}
 use Rattle.index.proofs.list_row.Tie as tie
 
 abbrev Inv-loop : tie.InvT-loop
-Inv-loop table row heads₀ links₀ base j₀ heads links j =
-    (j ≤ width) × (length (decode (numbersAt table row)) ≡ j + length (left table row j)) × Listed table (width * row) j heads₀ links₀ heads links
+Inv-loop table row heads₀ links₀ base first j₀ heads links j =
+    (j ≤ mostLiterals) × (length (decode (numbersAt table row)) ≡ j + length (left table row j)) × Listed table (mostLiterals * row) j heads₀ links₀ heads links
 
 abbrev μ-loop : tie.MeasureT-loop
-μ-loop table row heads₀ links₀ base j₀ heads links j = width - j
+μ-loop table row heads₀ links₀ base first j₀ heads links j = mostLiterals - j
 
 abbrev start : tie.At-loop Inv-loop μ-loop → tie.Start Inv-loop μ-loop
 start l = l .before .before .before
@@ -37,11 +37,14 @@ read p = literal (here (p .before .before)) (p .before .if1 .left) (p .place .en
 head-in : (p : tie.After-place Inv-loop μ-loop) → suc (p .place .result) ≤ length (at p .loop .heads)
 head-in p = omega (arith, read p .inside, at p .loop .inv .2 .long-heads)
 
-link-in : (n : tie.In-loop Inv-loop μ-loop) → let l = n .before in suc (width * start l .args .row + l .loop .j) ≤ length (l .loop .links)
+link-in : (n : tie.In-loop Inv-loop μ-loop) → let l = n .before in suc (mostLiterals * start l .args .row + l .loop .j) ≤ length (l .loop .links)
 link-in n = let l = n .before in omega (arith, n .loop-test .taken, start l .pre .1, l .loop .inv .2 .long-links)
 
 mul-base : tie.Need-mul-base Inv-loop μ-loop
 mul-base c = omega (arith, c .before .before .pre .0 .2 .rows)
+
+mul-first : tie.Need-mul-first Inv-loop μ-loop
+mul-first c = omega (arith, c .before .before .pre .0 .2 .rows)
 
 loop-holds : tie.Need-loop-holds Inv-loop μ-loop
 loop-holds c =
@@ -49,7 +52,7 @@ loop-holds c =
     (omega arith, omega (arith, ap length (left-all (a .table .now) (a .row))), listed-none)
 
 add-l : tie.Need-add-l Inv-loop μ-loop
-add-l c = omega (arith, link-in c)
+add-l c = omega (arith, c .loop-test .taken, start (c .before) .pre .0 .2 .rows)
 
 mul-l : tie.Need-mul-l Inv-loop μ-loop
 mul-l c = omega (arith, c .loop-test .taken, start (c .before) .pre .0 .2 .rows)
@@ -136,6 +139,7 @@ list-row-spec =
     Inv-loop
     μ-loop
     mul-base
+    mul-first
     loop-holds
     add-l
     mul-l

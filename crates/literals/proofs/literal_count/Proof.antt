@@ -5,17 +5,17 @@ use native.Mathlib.Omega.{arith}
 use native.Mathlib.Nat.{add-zero, zero-add}
 use lib.IntN.{ℤ, pos}
 use lib.ListN.{length, take, drop, getD}
-use Rattle.literals.specs.Row.{width, decode}
+use Rattle.literals.specs.Row.{mostLiterals, decode}
 use Rattle.literals.proofs.Signed.{bits-zero, zero-bits}
 use Rattle.literals.proofs.Counting.{leftOf, count-next, count-none, count-stop}
 use Rattle.literals.proofs.literal_count.Statement.{statement}
 use Rattle.literals.proofs.literal_count.Tie as tie
 
 abbrev Inv-loop : tie.InvT-loop
-Inv-loop table at n₀ n = (n ≤ width) × (length (decode (take width (drop at table))) ≡ n + leftOf table at n)
+Inv-loop table at n₀ n = (n ≤ mostLiterals) × (length (decode (take mostLiterals (drop at table))) ≡ n + leftOf table at n)
 
 abbrev μ-loop : tie.MeasureT-loop
-μ-loop table at n₀ n = width - n
+μ-loop table at n₀ n = mostLiterals - n
 
 -- the number that a turn looks at
 abbrev here : tie.In-loop Inv-loop μ-loop → ℤ

@@ -10,14 +10,14 @@ use lib.IntN.{ℤ, pos, natAbs}
 use lib.ListN.{take, drop, getD}
 use mir.Facts.{toZ-ofZ}
 use Rattle.literals.specs.Literal.{inRange}
-use Rattle.literals.specs.Row.{width, rising, rowSound}
+use Rattle.literals.specs.Row.{mostLiterals, rising, rowSound}
 use Rattle.literals.proofs.Signed.{back-abs}
 use Rattle.literals.proofs.Rows.{rising-high, rising-low, rising-next, rising-none, rising-zero, row-first, row-no}
 use Rattle.literals.proofs.row_sound.Statement.{statement}
 use Rattle.literals.proofs.row_sound.Tie as tie
 
 abbrev Inv-loop : tie.InvT-loop
-Inv-loop table at symbols first end last₀ k₀ last k = (at < k) × (k ≤ end) × (rowSound symbols (take width (drop at table)) ≡ rising symbols last (take (end - k) (drop k table)))
+Inv-loop table at symbols first end last₀ k₀ last k = (at < k) × (k ≤ end) × (rowSound symbols (take mostLiterals (drop at table)) ≡ rising symbols last (take (end - k) (drop k table)))
 
 abbrev μ-loop : tie.MeasureT-loop
 μ-loop table at symbols first end last₀ k₀ last k = end - k

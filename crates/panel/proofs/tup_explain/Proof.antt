@@ -6,7 +6,7 @@ use Prim.Native.Nat.{_-_, _+_, _*_, _≤_}
 use native.Mathlib.Omega.{arith}
 use lib.ListN.{length}
 use mir.Facts.{toZ-ofZ}
-use Rattle.literals.specs.Row.{width, numbersAt}
+use Rattle.literals.specs.Row.{width, mostLiterals, numbersAt}
 use Rattle.board.specs.Asking.{reasoned, explained}
 use Rattle.board.specs.declared.asking.Reason.{Reason}
 use Rattle.board.specs.declared.Outcome.the-variants.{Done}
@@ -28,7 +28,7 @@ done c = sym (ap (λ (r : Reason). r .outcome) (numbers (c .before .before))) �
 
 -- the row is in the table
 inside : (c : tie.After-enum-told) → let n = c .before .before in
-    width * n .explain-numbers .result .row + width ≤ length (n .before .before .args .table .now)
+    width * n .explain-numbers .result .row + mostLiterals ≤ length (n .before .before .args .table .now)
 inside c =
     let n = c .before .before in
     let s = n .before .before in

@@ -7,7 +7,7 @@ use Rattle.panel.proofs.tup_hold.Statement.{statement}
 use Rattle.panel.proofs.tup_hold.Tie as tie
 
 change-out-requires : tie.Need-change-out-requires
-change-out-requires c κs = rw (c .hold .ensures, c .before .board-in .ensures) (narrow-held _ _ (record { symbols = omega arith; rows = omega arith }) _ _)
+change-out-requires c κs = rw (c .hold .ensures, c .before .board-in .ensures) (narrow-held _ _ (record { symbols = omega arith; rows = omega arith; rules = omega arith }) _ _)
 
 returns : tie.Need-returns
 returns c = rw (← c .before .before .board-in .ensures, ← toZ-ofZ (c .before .before .before .fits .l), ← c .before .hold .ensures) (c .change-out .ensures)

@@ -10,7 +10,7 @@ reading-out-requires c κs =
     let a = c .before in
     let given = a .before .before .before .before .good in
     rw (a .read .ensures .0, a .before .before .board-in .ensures)
-    (narrow-read _ _ (record { symbols = omega arith; rows = omega arith }) _)
+    (narrow-read _ _ (record { symbols = omega arith; rows = omega arith; rules = omega arith }) _)
 
 returns : tie.Need-returns
 returns c =

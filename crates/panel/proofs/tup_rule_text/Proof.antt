@@ -10,7 +10,7 @@ addition-out-requires c κs =
     let a = c .before in
     let given = a .before .before .before .before .good in
     rw (a .add-text .ensures .0, a .before .before .board-in .ensures)
-    (narrow-ruled-text _ _ (record { symbols = omega arith; rows = omega arith }) _)
+    (narrow-ruled-text _ _ (record { symbols = omega arith; rows = omega arith; rules = omega arith }) _)
 
 returns : tie.Need-returns
 returns c =

@@ -7,7 +7,7 @@ use Rattle.panel.proofs.tup_withdraw.Statement.{statement}
 use Rattle.panel.proofs.tup_withdraw.Tie as tie
 
 change-out-requires : tie.Need-change-out-requires
-change-out-requires c κs = rw (c .withdraw .ensures, c .before .board-in .ensures) (narrow-withdrawn _ _ (record { symbols = omega arith; rows = omega arith }) _ _)
+change-out-requires c κs = rw (c .withdraw .ensures, c .before .board-in .ensures) (narrow-withdrawn _ _ (record { symbols = omega arith; rows = omega arith; rules = omega arith }) _ _)
 
 returns : tie.Need-returns
 returns c = rw (← c .before .before .board-in .ensures, ← toZ-ofZ (c .before .before .before .fits .l), ← c .before .withdraw .ensures) (c .change-out .ensures)

@@ -13,8 +13,8 @@ print-rows-requires c κs =
     let s = c .before .before .before .before .before .before .before .before .before .before in
     let a = c .before .before .before .before .before .before .append-rule in
     let told = c .before .before .before .told .given in
-    let long : length (a .last .0) ≡ 1024 = a .kept .0 in
-    omega (arith, long, s .pre .1, told-fit (ruleBy (s .args .symbols .now) (s .args .truth .now)) (s .args .used) (s .args .lent) (told .0 .0) (sym (a .ensures .0) ∙ told .1))
+    let long : length (a .last .0) ≡ 1152 = a .kept .0 in
+    omega (arith, long, s .pre .1, told-fit (ruleBy (s .args .symbols .now) (s .args .truth .now)) (s .args .used) (s .args .rules) (s .args .lent) (told .0 .0) (sym (a .ensures .0) ∙ told .1))
 
 pub show-spec : {M : Type 1} → statement M
 show-spec =

@@ -16,7 +16,7 @@ show-requires : tie.Need-show-requires
 show-requires c κs =
     let s = c .before .before .before .before in
     let e = length-take-le (length (s .args .text .now)) (c .before .spelt .result) (omega (arith, s .pre .1, c .before .spelt .ensures)) in
-    ((s .pre .0 .0, s .pre .0 .1, e ∙ s .pre .0 .2), (s .pre .1 .1, s .pre .1 .2))
+    ((s .pre .0 .0, s .pre .0 .1, e ∙ s .pre .0 .2), (s .pre .1 .1, s .pre .1 .2, s .pre .1 .3))
 
 pub show-text-spec : {M : Type 1} → statement M
 show-text-spec =

@@ -5,7 +5,7 @@ use Prim.Native.Nat.{_+_, _*_, _≤_, _<_}
 use native.Mathlib.Omega.{arith}
 use mir.Facts.{toZ-ofZ}
 use lib.ListN.{length}
-use Rattle.literals.specs.Row.{width, numbersAt}
+use Rattle.literals.specs.Row.{width, mostLiterals, numbersAt}
 use Rattle.board.specs.Asking.{reasoned}
 use Rattle.board.specs.declared.asking.Reason.{Reason}
 use Rattle.literals.proofs.Counting.{count-few}
@@ -28,10 +28,10 @@ inside c =
     (omega (arith, row, u .0, u .1), omega (arith, row, u .0, u .2))
 
 literal-count-requires : tie.Need-literal-count-requires
-literal-count-requires c κs = inside (c .before) .1
+literal-count-requires c κs = omega (arith, inside (c .before) .1)
 
-few : (c : tie.After-literal-count) → c .literal-count .result ≤ width
-few c = omega (arith, c .literal-count .ensures, count-few (c .before .before .before .before .before .args .table .now) (8 * c .before .before .before .before .explain-numbers .result .row))
+few : (c : tie.After-literal-count) → c .literal-count .result ≤ mostLiterals
+few c = omega (arith, c .literal-count .ensures, count-few (c .before .before .before .before .before .args .table .now) (width * c .before .before .before .before .explain-numbers .result .row))
 
 add-stop : tie.Need-add-stop
 add-stop c = omega (arith, few c, inside (c .before .before) .0)

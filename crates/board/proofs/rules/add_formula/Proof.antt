@@ -2,9 +2,8 @@
 use borrow.Author.Needs.{needs}
 use mathlib.Core.Path.{_≡_, refl, sym, ap, _∙_}
 use mathlib.Core.Bool.{true}
-use Prim.Native.Nat.{_+_}
 use native.Mathlib.Omega.{arith}
-use borrow.Author.Tests.{not-true, not-false, leb-true, leb-false}
+use borrow.Author.Tests.{not-true, not-false}
 use lib.Dec.{leb}
 use lib.ListN.{length}
 use Rattle.meaning.specs.Formulae.{Rule, ruleOf}
@@ -14,7 +13,7 @@ use Rattle.literals.specs.declared.refusal.Refusal.the-variants.{TooManySymbols
 use Rattle.formula.specs.Parse.{Parsed, wholeOf}
 use Rattle.formula.specs.Answers.{isGood, namesOf, formulaOf}
 use Rattle.implicates.specs.Appending.{answerOf, tableOf}
-use Rattle.implicates.proofs.Rules.{told-unsatisfiable, told-full, told-rows}
+use Rattle.implicates.proofs.Rules.{told-unsatisfiable, told-full, told-rows, fits-facts}
 use Rattle.board.specs.Rules.{ruleFaults}
 use Rattle.board.proofs.Goodness.{Good, good-is}
 use Rattle.board.proofs.Adding.{Listed, listed, too-many, whole-is, because, rule-refused, rule-done}
@@ -48,12 +47,12 @@ unfolding rule
 few c = list c .few
 
 told : (c : tie.After-append) → let s = c .before .before .before .before .before .before .before .before in
-    answerOf (rule s) (s .args .board .rows) (rowsLent (s .args .table .now)) ≡ c .append .result
+    answerOf (rule s) (s .args .board .rows) (s .args .board .rules) (rowsLent (s .args .table .now)) ≡ c .append .result
 unfolding rule read
 told c = sym (c .append .ensures .0)
 
 after : (c : tie.After-append) → let s = c .before .before .before .before .before .before .before .before in
-    c .append .last .0 ≡ tableOf (rule s) (s .args .board .rows) (rowsLent (s .args .table .now)) (s .args .table .now)
+    c .append .last .0 ≡ tableOf (rule s) (s .args .board .rows) (s .args .board .rules) (rowsLent (s .args .table .now)) (s .args .table .now)
 unfolding rule read
 after c = c .append .ensures .1
 
@@ -83,14 +82,19 @@ append-requires c κs =
     let e = c .before .before .before in
     let s = e .before .before .before .before in
     let l = list e in
-    ((good s .sound .symbols, good s .lent, s .pre .1), (omega (arith, l .long, l .most), l .is))
+    ((good s .sound .symbols, good s .few, good s .lent, s .pre .1), (omega (arith, l .long, l .most), l .is))
 
 add-next : tie.Need-add-next
 add-next c =
     let a = c .before .before .before .before .before in
     let s = a .before .before .before .before .before .before .before .before in
-    let r = because (rule s) (s .args .board .rows) (rowsLent (s .args .table .now)) (told a ∙ c .before .before .added .given .1) in
-    omega (arith, r .2, leb-true (s .args .board .rows + length (rowsOf (rule s))) (rowsLent (s .args .table .now)) (r .1))
+    let r = because (rule s) (s .args .board .rows) (s .args .board .rules) (rowsLent (s .args .table .now)) (told a ∙ c .before .before .added .given .1) in
+    omega (arith, r .2, fits-facts (s .args .board .rows) (s .args .board .rules) (rowsLent (s .args .table .now)) (rowsOf (rule s)) (r .1) .0)
+
+add-next-2 : tie.Need-add-next-2
+add-next-2 c =
+    let a = c .before .before .before .before .before .before in
+    omega (arith, good (a .before .before .before .before .before .before .before .before) .few)
 
 returns-2 : tie.Need-returns-2
 unfolding ruleFaults read rule
@@ -101,9 +105,9 @@ returns-2 c =
     let s = e .before .before .before .before in
     let b = s .args .board in
     let table = s .args .table .now in
-    let r = because (rule s) (b .rows) (rowsLent table) (told a ∙ t .enum-told .given .1) in
+    let r = because (rule s) (b .rows) (b .rules) (rowsLent table) (told a ∙ t .enum-told .given .1) in
     let all = rule-refused table b (s .args .bytes .now) NoAssignment (rw (s .pre .0, s .pre .1, few e, r)) refl in
-    (c .refused2 .ensures ∙ all .0, after a ∙ sym (told-unsatisfiable (rule s) (b .rows) (rowsLent table) table r .1) ∙ all .1)
+    (c .refused2 .ensures ∙ all .0, after a ∙ sym (told-unsatisfiable (rule s) (b .rows) (b .rules) (rowsLent table) table r .1) ∙ all .1)
 
 returns-3 : tie.Need-returns-3
 unfolding ruleFaults read rule
@@ -114,22 +118,22 @@ returns-3 c =
     let s = e .before .before .before .before in
     let b = s .args .board in
     let table = s .args .table .now in
-    let r = because (rule s) (b .rows) (rowsLent table) (told a ∙ t .enum-told2 .given .1) in
+    let r = because (rule s) (b .rows) (b .rules) (rowsLent table) (told a ∙ t .enum-told2 .given .1) in
     let all = rule-refused table b (s .args .bytes .now) TableFull (rw (s .pre .0, s .pre .1, few e, r .0, r .1)) refl in
-    (c .refused3 .ensures ∙ all .0, after a ∙ sym (told-full (rule s) (b .rows) (rowsLent table) table (r .0) (leb-false _ _ (r .1)) .1) ∙ all .1)
+    (c .refused3 .ensures ∙ all .0, after a ∙ sym (told-full (rule s) (b .rows) (b .rules) (rowsLent table) table (r .0) (r .1) .1) ∙ all .1)
 
 returns-4 : tie.Need-returns-4
 unfolding ruleFaults read rule
 returns-4 c =
-    let t = c .before .before in
+    let t = c .before .before .before in
     let a = t .before .before .before in
     let e = a .before .before .before .before in
     let s = e .before .before .before .before in
     let b = s .args .board in
     let table = s .args .table .now in
-    let r = because (rule s) (b .rows) (rowsLent table) (told a ∙ t .added .given .1) in
+    let r = because (rule s) (b .rows) (b .rules) (rowsLent table) (told a ∙ t .added .given .1) in
     let all = rule-done table b (s .args .bytes .now) (rw (s .pre .0, s .pre .1, few e, r .0, r .1)) in
-    (rw (r .2) (all .0), after a ∙ sym (told-rows (rule s) (b .rows) (rowsLent table) table (r .0) (leb-true _ _ (r .1)) .1) ∙ all .1)
+    (rw (r .2) (all .0), after a ∙ sym (told-rows (rule s) (b .rows) (b .rules) (rowsLent table) table (r .0) (r .1) .1) ∙ all .1)
 
 pub add-formula-spec : {M : Type 1} → statement M
 add-formula-spec =
@@ -147,6 +151,7 @@ add-formula-spec =
     (λ c κs. search needs)
     (λ c. search needs)
     add-next
+    add-next-2
     (λ c. search needs)
     returns-2
     (λ c. search needs)

@@ -53,7 +53,7 @@ slice-aggregate-fill-truth c = sym (part (c .before))
 fill-truth-requires : tie.Need-fill-truth-requires
 fill-truth-requires c κs =
     let s = c .before .before .before in
-    let read = ap isGood (sym (whole-is (s .args .symbols) (s .args .bytes .now) (s .pre .0 .2))) ∙ s .pre .0 .2 in
+    let read = ap isGood (sym (whole-is (s .args .symbols) (s .args .bytes .now) (s .pre .0 .3))) ∙ s .pre .0 .3 in
     (s .pre .0 .0, (read, (s .pre .1 .0, part (c .before) ∙ values-is (c .before))))
 
 array-share-prefix-truth : tie.Need-array-share-prefix-truth
@@ -71,7 +71,7 @@ append-rule-requires c κs =
     let s = f .before .before .before .before in
     let lent : l .rows-lent .result ≡ rowsLent (s .args .table .now) = l .rows-lent .ensures in (
       (s .pre .1 .0, rw (s .pre .1 .1) (symbols-positive (s .args .symbols) _), ap length (front f) ∙ long f ∙ values-is (f .before .before)),
-      (omega (arith, lent, s .pre .0 .1), omega (arith, lent), omega (arith, lent)),
+      (omega (arith, lent, s .pre .0 .2), omega (arith, lent), omega (arith, lent), s .pre .0 .1),
     )
 
 returns : tie.Need-returns
@@ -86,8 +86,8 @@ returns c =
     let truth = take (values (f .before .before)) (f .fill-truth .last .1 .1 .1 .0 ++ drop (values (f .before .before)) (replicate 256 false)) in
     let filled = front f ∙ f .fill-truth .ensures in
     let lent = l .rows-lent .ensures in (
-      answer-is S bytes names truth (s .pre .0 .2) (s .pre .1 .1) filled (s .args .rows) lent (a .append-rule .ensures .0),
-      append-is S bytes names truth (s .pre .0 .2) (s .pre .1 .1) filled (s .args .rows) (s .args .table .now) lent (a .append-rule .ensures .1),
+      answer-is S bytes names truth (s .pre .0 .3) (s .pre .1 .1) filled (s .args .rows) (s .args .rules) lent (a .append-rule .ensures .0),
+      append-is S bytes names truth (s .pre .0 .3) (s .pre .1 .1) filled (s .args .rows) (s .args .rules) (s .args .table .now) lent (a .append-rule .ensures .1),
     )
 
 pub append-spec : {M : Type 1} → statement M

@@ -2,31 +2,37 @@
 use mathlib.Core.Path.{_≡_, refl, sym, ap, _∙_}
 use mathlib.Core.Bool.{true}
 use mathlib.Core.List.{List, []}
-use Prim.Native.Nat.{ℕ, _-_, _≤_}
+use Prim.Native.Nat.{ℕ, _+_, _-_, _≤_}
 use native.Mathlib.Omega.{arith}
 use lib.ListN.{length, drop}
-use Rattle.literals.specs.Row.{rowsLent}
+use Rattle.literals.specs.Row.{mostRules, rowsLent}
 use Rattle.implicates.specs.Appending.{appended}
 use Rattle.dimacs.specs.Words.{inWord, words}
 use Rattle.dimacs.specs.Form.{clausesIn}
-use Rattle.dimacs.specs.Reading.{rowsOfText}
 use Rattle.dimacs.specs.Gathering.{KeptOf, nextClause}
 use Rattle.dimacs.proofs.Scanning.{place-after}
 use Rattle.dimacs.proofs.Splitting.{words-end, words-same, words-some}
-use Rattle.dimacs.proofs.LastPass.{Left, Next, kept-count, kept-rows, kept-small, left-end, left-next, left-room, left-start, next}
+use Rattle.dimacs.proofs.LastPass.{Left, Next, next, numberedRows, kept-count, kept-rows, kept-small}
+use Rattle.dimacs.proofs.LastPass.{left-end, left-next, left-number, left-room, left-start}
 use Rattle.dimacs.proofs.appending.append.Statement.{statement}
 use Rattle.dimacs.proofs.appending.append.Tie as tie
 
 abbrev Inv-loop : tie.InvT-loop
-Inv-loop table₀ used text at variables symbols places₀ row₀ i₀ table places row i =
-    let whole = appended table₀ used (rowsOfText symbols (clausesIn variables [] (words (drop at text)))) in
-    (length places ≡ 8) × Left symbols (rowsLent table₀) variables text whole (length table₀) i row table
+Inv-loop table₀ used rules text at variables symbols places₀ row₀ rule₀ i₀ table places row rule i =
+    let whole = appended table₀ used (numberedRows symbols rules (clausesIn variables [] (words (drop at text)))) in
+    (length places ≡ 8) × Left symbols (rowsLent table₀) variables text whole (length table₀) i row rule table
 
 abbrev μ-loop : tie.MeasureT-loop
-μ-loop table₀ used text at variables symbols places₀ row₀ i₀ table places row i = length text - i
+μ-loop table₀ used rules text at variables symbols places₀ row₀ rule₀ i₀ table places row rule i = length text - i
 
 abbrev start : tie.At-loop Inv-loop μ-loop → tie.Start Inv-loop μ-loop
 start c = c .before .before
+
+loop-holds : tie.Need-loop-holds Inv-loop μ-loop
+loop-holds c =
+    let s = c .before in
+    let a = s .args in
+    (refl, left-start (a .at) (a .used) (a .rules) (a .table .now) (s .pre .0 .0) (s .pre .0 .3) (s .pre .0 .4) (s .pre .1))
 
 -- the words from the next one on
 abbrev left : tie.Else1 Inv-loop μ-loop → List (List ℕ)
@@ -43,11 +49,12 @@ some c =
 
 -- the clause there
 turn : (c : tie.Else1 Inv-loop μ-loop) → let a = start (c .before .before) .args in
-    Next (a .symbols) (rowsLent (a .table .now)) (a .variables) (c .before .before .loop .row) (left c)
+    Next (a .symbols) (rowsLent (a .table .now)) (a .variables) (c .before .before .loop .row) (c .before .before .loop .rule) (left c)
 turn c =
     let l = c .before .before in
     let s = start l in
-    next (s .args .symbols) (rowsLent (s .args .table .now)) (s .args .variables) (l .loop .row) (left c) (s .pre .0 .1) (s .pre .0 .2) (some c)
+    next (s .args .symbols) (rowsLent (s .args .table .now)) (s .args .variables) (l .loop .row) (l .loop .rule) (left c) (s .pre .0 .1) (s .pre .0 .2)
+    (some c)
     (rw (same c) at (l .loop .inv .1 .done))
 
 returns : tie.Need-returns Inv-loop μ-loop
@@ -70,12 +77,16 @@ long g = g .gather .kept .0 ∙ g .before .before .before .before .loop .inv .0
 gather-requires : tie.Need-gather-requires Inv-loop μ-loop
 gather-requires c κs = let n = c .before .before in (n .next-word .ensures .within, n .before .loop .inv .0)
 
+-- its number
+number : (c : tie.Else1 Inv-loop μ-loop) → c .before .before .loop .rule + 1 ≤ mostRules
+number c = left-number (c .before .before .loop .inv .1) (turn c)
+
 append-clause-requires : tie.Need-append-clause-requires Inv-loop μ-loop
 append-clause-requires c κs =
     let g = c .before .before .before .before in
     let e = g .before .before in
     let count = kept-count (turn e) (holds g) in (
-      (omega (arith, count, long g), count, kept-small (turn e) (holds g)),
+      (omega (arith, count, long g), count, kept-small (turn e) (holds g), number e),
       left-room (e .before .before .loop .inv .1) (same e) (turn e) (omega arith) (kept-rows (turn e) (holds g)),
     )
 
@@ -104,12 +115,13 @@ append-spec =
     (tie.spec
     Inv-loop
     μ-loop
-    (λ c. let s = c .before in (refl, left-start (s .args .at) (s .args .used) (s .args .table .now) (s .pre .0 .0) (s .pre .0 .3) (s .pre .1)))
+    loop-holds
     (λ c κs. c .loop .inv .1 .within)
     (λ c. c .before .before .loop .inv .1 .same-length)
     returns
     (λ c. sym (c .before .before .before .loop .inv .0))
     gather-requires
+    (λ c. omega (arith, number (c .before .before .before .before)))
     (λ c. sym (long (c .before .before .before .before)))
     append-clause-requires
     loop-less

@@ -18,12 +18,12 @@ use Rattle.dimacs.proofs.survey.survey_clauses.Statement.{statement}
 use Rattle.dimacs.proofs.survey.survey_clauses.Tie as tie
 
 abbrev Inv-loop : tie.InvT-loop
-Inv-loop text at variables clauses symbols used lent row₀ found₀ count₀ i₀ row found count i =
+Inv-loop text at variables clauses symbols used rules lent row₀ found₀ count₀ i₀ row found count i =
     (length row ≡ 8) × (i ≤ length text) × (count ≤ i)
-    × Sofar symbols used lent clauses (clausesIn variables [] (words (drop at text))) (clausesIn variables [] (words (drop i text))) count found
+    × Sofar symbols used rules lent clauses (clausesIn variables [] (words (drop at text))) (clausesIn variables [] (words (drop i text))) count found
 
 abbrev μ-loop : tie.MeasureT-loop
-μ-loop text at variables clauses symbols used lent row₀ found₀ count₀ i₀ row found count i = length text - i
+μ-loop text at variables clauses symbols used rules lent row₀ found₀ count₀ i₀ row found count i = length text - i
 
 abbrev start : tie.At-loop Inv-loop μ-loop → tie.Start Inv-loop μ-loop
 start l = l .before .before
@@ -33,7 +33,7 @@ loop-holds c =
     let s = c .before in
     let a = s .args in
     let whole = clausesIn (a .variables) [] (words (drop (a .at) (a .text .now))) in
-    (refl, s .pre .0, omega arith, sofar-none (a .symbols) (a .used) (a .lent) (a .clauses) whole (s .pre .1) (s .pre .2))
+    (refl, s .pre .0, omega arith, sofar-none (a .symbols) (a .used) (a .rules) (a .lent) (a .clauses) whole (s .pre .1) (s .pre .2) (s .pre .4))
 
 -- ---- no word is left
 
@@ -111,7 +111,7 @@ with-clause-requires c κs =
     let e = here (gathered c) in
     let s = start (at e) in
     let sofar = at e .loop .inv .3 in
-    (sofar .room, s .pre .3, omega (arith, sofar .few, at e .loop .inv .2, onward e, more e, s .good))
+    (sofar .room, s .pre .3, sofar .few)
 
 add-count : tie.Need-add-count Inv-loop μ-loop
 add-count c = let e = here (gathered (c .before)) in omega (arith, at e .loop .inv .2, onward e, more e, start (at e) .good)

@@ -5,7 +5,7 @@ use Prim.Native.Nat.{_+_, _-_, _*_, _≤_}
 use native.Mathlib.Omega.{arith}
 use lib.IntN.{ℤ}
 use lib.ListN.{length, take, drop}
-use Rattle.literals.specs.Row.{width}
+use Rattle.literals.specs.Row.{mostLiterals, width}
 use Rattle.literals.proofs.Counting.{count-few}
 use Rattle.spelling.proofs.Pieces.{put-length}
 use Rattle.dimacs.specs.Writing.{clauseAt, clauseLine}
@@ -17,7 +17,7 @@ use Rattle.dimacs.proofs.writing.put_row.Tie as tie
 abbrev start : tie.After-literal-count → tie.Start
 start n = n .before .before
 
-few : (n : tie.After-literal-count) → n .literal-count .result ≤ width
+few : (n : tie.After-literal-count) → n .literal-count .result ≤ mostLiterals
 few n = let a = start n .args in omega (arith, n .literal-count .ensures, count-few (a .table .now) (width * a .row))
 
 part : (n : tie.After-literal-count) → let a = start n .args in let at = width * a .row in

@@ -5,14 +5,14 @@ use Prim.Native.Nat.{_+_, _-_, _*_, _≤_}
 use native.Mathlib.Omega.{arith}
 use lib.IntN.{ℤ}
 use lib.ListN.{length, take, drop}
-use Rattle.literals.specs.Row.{width}
+use Rattle.literals.specs.Row.{mostLiterals, width}
 use Rattle.literals.proofs.Counting.{count-few}
 use Rattle.dimacs.specs.Writing.{clauseAt, clauseLine}
-use Rattle.dimacs.proofs.RowLiterals.{clause-width, part-is}
+use Rattle.dimacs.proofs.RowLiterals.{clause-few, part-is}
 use Rattle.dimacs.proofs.writing.row_size.Statement.{statement}
 use Rattle.dimacs.proofs.writing.row_size.Tie as tie
 
-few : (n : tie.After-literal-count) → n .literal-count .result ≤ width
+few : (n : tie.After-literal-count) → n .literal-count .result ≤ mostLiterals
 few n = let a = n .before .args in omega (arith, n .literal-count .ensures, count-few (a .table .now) (width * a .row))
 
 part : (n : tie.After-literal-count) → let a = n .before .args in let at = width * a .row in
@@ -22,7 +22,7 @@ part n = let a = n .before .args in part-is (a .table .now) (a .row) (n .literal
 line-size-requires : tie.Need-line-size-requires
 line-size-requires c κs =
     let n = c .before in
-    omega (arith, ap length (part n), clause-width (n .before .args .table .now) (n .before .args .row))
+    omega (arith, ap length (part n), clause-few (n .before .args .table .now) (n .before .args .row))
 
 returns : tie.Need-returns
 returns c =

@@ -7,7 +7,7 @@ use native.Mathlib.Omega.{arith}
 use borrow.Author.Needs.{needs}
 use lib.ListN.{length}
 use Rattle.meaning.specs.Literals.{opp}
-use Rattle.literals.specs.Row.{width, numbersAt, decode}
+use Rattle.literals.specs.Row.{mostLiterals, numbersAt, decode}
 use Rattle.literals.proofs.Scanning.{left, left-all, left-last, left-end, Here, Literal, literal}
 use Rattle.literals.proofs.Scanning.{place-allowed, opposite-allowed, opposite-place-allowed, opposite-is}
 use Rattle.findings.proofs.Queueing.{room-after}
@@ -17,10 +17,10 @@ use Rattle.findings.proofs.reach.mark_others.Tie as tie
 
 abbrev Inv-loop : tie.InvT-loop
 Inv-loop table row p marks₀ queue₀ end base next₀ j₀ marks queue next j =
-    (j ≤ width) × Crossed p (decode (numbersAt table row)) (left table row j) marks₀ queue₀ end marks queue next
+    (j ≤ mostLiterals) × Crossed p (decode (numbersAt table row)) (left table row j) marks₀ queue₀ end marks queue next
 
 abbrev μ-loop : tie.MeasureT-loop
-μ-loop table row p marks₀ queue₀ end base next₀ j₀ marks queue next j = width - j
+μ-loop table row p marks₀ queue₀ end base next₀ j₀ marks queue next j = mostLiterals - j
 
 abbrev start : tie.At-loop Inv-loop μ-loop → tie.Start Inv-loop μ-loop
 start l = l .before .before .before

@@ -12,7 +12,7 @@ use lib.ListN.{length, getD}
 use Rattle.meaning.specs.Tests.{none}
 use Rattle.meaning.specs.Literals.{opp}
 use Rattle.meaning.specs.Rounds.{gives}
-use Rattle.literals.specs.Row.{width, numbersAt, decode, Fit}
+use Rattle.literals.specs.Row.{mostLiterals, numbersAt, decode, Fit}
 use Rattle.literals.proofs.Scanning.{fit-row, left, left-all, left-last, left-end, Here, Literal, literal}
 use Rattle.literals.proofs.Scanning.{place-allowed, opposite-allowed, opposite-place-allowed, opposite-is}
 use Rattle.findings.specs.Ranks.{below}
@@ -25,10 +25,10 @@ use Rattle.findings.proofs.supports.support_row.Tie as tie
 
 abbrev Inv-loop : tie.InvT-loop
 Inv-loop table rows heads links p ranks k cells cell row base j₀ j =
-    (j ≤ width) × Seen (below k ranks) p (decode (numbersAt table row)) (left table row j)
+    (j ≤ mostLiterals) × Seen (below k ranks) p (decode (numbersAt table row)) (left table row j)
 
 abbrev μ-loop : tie.MeasureT-loop
-μ-loop table rows heads links p ranks k cells cell row base j₀ j = width - j
+μ-loop table rows heads links p ranks k cells cell row base j₀ j = mostLiterals - j
 
 abbrev Inv-rows : tie.InvT-rows
 Inv-rows table rows heads links p ranks k cells cell₀ cell = Missed (below k ranks) rows table p cell
@@ -46,7 +46,7 @@ held l = l .before .before
 abbrev row : tie.At-loop Inv-loop μ-loop Inv-rows μ-rows → tie.At-rows Inv-loop μ-loop Inv-rows μ-rows
 row l = held l .before
 
-inside : (e : tie.Else1 Inv-loop μ-loop Inv-rows μ-rows) → e .before .rows .cell < width * start (e .before) .args .rows
+inside : (e : tie.Else1 Inv-loop μ-loop Inv-rows μ-rows) → e .before .rows .cell < mostLiterals * start (e .before) .args .rows
 inside e = e .if1 .left
 
 fit : (e : tie.Else1 Inv-loop μ-loop Inv-rows μ-rows)

@@ -2,13 +2,16 @@
 use mathlib.Core.Path.{_≡_, sym, ap, _∙_}
 use mathlib.Core.Bool.{Bool, false}
 use mathlib.Core.List.{List, [], _∷_}
-use Prim.Native.Nat.{ℕ}
+use Prim.Native.Nat.{ℕ, _+_, _*_, _≤_}
 use native.Mathlib.Omega.{arith}
 use borrow.Author.Needs.{needs}
 use borrow.Author.Tests.{not-true, not-false}
+use mir.Syntax.{w16}
+use mir.Facts.{toZ-pos}
 use lib.IntN.{ℤ}
 use lib.ListN.{length, getD}
 use Rattle.meaning.specs.Clauses.{Digit, chosen}
+use Rattle.literals.specs.Row.{width}
 use Rattle.implicates.specs.Numbers.{clauseAt}
 use Rattle.implicates.specs.Hits.{marked}
 use Rattle.implicates.proofs.Numbers.{marked-at}
@@ -33,7 +36,7 @@ abbrev picked : tie.Start → List (List Digit)
 picked s = chosen (test s) (s .args .k) (clause s ∷ [])
 
 abbrev After : tie.Start → List ℤ → ℕ → Type 0
-After s table next = Stands (s .args .table .now) (s .args .row) (s .args .symbols .now) (picked s) table next
+After s table next = Stands (s .args .table .now) (s .args .row) (s .args .rule) (s .args .symbols .now) (picked s) table next
 
 picked-it : (c : tie.Else2) → let s = start (c .before .before .before) in picked s ≡ clause s ∷ []
 picked-it c =
@@ -53,13 +56,21 @@ returns-2 c =
     let w : After s _ _ = skipped (chosen-other (test s) (s .args .k) (clause s) (λ e. c .if2 .taken (c .before .literal-count .ensures ∙ e))) in
     (w .rows, w .count)
 
+-- there is room for its row
+room : (c : tie.Else2) → let s = start (c .before .before .before) in width * (s .args .row + 1) ≤ length (s .args .table .now)
+room c = omega (arith, start (c .before .before .before) .pre .1, ap length (picked-it c))
+
 part-write-row-end : tie.Need-part-write-row-end
-part-write-row-end c = omega (arith, start (c .before .before .before) .pre .1, ap length (picked-it c))
+part-write-row-end c = omega (arith, room c)
+
+slice-set-from-table : tie.Need-slice-set-from-table
+slice-set-from-table c = omega (arith, c .table .given .1, room (c .before .before .before))
 
 returns-3 : tie.Need-returns-3
 returns-3 c =
     let e = c .before .before .before in
-    let w : After (start (e .before .before .before)) _ _ = one-row (picked-it e) (c .before .write-row .ensures) in
+    let s = start (e .before .before .before) in
+    let w : After s _ _ = one-row (room e) (picked-it e) (c .before .write-row .ensures) (toZ-pos w16 (omega (arith, s .pre .0 .5))) in
     (w .rows, w .count)
 
 pub append-one-spec : {M : Type 1} → statement M
@@ -77,6 +88,10 @@ append-one-spec =
     (λ c. search needs)
     part-write-row-end
     (λ c κs. search needs)
+    (λ c. search needs)
+    (λ c. omega (arith, room (c .before .before .before)))
+    (λ c. search needs)
+    slice-set-from-table
     (λ c. search needs)
     (λ c. search needs)
     returns-3)

@@ -13,10 +13,10 @@ use Rattle.implicates.proofs.rows.append_primes.Statement.{statement}
 use Rattle.implicates.proofs.rows.append_primes.Tie as tie
 
 abbrev Inv-loop : tie.InvT-loop
-Inv-loop table₀ row symbols primes n next₀ k₀ table next k = (k ≤ n + 1) × Stands table₀ row symbols (belowSize (marked primes) n k) table next
+Inv-loop table₀ row rule symbols primes n next₀ k₀ table next k = (k ≤ n + 1) × Stands table₀ row rule symbols (belowSize (marked primes) n k) table next
 
 abbrev μ-loop : tie.MeasureT-loop
-μ-loop table₀ row symbols primes n next₀ k₀ table next k = n + 1 - k
+μ-loop table₀ row rule symbols primes n next₀ k₀ table next k = n + 1 - k
 
 abbrev start : tie.At-loop Inv-loop μ-loop → tie.Start Inv-loop μ-loop
 start c = c .before .before .before

@@ -12,11 +12,11 @@ use Rattle.implicates.proofs.rows.append_size.Statement.{statement}
 use Rattle.implicates.proofs.rows.append_size.Tie as tie
 
 abbrev Inv-loop : tie.InvT-loop
-Inv-loop table₀ row symbols primes n k next₀ c₀ table next c =
-    (c ≤ length primes) × Stands table₀ row symbols (upTo (marked primes) n k c) table next
+Inv-loop table₀ row rule symbols primes n k next₀ c₀ table next c =
+    (c ≤ length primes) × Stands table₀ row rule symbols (upTo (marked primes) n k c) table next
 
 abbrev μ-loop : tie.MeasureT-loop
-μ-loop table₀ row symbols primes n k next₀ c₀ table next c = length primes - c
+μ-loop table₀ row rule symbols primes n k next₀ c₀ table next c = length primes - c
 
 abbrev start : tie.At-loop Inv-loop μ-loop → tie.Start Inv-loop μ-loop
 start c = c .before .before .before
@@ -36,7 +36,7 @@ append-one-requires c κs =
     let l = c .before .before in
     let s = start l in
     let more = upTo-more (marked (s .args .primes .now)) (s .args .n) (s .args .k) (l .loop .c) (omega arith) in
-    ((s .pre .0 .0, s .pre .0 .1, s .pre .0 .2, omega arith, omega arith), next-room _ (l .loop .inv .1) more (room l (l .loop .c + 1)))
+    ((s .pre .0 .0, s .pre .0 .1, s .pre .0 .2, omega arith, omega arith, s .pre .0 .4), next-room _ (l .loop .inv .1) more (room l (l .loop .c + 1)))
 
 loop-again : tie.Need-loop-again Inv-loop μ-loop
 loop-again c =

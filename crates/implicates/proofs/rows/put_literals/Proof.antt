@@ -13,7 +13,7 @@ use lib.Seq.{take-all}
 use lib.IntN.{pos}
 use Rattle.meaning.specs.Clauses.{Digit, size}
 use Rattle.meaning.proofs.Clauses.{size-le}
-use Rattle.literals.specs.Row.{width}
+use Rattle.literals.specs.Row.{mostLiterals}
 use Rattle.implicates.specs.Numbers.{number, clauseAt}
 use Rattle.implicates.proofs.Numbers.{length-clauseAt}
 use Rattle.implicates.proofs.Digits.{Turn, number-first, next-rest}
@@ -37,7 +37,7 @@ clause l = clauseAt (start l .args .n) (start l .args .c)
 turn : (c : tie.In-loop Inv-loop μ-loop) → let a = start (c .before) .args in let l = c .before .loop in Turn (a .n) (a .c) (l .rest) (l .k)
 turn c = let i = c .before .loop .inv in record { known = start (c .before) .pre .4; some = c .loop-test .taken; low = i .0; left = i .1 }
 
-row-long : (l : tie.At-loop Inv-loop μ-loop) → length (l .loop .row) ≡ width
+row-long : (l : tie.At-loop Inv-loop μ-loop) → length (l .loop .row) ≡ mostLiterals
 row-long l =
     let s = start l in
     ap length (l .loop .inv .3) ∙ length-putFrom (s .args .symbols .now) (s .args .n) (s .args .c) (s .pre .2) (s .pre .1) (l .loop .k)
@@ -91,7 +91,7 @@ loop-again c =
     (c .if1 .came)
 
 same-length : tie.Need-same-length Inv-loop μ-loop
-same-length c = row-long (c .before) ∙ sym (ap length (start (c .before) .pre .0) ∙ length-replicate width (pos 0))
+same-length c = row-long (c .before) ∙ sym (ap length (start (c .before) .pre .0) ∙ length-replicate mostLiterals (pos 0))
 
 returns : tie.Need-returns Inv-loop μ-loop
 returns c =

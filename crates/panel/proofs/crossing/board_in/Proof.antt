@@ -4,4 +4,4 @@ use Rattle.panel.proofs.crossing.board_in.Statement.{statement}
 use Rattle.panel.proofs.crossing.board_in.Tie as tie
 
 pub board-in-spec : {M : Type 1} → statement M
-board-in-spec = tie.close (tie.spec (λ c. search needs) (λ c. search needs) (λ c κs. search needs) (λ c. search needs))
+board-in-spec = tie.close (tie.spec (λ c. search needs) (λ c. search needs) (λ c. search needs) (λ c κs. search needs) (λ c. search needs))

@@ -1,4 +1,4 @@
--- `crossing::board_of` meets its contract. The invariant: both numbers are those given, and of both sets the first k flags are those of the bytes.
+-- `crossing::board_of` meets its contract. The invariant: the three numbers are those given, and of both sets the first k flags are those of the bytes.
 use mathlib.Core.Path.{_≡_, refl, sym, _∙_}
 use mathlib.Core.Bool.{false}
 use Prim.Native.Nat.{_-_}
@@ -10,15 +10,16 @@ use Rattle.panel.proofs.crossing.board_of.Statement.{statement}
 use Rattle.panel.proofs.crossing.board_of.Tie as tie
 
 abbrev Inv-loop : tie.InvT-loop
-Inv-loop symbols rows first second board₀ k₀ board k =
-    (board .symbols ≡ symbols) × (board .rows ≡ rows) × Made flagOf first (board .first) k × Made flagOf second (board .second) k
+Inv-loop symbols rows rules first second board₀ k₀ board k =
+    (board .symbols ≡ symbols) × (board .rows ≡ rows) × (board .rules ≡ rules) × Made flagOf first (board .first) k × Made flagOf second (board .second) k
 
 abbrev μ-loop : tie.MeasureT-loop
-μ-loop symbols rows first second board₀ k₀ board k = 400 - k
+μ-loop symbols rows rules first second board₀ k₀ board k = 400 - k
 
 loop-holds : tie.Need-loop-holds Inv-loop μ-loop
 loop-holds c =
     let p = c .pre in (
+      refl,
       refl,
       refl,
       record { within = omega arith; long = length-replicate 400 false ∙ sym (p .0); is = refl },
@@ -34,8 +35,9 @@ loop-again c =
     let i = l .inv in (
       i .0,
       i .1,
-      made-more flagOf (a .first .now) 0 (l .board .first) (l .k) (i .2) (omega (arith, p .0)) refl,
-      made-more flagOf (a .second .now) 0 (l .board .second) (l .k) (i .3) (omega (arith, p .1)) refl,
+      i .2,
+      made-more flagOf (a .first .now) 0 (l .board .first) (l .k) (i .3) (omega (arith, p .0)) refl,
+      made-more flagOf (a .second .now) 0 (l .board .second) (l .k) (i .4) (omega (arith, p .1)) refl,
     )
 
 returns : tie.Need-returns Inv-loop μ-loop
@@ -48,8 +50,9 @@ returns c =
     rw (
       i .0,
       i .1,
-      made-all flagOf (a .first .now) (l .board .first) (l .k) (i .2) (omega (arith, p .0)),
-      made-all flagOf (a .second .now) (l .board .second) (l .k) (i .3) (omega (arith, p .1)),
+      i .2,
+      made-all flagOf (a .first .now) (l .board .first) (l .k) (i .3) (omega (arith, p .0)),
+      made-all flagOf (a .second .now) (l .board .second) (l .k) (i .4) (omega (arith, p .1)),
     )
 
 pub board-of-spec : {M : Type 1} → statement M

@@ -1,4 +1,4 @@
--- `crossing::panel_of` meets its contract. The invariant: both numbers are those given, and of both sets the first k bytes are those of the flags.
+-- `crossing::panel_of` meets its contract. The invariant: the three numbers are those given, and of both sets the first k bytes are those of the flags.
 use borrow.Author.Needs.{needs}
 use mathlib.Core.Path.{_≡_, refl, sym, _∙_}
 use mathlib.Core.Bool.{Bool, true, false}
@@ -16,15 +16,16 @@ byte-is true = refl
 byte-is false = refl
 
 abbrev Inv-loop : tie.InvT-loop
-Inv-loop symbols rows first second out₀ k₀ out k =
-    (out .symbols ≡ symbols) × (out .rows ≡ rows) × Made byteOf first (out .first) k × Made byteOf second (out .second) k
+Inv-loop symbols rows rules first second out₀ k₀ out k =
+    (out .symbols ≡ symbols) × (out .rows ≡ rows) × (out .rules ≡ rules) × Made byteOf first (out .first) k × Made byteOf second (out .second) k
 
 abbrev μ-loop : tie.MeasureT-loop
-μ-loop symbols rows first second out₀ k₀ out k = 400 - k
+μ-loop symbols rows rules first second out₀ k₀ out k = 400 - k
 
 loop-holds : tie.Need-loop-holds Inv-loop μ-loop
 loop-holds c =
     let p = c .pre in (
+      refl,
       refl,
       refl,
       record { within = omega arith; long = length-replicate {A = ℕ} 400 0 ∙ sym (p .0); is = refl },
@@ -40,8 +41,9 @@ loop-again c =
     let i = l .inv in (
       i .0,
       i .1,
-      made-more byteOf (a .first .now) false (l .out .first) (l .k) (i .2) (omega (arith, p .0)) (byte-is (getD (a .first .now) (l .k) false)),
-      made-more byteOf (a .second .now) false (l .out .second) (l .k) (i .3) (omega (arith, p .1)) (byte-is (getD (a .second .now) (l .k) false)),
+      i .2,
+      made-more byteOf (a .first .now) false (l .out .first) (l .k) (i .3) (omega (arith, p .0)) (byte-is (getD (a .first .now) (l .k) false)),
+      made-more byteOf (a .second .now) false (l .out .second) (l .k) (i .4) (omega (arith, p .1)) (byte-is (getD (a .second .now) (l .k) false)),
     )
 
 returns : tie.Need-returns Inv-loop μ-loop
@@ -54,8 +56,9 @@ returns c =
     rw (
       i .0,
       i .1,
-      made-all byteOf (a .first .now) (l .out .first) (l .k) (i .2) (omega (arith, p .0)),
-      made-all byteOf (a .second .now) (l .out .second) (l .k) (i .3) (omega (arith, p .1)),
+      i .2,
+      made-all byteOf (a .first .now) (l .out .first) (l .k) (i .3) (omega (arith, p .0)),
+      made-all byteOf (a .second .now) (l .out .second) (l .k) (i .4) (omega (arith, p .1)),
     )
 
 pub panel-of-spec : {M : Type 1} → statement M

@@ -7,7 +7,7 @@ use Rattle.report.proofs.boards.table.Statement.{statement}
 use Rattle.report.proofs.boards.table.Tie as tie
 
 abbrev Inv-loop : tie.InvT-loop
-Inv-loop front t₀ k₀ t k = (k ≤ length front) × (length t ≡ 40)
+Inv-loop front t₀ k₀ t k = (k ≤ length front) × (length t ≡ 45)
 
 abbrev μ-loop : tie.MeasureT-loop
 μ-loop front t₀ k₀ t k = length front - k

@@ -7,7 +7,7 @@ use Rattle.report.proofs.printing.rows.Statement.{statement}
 use Rattle.report.proofs.printing.rows.Tie as tie
 
 abbrev Inv-loop : tie.InvT-loop
-Inv-loop table from count row₀ at₀ row at = (at ≤ length table) × (8 * row ≡ at)
+Inv-loop table from count row₀ at₀ row at = (at ≤ length table) × (9 * row ≡ at)
 
 abbrev μ-loop : tie.MeasureT-loop
 μ-loop table from count row₀ at₀ row at = length table - at

@@ -5,7 +5,7 @@ use mathlib.Core.Path.{_≡_, refl, _∙_}
 use native.Mathlib.Omega.{arith}
 use borrow.Author.Needs.{needs}
 use lib.ListN.{length}
-use Rattle.literals.specs.Row.{width, numbersAt, decode}
+use Rattle.literals.specs.Row.{mostLiterals, numbersAt, decode}
 use Rattle.findings.specs.Queue.{Room, Queued}
 use Rattle.findings.proofs.Queueing.{queued-none, queued-more, room-after}
 use Rattle.literals.proofs.Scanning.{left, left-all, left-last, left-end, Here, Literal, literal, place-allowed}
@@ -16,11 +16,11 @@ use Rattle.rounds.proofs.marks.mark_all.Tie as tie
 
 abbrev Inv-loop : tie.InvT-loop
 Inv-loop table row ranks₀ k queue₀ end base next₀ j₀ ranks queue next j =
-    (j ≤ width) × (length ranks ≡ length ranks₀) × (length queue ≡ length queue₀)
+    (j ≤ mostLiterals) × (length ranks ≡ length ranks₀) × (length queue ≡ length queue₀)
     × Passed k (decode (numbersAt table row)) (left table row j) ranks₀ ranks × Queued ranked 0 ranks₀ ranks queue₀ end queue next
 
 abbrev μ-loop : tie.MeasureT-loop
-μ-loop table row ranks₀ k queue₀ end base next₀ j₀ ranks queue next j = width - j
+μ-loop table row ranks₀ k queue₀ end base next₀ j₀ ranks queue next j = mostLiterals - j
 
 abbrev start : tie.At-loop Inv-loop μ-loop → tie.Start Inv-loop μ-loop
 start l = l .before .before .before

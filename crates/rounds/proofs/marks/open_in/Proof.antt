@@ -10,7 +10,7 @@ use mathlib.Core.List.{[]}
 use lib.ListN.{length}
 use Rattle.meaning.specs.Literals.{opp}
 use Rattle.literals.specs.Literal.{placeOf}
-use Rattle.literals.specs.Row.{width, numbersAt, decode}
+use Rattle.literals.specs.Row.{mostLiterals, numbersAt, decode}
 use Rattle.literals.proofs.Signed.{back}
 use Rattle.findings.specs.Ranks.{below}
 use Rattle.findings.proofs.Knowing.{known-yes, known-no}
@@ -20,10 +20,10 @@ use Rattle.rounds.proofs.marks.open_in.Statement.{statement}
 use Rattle.rounds.proofs.marks.open_in.Tie as tie
 
 abbrev Inv-loop : tie.InvT-loop
-Inv-loop table row ranks k base one₀ j₀ one j = (j ≤ width) × Found (below k ranks) (decode (numbersAt table row)) (left table row j) one
+Inv-loop table row ranks k base one₀ j₀ one j = (j ≤ mostLiterals) × Found (below k ranks) (decode (numbersAt table row)) (left table row j) one
 
 abbrev μ-loop : tie.MeasureT-loop
-μ-loop table row ranks k base one₀ j₀ one j = width - j
+μ-loop table row ranks k base one₀ j₀ one j = mostLiterals - j
 
 abbrev start : tie.At-loop Inv-loop μ-loop → tie.Start Inv-loop μ-loop
 start l = l .before .before

@@ -5,7 +5,7 @@ use Prim.Native.Nat.{ℕ, _*_}
 use native.Mathlib.Omega.{arith}
 use lib.ListN.{length, take, replicate}
 use Rattle.meaning.specs.Tests.{none}
-use Rattle.literals.specs.Row.{width}
+use Rattle.literals.specs.Row.{mostLiterals}
 use Rattle.literals.proofs.Scanning.{few-places}
 use Rattle.findings.proofs.Filling.{part-long, part-same}
 use Rattle.rounds.proofs.propagation.propagate_all.Statement.{statement}
@@ -22,14 +22,14 @@ queue s = part-long _ 400 0 (few-places (s .pre .0))
 abbrev few : tie.Then1 → tie.Start
 few t = t .before .before .before .before .before
 
-few-links : (t : tie.Then1) → length (take (width * few t .args .rows) (replicate {A = ℕ} 512 0)) ≡ width * few t .args .rows
+few-links : (t : tie.Then1) → length (take (mostLiterals * few t .args .rows) (replicate {A = ℕ} 512 0)) ≡ mostLiterals * few t .args .rows
 few-links t = part-long _ 512 0 (omega (arith, t .if1 .taken))
 
 few-counts : (t : tie.Then1) → length (take (few t .args .rows) (replicate {A = ℕ} 64 0)) ≡ few t .args .rows
 few-counts t = part-long _ 64 0 (omega (arith, t .if1 .taken))
 
 -- and of all
-links : (s : tie.Start) → length (take (width * s .args .rows) (replicate {A = ℕ} 16384 0)) ≡ width * s .args .rows
+links : (s : tie.Start) → length (take (mostLiterals * s .args .rows) (replicate {A = ℕ} 16384 0)) ≡ mostLiterals * s .args .rows
 links s = part-long _ 16384 0 (omega (arith, s .pre .0 .2 .rows))
 
 counts : (s : tie.Start) → length (take (s .args .rows) (replicate {A = ℕ} 2048 0)) ≡ s .args .rows

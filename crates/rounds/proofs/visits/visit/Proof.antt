@@ -4,7 +4,7 @@ use Prim.Native.Nat.{_+_, _-_, _*_, _/_, _<_}
 use mathlib.Core.Path.{_≡_, refl, _∙_}
 use native.Mathlib.Omega.{arith}
 use lib.ListN.{length}
-use Rattle.literals.specs.Row.{width, Fit}
+use Rattle.literals.specs.Row.{mostLiterals, Fit}
 use Rattle.literals.proofs.Scanning.{fit-row, few-places}
 use Rattle.index.proofs.Following.{heads-long}
 use Rattle.findings.specs.Queue.{Queued}
@@ -20,7 +20,7 @@ Inv-loop table rows heads links p ranks₀ k queue₀ end counts₀ cells next�
     × Visited k rows table p counts₀ ranks₀ cell counts ranks × Queued ranked 0 ranks₀ ranks queue₀ end queue next
 
 abbrev μ-loop : tie.MeasureT-loop
-μ-loop table rows heads links p ranks₀ k queue₀ end counts₀ cells next₀ cell₀ ranks queue counts next cell = width * rows - cell
+μ-loop table rows heads links p ranks₀ k queue₀ end counts₀ cells next₀ cell₀ ranks queue counts next cell = mostLiterals * rows - cell
 
 abbrev head : tie.After-slice-known3 Inv-loop μ-loop → tie.Start Inv-loop μ-loop
 head a = a .before .before .before .before .before

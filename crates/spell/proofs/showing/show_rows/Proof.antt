@@ -2,7 +2,7 @@
 use native.Mathlib.Omega.{arith}
 use Prim.Native.Nat.{_*_, _-_, _≤_}
 use lib.ListN.{length-take}
-use Rattle.literals.specs.Row.{width}
+use Rattle.literals.specs.Row.{width, mostLiterals}
 use Rattle.literals.proofs.Counting.{count-few}
 use Rattle.spell.proofs.showing.show_rows.Statement.{statement}
 use Rattle.spell.proofs.showing.show_rows.Tie as tie
@@ -14,7 +14,7 @@ abbrev μ-loop : tie.MeasureT-loop
 μ-loop table rows row₀ row = rows - row
 
 -- so many literals at most
-few : (n : tie.After-literal-count Inv-loop μ-loop) → n .literal-count .result ≤ width
+few : (n : tie.After-literal-count Inv-loop μ-loop) → n .literal-count .result ≤ mostLiterals
 few n =
     let l = n .before .before in
     omega (arith, n .literal-count .ensures, count-few (l .before .args .table .now) (width * l .loop .row))
