@@ -437,18 +437,20 @@ static void update_conflict(screen *s, furnace *f, int now) {
     f->in_conflict = in_conflict;
 }
 
-/* Whether the ground of a literal carries it: a board that holds nothing else still derives it. An empty ground is
+/* Whether the ground of a literal is enough: a board that holds nothing else derives it at the same rank, by the same row. An empty ground is
  * thereby enough only for what the rules alone derive. */
-static bool ground_carries(const screen *s, const furnace *f, int literal) {
+static bool ground_is_enough(const screen *s, const furnace *f, int literal) {
     uint8_t marks[PLACES];
     find_ground(s, f, literal, marks);
-    uint8_t refusal = tup_explain(holding_only(s, f, marks), s->table, NUMBERS, f->number, (int16_t)literal).refusal;
-    if (refusal != TUP_DONE) {
+    tup_reason alone = tup_explain(holding_only(s, f, marks), s->table, NUMBERS, f->number, (int16_t)literal);
+    int place = place_of(literal);
+    bool enough = alone.refusal == TUP_DONE && alone.rank == f->settled.ranks[place] && alone.row == f->settled.supports[place];
+    if (!enough) {
         words line = {0};
         say_literal(&line, literal);
-        printf("no ground for %s: explain refused %d, %s\n", line.text, refusal, refusal_word(refusal));
+        printf("ground not enough for %s: %s, rank %d, row %d\n", line.text, refusal_word(alone.refusal), alone.rank, alone.row);
     }
-    return refusal == TUP_DONE;
+    return enough;
 }
 
 /* Whether the rule that explain names for a literal is the one whose rows the supporting row is among. */
@@ -464,7 +466,7 @@ static void check_grounds(screen *s, const furnace *f) {
     for (int place = 0; place < PLACES; place++) {
         if (f->settled.ranks[place] != TUP_NONE && !holds(s, f, literal_at(place))) {
             s->grounds.made++;
-            s->grounds.failed += ground_carries(s, f, literal_at(place)) ? 0 : 1;
+            s->grounds.failed += ground_is_enough(s, f, literal_at(place)) ? 0 : 1;
             s->sentences.made++;
             s->sentences.failed += sentence_is_its_own(s, f, literal_at(place)) ? 0 : 1;
         }
@@ -503,6 +505,66 @@ static void check_others(screen *s, const furnace *changed) {
     }
 }
 
+/* ---- What a withdrawal can't move ---- */
+
+/* Finds the derived literals whose ground does not have a reading: those keep rank and support when it is withdrawn. */
+static void find_unmoved(const screen *s, const furnace *f, int reading, bool unmoved[PLACES]) {
+    for (int place = 0; place < PLACES; place++) {
+        uint8_t marks[PLACES] = {0};
+        bool derived = f->settled.ranks[place] != TUP_NONE;
+        if (derived) {
+            find_ground(s, f, literal_at(place), marks);
+        }
+        unmoved[place] = derived && !marks[place_of(reading)];
+    }
+}
+
+/* Says which conclusions that are up can't move, or which may. */
+static void say_conclusions(words *line, const furnace *f, const bool unmoved[PLACES], bool wanted) {
+    const char *between = "";
+    for (int symbol = FIRST_CONCLUSION; symbol <= SYMBOLS; symbol++) {
+        int place = place_of(symbol);
+        if (f->settled.ranks[place] != TUP_NONE && unmoved[place] == wanted) {
+            say(line, "%s%s", between, names[symbol]);
+            between = ", ";
+        }
+    }
+    say(line, "%s", between[0] == '\0' ? "none" : "");
+}
+
+/* Tells the operator, ahead of a withdrawal, what it can't move. */
+static void print_unmoved(const furnace *f, const event *e, const bool unmoved[PLACES]) {
+    words line = {0};
+    say(&line, "%s %sif ", clock_at(e->at).text, whose(f->number).text);
+    say_literal(&line, e->literal);
+    say(&line, " is struck off, can't move: ");
+    say_conclusions(&line, f, unmoved, true);
+    say(&line, "; may: ");
+    say_conclusions(&line, f, unmoved, false);
+    printf("%s\n", line.text);
+}
+
+/* Whether a literal has the rank and the support that it had. */
+static bool is_unmoved(const furnace *f, const settling *before, int place) {
+    return f->settled.ranks[place] == before->ranks[place] && f->settled.supports[place] == before->supports[place];
+}
+
+/* Checks that what could not move did not. */
+static void check_unmoved(screen *s, const furnace *f, const settling *before, const bool unmoved[PLACES]) {
+    for (int place = 0; place < PLACES; place++) {
+        if (!unmoved[place]) {
+            continue;
+        }
+        s->unmoved.made++;
+        if (!is_unmoved(f, before, place)) {
+            words line = {0};
+            say_literal(&line, literal_at(place));
+            printf("furnace %d: %s moved, and was said not to\n", f->number, line.text);
+            s->unmoved.failed++;
+        }
+    }
+}
+
 /* ---- Events ---- */
 
 /* Asks the board how a literal stands at a furnace, and prints the answer. */
@@ -513,8 +575,8 @@ static void print_standing(const screen *s, uint8_t number, int literal, int now
     printf("%s %sasked, %s: %s\n", clock_at(now).text, whose(number).text, names[abs(literal)], standing[answer.standing]);
 }
 
-/* Takes a reading or its withdrawal. A refused one changes nothing and is only reported. */
-static void take_reading(screen *s, const event *e) {
+/* Holds a reading, or withdraws it. A refused call changes nothing and is only reported; false then. */
+static bool change_reading(screen *s, const event *e) {
     words line = {0};
     say(&line, "%s %s%s ", clock_at(e->at).text, whose(e->furnace).text, e->what == HOLD ? "hold" : "withdraw");
     say_literal(&line, e->literal);
@@ -522,15 +584,29 @@ static void take_reading(screen *s, const event *e) {
     tup_change change = e->what == HOLD ? tup_hold(s->board, s->table, NUMBERS, e->furnace, literal)
                                         : tup_withdraw(s->board, s->table, NUMBERS, e->furnace, literal);
     s->board = change.board;
-    if (change.refusal != TUP_DONE) {
+    if (change.refusal == TUP_DONE) {
+        printf("%s\n", line.text);
+    } else {
         printf("%s: refused %d, %s\n", line.text, change.refusal, refusal_word(change.refusal));
         s->readings_refused++;
-        return;
     }
-    printf("%s\n", line.text);
-    furnace *f = &s->furnaces[e->furnace - 1]; /* there is one: the call is done */
-    settle(s, f, e->at);
-    check_others(s, f);
+    return change.refusal == TUP_DONE;
+}
+
+/* Takes a reading or its withdrawal. Ahead of a withdrawal the operator is told what it can't move, and after it that is checked. */
+static void take_reading(screen *s, const event *e) {
+    bool has_furnace = 1 <= e->furnace && e->furnace <= TUP_FURNACES, unmoved[PLACES] = {false};
+    furnace *f = &s->furnaces[has_furnace ? e->furnace - 1 : 0];
+    settling before = f->settled;
+    if (has_furnace && e->what == WITHDRAW && holds(s, f, e->literal)) {
+        find_unmoved(s, f, e->literal, unmoved);
+        print_unmoved(f, e, unmoved);
+    }
+    if (change_reading(s, e)) {
+        settle(s, f, e->at);
+        check_unmoved(s, f, &before, unmoved);
+        check_others(s, f);
+    }
 }
 
 /* Takes one event of the shift. */
@@ -609,9 +685,10 @@ static void print_summary(const screen *s) {
         print_marks_up(&s->furnaces[i]);
     }
     printf("refused: %d rules, %d readings\n", s->rules_refused, s->readings_refused);
-    printf("every mark had its ground, every conflict its readings to blame: %s (%d and %d checks)\n",
+    printf("every mark had its ground, and it was enough; every conflict had its readings to blame: %s (%d and %d checks)\n",
            s->grounds.failed + s->blames.failed == 0 ? "yes" : "NO", s->grounds.made, s->blames.made);
     printf("every conclusion's row was one of the rule named for it: %s (%d checks)\n", s->sentences.failed == 0 ? "yes" : "NO", s->sentences.made);
+    printf("nothing moved that was said not to: %s (%d checks)\n", s->unmoved.failed == 0 ? "yes" : "NO", s->unmoved.made);
     printf("no reading of one furnace moved the other: %s (%d checks)\n", s->others.failed == 0 ? "yes" : "NO", s->others.made);
 }
 
@@ -647,5 +724,5 @@ int main(int count, char **arguments) {
     if (!write_chart(count > 1 ? arguments[1] : "trend.svg", &s)) {
         stop("the picture could not be written");
     }
-    return s.grounds.failed + s.blames.failed + s.others.failed + s.sentences.failed == 0 ? EXIT_SUCCESS : EXIT_FAILURE;
+    return s.grounds.failed + s.blames.failed + s.others.failed + s.sentences.failed + s.unmoved.failed == 0 ? EXIT_SUCCESS : EXIT_FAILURE;
 }

@@ -88,7 +88,7 @@ typedef struct screen {
     kept_rule rules[MOST_RULES + 1]; /* rules are numbered from 1 */
     furnace furnaces[TUP_FURNACES];
     int rules_refused, readings_refused;
-    tally grounds, blames, others, sentences;
+    tally grounds, blames, others, sentences, unmoved;
 } screen;
 
 /* Gives up with a reason. */

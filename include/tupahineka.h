@@ -192,7 +192,9 @@ tup_answer tup_ask(tup_board board, const int16_t *table, size_t numbers, uint8_
  * Refused: 1, 16, 2, 12. */
 tup_reason tup_explain(tup_board board, const int16_t *table, size_t numbers, uint8_t furnace, int16_t literal);
 
-/* Writes 2S bytes, 1 for each premise that the literal stands on, else 0. Refused: 1, 16, 2, 13, 12. */
+/* Writes 2S bytes, 1 for each premise that the literal stands on, else 0. These are held, and they are enough: whichever premises that are not marked
+ * are withdrawn for the furnace, any number of them, the literal keeps its rank, its supporting row and its ground, in conflict or not, as long as no
+ * rule is added and no premise is held anew for the furnace. Refused: 1, 16, 2, 13, 12. */
 uint8_t tup_ground(tup_board board, const int16_t *table, size_t numbers, uint8_t furnace, int16_t literal,
                    uint8_t *marks, size_t mark_count);
 

@@ -346,6 +346,7 @@ void cover_print(void) {
     cover_blames_print();
     cover_furnaces_print();
     cover_rules_print();
+    cover_outside_print();
     cover_texts_print();
     cover_spelt_print();
     printf("labels 0, 1, 2, 3: %lu %lu %lu %lu\n", labels_seen[0], labels_seen[1], labels_seen[2], labels_seen[3]);
@@ -355,6 +356,7 @@ void cover_print(void) {
     printf("demand 3 compared: %lu boards, of them in conflict: %lu\n", demand_3, cases[DEMAND_3_CONFLICT]);
     cover_furnaces_close();
     cover_rules_close();
+    cover_outside_close();
     cover_texts_close();
     cover_spelt_close();
 }
@@ -383,6 +385,7 @@ bool cover_is_whole(void) {
     whole &= cover_blames_are_whole();
     whole &= cover_furnaces_are_whole();
     whole &= cover_rules_are_whole();
+    whole &= cover_outside_is_whole();
     whole &= cover_texts_are_whole();
     whole &= cover_spelt_is_whole();
     for (unsigned k = 0; k < CALLS; k++) {

@@ -2,6 +2,7 @@
 #ifndef COVER_H
 #define COVER_H
 
+#include "outside.h"
 #include "steps.h"
 
 enum { NUMBERS = 17 }; /* of refusals, and 0 for a call that is done */
@@ -38,6 +39,14 @@ void cover_rules(const Play *play, const Step *step);
 void cover_rules_print(void);
 void cover_rules_close(void);
 bool cover_rules_are_whole(void);
+
+/* coveroutside.c: what was withdrawn outside the grounds of literals, and what else may move one. */
+void cover_kept(const Play *play, const Trial *trial);
+void cover_rest(const Trial *trial, const bool off[PLACES]);
+void cover_moved(const Trial *trial, Kind by);
+void cover_outside_print(void);
+void cover_outside_close(void);
+bool cover_outside_is_whole(void);
 
 /* covertext.c: the texts read and written. */
 void cover_text(const Play *play, const Step *step);

@@ -1,6 +1,6 @@
 /* The independent second program of Tupahineka: random sequences of calls, the library against the documents by brute force.
  *
- * Written from document 01, Tickets 1, 2 and 4 to 8 of document 02, the project's exact readings of Tickets 5, 6 and 8 and include/tupahineka.h
+ * Written from document 01, Tickets 1, 2 and 4 to 9 of document 02, the project's exact readings of Tickets 5, 6, 8 and 9 and include/tupahineka.h
  * alone. No proved code was read for it; of the project's other files only those that build and run it: Makefile, tests/panel.sh and tools/kit.sh.
  *
  *   second SEED COUNT               plays COUNT sequences and compares everything after every call
@@ -19,6 +19,8 @@
 #include "draw.h"
 #include "furnacetries.h"
 #include "journal.h"
+#include "outside.h"
+#include "outsidetries.h"
 #include "rowtries.h"
 #include "ruletries.h"
 #include "smallboards.h"
@@ -83,7 +85,8 @@ static bool wrong_sequence(const char *what) {
 }
 
 /* Plays one sequence. Where its number is divisible by 4, its last board is written as text and read back; where 2 is left over, the library plays it
- * again without furnace 1's premises, and without furnace 2's. Says where it differs. */
+ * again without furnace 1's premises, and without furnace 2's. Where divided by 8 it leaves 1 over, premises outside grounds are withdrawn from its
+ * last board. Says where it differs. */
 static bool sequence_agrees(uint64_t seed, uint64_t number) {
     now_number = number;
     if (!play_sequence(seed, number, true)) {
@@ -91,7 +94,8 @@ static bool sequence_agrees(uint64_t seed, uint64_t number) {
         return false;
     }
     if (number % 4 == 0) return trip_back(&play) || wrong_sequence("the last board of");
-    return number % 4 != 2 || furnaces_apart(&play, draft.steps, draft.count, noise_for(seed, number)) || wrong_sequence("in");
+    if (number % 4 == 2) return furnaces_apart(&play, draft.steps, draft.count, noise_for(seed, number)) || wrong_sequence("in");
+    return number % 8 != 1 || grounds_are_enough(&play, seed, number) || wrong_sequence("the last board of");
 }
 
 /* Formula texts: by hand, on the boards to try, damaged, long, there and back, at every room, and by the definition of 15. */
@@ -104,8 +108,8 @@ static bool spelt_agree(uint64_t seed) {
 static bool trials_agree(uint64_t seed) {
     in_trials = true;
     return document_agrees(&play) && furnace_tries_agree(&play) && row_tries_agree(&play) && rule_tries_agree(&play) && number_tries_agree(&play) &&
-           small_boards_agree(&play) && spellings_agree(&play) && torn_texts_agree(&play, seed) && long_texts_agree(&play) &&
-           rooms_agree(&play, seed) && rules_agree(&play, seed) && spelt_agree(seed);
+           outside_tries_agree(&play) && small_boards_agree(&play) && spellings_agree(&play) && torn_texts_agree(&play, seed) &&
+           long_texts_agree(&play) && rooms_agree(&play, seed) && rules_agree(&play, seed) && spelt_agree(seed);
 }
 
 /* Plays all sequences of a seed, then what is to be tried besides. */

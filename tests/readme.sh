@@ -17,6 +17,12 @@ diff <(sed -n '/| .\/run cnf$/,/^$/s/^    \([^$].*\)/\1/p' README.md) crates/cnf
 diff <(printf "$(shown spell)") crates/spell/stdin
 diff <(sed -n '/| .\/run spell$/,/^[^ ]/p' README.md | sed -e 1d -e '$d' -e 's/^    //' | sed '$d') crates/spell/stdout
 
+# the line of the demo
+grep -qxF -- "$(sed -n 's/^    \(03:10 if .*\)/\1/p' README.md)" examples/trend.expected || {
+    echo "README.md: examples/trend.expected does not have its line of the demo"
+    exit 1
+}
+
 for target in $(grep -o 'make [a-z]*' README.md | sort -u | cut -d ' ' -f 2); do
     grep -q "^$target:" Makefile || {
         echo "README.md: 'make $target' is no target of the Makefile"

@@ -397,6 +397,10 @@ case("chain", "200 symbols, each implied by the one before: ranks up to 199.",
 case("chain-and-back", "The same chain from a rule of one literal, and 200 denied at its end: the opposites follow back along it, to rank 399.",
      opens(200), rule(1), *[rule(("imp", s, s + 1)) for s in range(1, 200)], rule(("imp", 199, -200)), why(1), why(200), why(-200), why(-199), why(-1), ask(1))
 
+case("ground-enough", "A mark keeps rank and row where a reading outside its ground is dropped, in conflict too; not where one of its ground is, nor where one is held or a rule is added.",
+     opens(4), rule(("imp", 1, 3)), rule(("imp", 2, 4)), rule(("imp", 4, 3)), hold(1), hold(2), why(3), why(4), drop(2), why(3), ask(4), hold(2), drop(1), why(3),
+     hold(1), why(3), hold(-3), why(3), ask(3), drop(2), why(3), ask(3), drop(-3), why(3), ask(3), drop(1), ask(3), hold(2), why(3), rule(("imp", 2, 3)), why(3))
+
 case("full-table", "A rule that fits the last free row passes; with one row fewer, 9. A rule that adds no row always passes.",
      opens(8), *[rule(fold("same", list(range(1, 9)))) for _ in range(15)],
      *[rule(fold("same", list(range(1, n + 1)))) for n in (7, 6, 5, 4, 3, 2)],

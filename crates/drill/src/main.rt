@@ -1,8 +1,9 @@
-// Runs the calls of `board` over the boards that document 01 lists and over every refusal, for furnace 1, and in `furnaces` for both, and prints what
-// each call answers.
+// Runs the calls of `board` over the boards that document 01 lists and over every refusal, for furnace 1, in `furnaces` for both and in `grounds` for
+// furnace 2, and prints what each call answers.
 
 mod faults;
 mod furnaces;
+mod grounds;
 mod journal;
 mod lengths;
 mod literals_given;
@@ -18,6 +19,7 @@ fn main() {
     faults::run();
     literals_given::run();
     furnaces::run();
+    grounds::run();
     lengths::run();
     journal::run();
 }

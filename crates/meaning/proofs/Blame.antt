@@ -18,7 +18,6 @@ use Rattle.meaning.proofs.Tests.{both-true, one-true, or-left, or-right
 use Rattle.meaning.proofs.Tables.{length-tabulate, getD-tabulate, Ahead, first-smallest-is}
 use Rattle.meaning.proofs.Literals.{has-below, opp-place, place-below, conflict-at, conflict-pair}
 use Rattle.meaning.proofs.Rounds.{reached-length}
-use Rattle.meaning.proofs.Derived.{derived-is}
 use Rattle.meaning.proofs.Standing.{reached-held, stands}
 
 -- ---- the symbols with label 3
@@ -153,9 +152,7 @@ module _ (symbols : ℕ) (rows : List (List ℕ)) (held : List Bool) (small : 2 
 
   module _ (more : List (List ℕ)) (now : List Bool) (kept : (row : List ℕ) → In row rows → In row more) (w : Within marks now) where
     still : (b : Bool) → has (derived places rows held) (place s b) ≡ true → has (derived places more now) (place s b) ≡ true
-    still b d =
-        derived-is places more now (place s b) .0
-        (stands places rows held small few more now kept (place s b) (below b) d (λ x r. w x (reach-marked b x r)))
+    still b d = stands places rows held small few more now kept (place s b) (below b) d (λ x r. w x (reach-marked b x r))
 
     still-conflict : conflict (derived places more now) ≡ true
     still-conflict =

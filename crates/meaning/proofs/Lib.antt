@@ -20,6 +20,7 @@ pub mod Derived
 mod Standing
 pub mod Blame
 mod Ways
+pub mod Unmoved
 mod Reason
 mod LeavingOff
 pub mod TwoWays

@@ -1,9 +1,9 @@
--- 01, "Ground" and "Blame", with 02, Ticket 4: the premises that a literal, or a conflict, stands on.
+-- 01, "Ground" and "Blame", with 02, Tickets 4 and 9: the premises that a literal, or a conflict, stands on.
 use mathlib.Core.Bool.{Bool, true, false, cond, not, _&&_, _||_}
-use mathlib.Core.List.{List, []}
+use mathlib.Core.List.{List, [], _∷_}
 use Prim.Native.Nat.{ℕ, zero, suc, _*_, max}
 use lib.Dec.{eqb}
-use lib.ListN.{getD}
+use lib.ListN.{getD, set}
 use Rattle.meaning.specs.Tests.{any, tabulate, firstSmallest}
 use Rattle.meaning.specs.Literals.{place, opp, has}
 use Rattle.meaning.specs.Rounds.{derived, rankOf, supportOf, label}
@@ -22,6 +22,11 @@ reaches places rows held p h = reachesIn (suc places) (supportOf places rows hel
 -- "1 for each premise reached from the literal"
 unfoldable pub ground : ℕ → List (List ℕ) → List Bool → ℕ → List Bool
 ground places rows held p = tabulate places (reaches places rows held p)
+
+-- 02, Ticket 9: what is held once these premises are struck off, one after the other
+abbrev pub struckOff : List Bool → List ℕ → List Bool
+struckOff held [] = held
+struckOff held (h ∷ gone) = struckOff (set held h false) gone
 
 -- the "larger rank of its two literals": none, if one of them has no rank
 unfoldable pub largerRank : ℕ → List (List ℕ) → List Bool → ℕ → ℕ

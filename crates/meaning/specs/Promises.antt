@@ -12,7 +12,7 @@ use Rattle.meaning.specs.Literals.{place, opp, has, Within, conflict}
 use Rattle.meaning.specs.Formulae.{Formula, ruleOf}
 use Rattle.meaning.specs.Clauses.{Digit, prime, primesInOrder, rowsOf, allRows, InOrder}
 use Rattle.meaning.specs.Rounds.{after, derived, rankOf, supportOf, label}
-use Rattle.meaning.specs.Ground.{reaches, largerRank, blamed, blame}
+use Rattle.meaning.specs.Ground.{reaches, ground, struckOff, largerRank, blamed, blame}
 use Rattle.meaning.specs.LeavingOff.{violation, WorksTo, LeavesOff}
 use Rattle.meaning.specs.SecondWay.{Forces, accepted, rulesOf, firstWay, secondWay}
 
@@ -129,6 +129,41 @@ BlameEnough =
     (symbols : ℕ) (rows more : List (List ℕ)) (held now : List Bool) → 2 * symbols < none → length rows ≤ none
     → conflict (derived (2 * symbols) rows held) ≡ true → ((row : List ℕ) → In row rows → In row more) → Within (blame symbols rows held) now
     → conflict (derived (2 * symbols) more now) ≡ true
+
+-- ---- 02, Ticket 9: "The ground is enough."
+
+-- the ground is of held premises
+abbrev pub GroundHeld : Type 0
+GroundHeld =
+    (places : ℕ) (rows : List (List ℕ)) (held : List Bool) (p : ℕ) → places < none → length rows < none → p < places
+    → Within (ground places rows held p) held
+
+-- with the premises `now` in place of those held, the literal p "is derived with the same rank and the same support", and so has the same ground
+pub record Unmoved (places : ℕ) (rows : List (List ℕ)) (held now : List Bool) (p : ℕ) : Type 0 where
+  pub derived : has (derived places rows now) p ≡ true
+  pub rank : rankOf places rows now p ≡ rankOf places rows held p
+  pub support : supportOf places rows now p ≡ supportOf places rows held p
+  pub ground : ground places rows now p ≡ ground places rows held p
+
+-- "For a derived literal on a board without new rules", in conflict or not: with any premises between its ground and those held
+abbrev pub GroundEnough : Type 0
+GroundEnough =
+    (places : ℕ) (rows : List (List ℕ)) (held now : List Bool) (p : ℕ) → places < none → length rows < none
+    → has (derived places rows held) p ≡ true → Within (ground places rows held p) now → Within now held
+    → Unmoved places rows held now p
+
+-- so "with only the premises of its ground held, it is derived with the same rank and the same support;
+abbrev pub OnlyGround : Type 0
+OnlyGround =
+    (places : ℕ) (rows : List (List ℕ)) (held : List Bool) (p : ℕ) → places < none → length rows < none
+    → has (derived places rows held) p ≡ true → Unmoved places rows held (ground places rows held p) p
+
+-- and withdrawing premises outside its ground, any number of them, changes neither."
+abbrev pub OutsideWithdrawn : Type 0
+OutsideWithdrawn =
+    (places : ℕ) (rows : List (List ℕ)) (held : List Bool) (p : ℕ) (gone : List ℕ) → places < none → length rows < none
+    → has (derived places rows held) p ≡ true → ((h : ℕ) → In h gone → has (ground places rows held p) h ≡ false)
+    → Unmoved places rows held (struckOff held gone) p
 
 -- ---- the same with no rounds, for any order of work
 

@@ -1,50 +1,29 @@
 -- 02, Ticket 4: the symbol that blame takes, and what the premises that it marks are good for.
 use mathlib.Core.Path.{_≡_, refl, sym, ap, _∙_}
-use mathlib.Core.Logic.{⊎-elim}
 use mathlib.Core.Bool.{Bool, true, false, _||_}
-use mathlib.Core.List.{List, [], _∷_, map, List·Memᴰ as In, Memᴰ·append-left}
-use Prim.Native.Nat.{ℕ, zero, suc, _*_, _≤_, _<_}
+use mathlib.Core.List.{List, map}
+use Prim.Native.Nat.{ℕ, _*_, _≤_, _<_}
 use native.Mathlib.Omega.{arith}
-use borrow.Author.Tests.{eqb-true, eqb-false, not-false}
-use lib.Dec.{eqb}
-use lib.IntN.{ℤ}
-use lib.ListN.{length, drop, getD, set, length-map, List·getD-append, List·getD-map}
-use lib.Seq.{getD-set-other}
+use borrow.Author.Tests.{not-false}
+use lib.ListN.{length, drop, getD}
 use Rattle.meaning.specs.Tests.{none}
 use Rattle.meaning.specs.Literals.{place, has, Within, conflict}
 use Rattle.meaning.specs.Ground.{reaches, blamed, blame}
 use Rattle.meaning.specs.Promises.{Earliest}
-use Rattle.meaning.proofs.Tests.{true-or-false, clash}
 use Rattle.meaning.proofs.Literals.{has-below}
 use Rattle.meaning.proofs.Blame.{length-blame, blame-at, blamed-is, blame-held, blame-enough}
-use Rattle.literals.specs.Literal.{placeOf}
-use Rattle.literals.specs.Row.{Ruled}
 use Rattle.literals.proofs.Decoding.{length-rows}
-use Rattle.board.specs.Furnaces.{isFurnace, heldBy, withHeld}
+use Rattle.board.specs.Furnaces.{isFurnace, heldBy}
 use Rattle.board.specs.Faults.{goodBoard, Fault}
 use Rattle.board.specs.Ranking.{derivedOn}
 use Rattle.board.specs.Grounds.{byteOf, blameFaults, blameOutcome, blameMarks}
-use Rattle.board.specs.Changes.{withFlag}
 use Rattle.board.specs.declared.Outcome.the-variants.{Done}
-use Rattle.board.proofs.TwoSets.{held-own, held-other}
 use Rattle.board.proofs.Goodness.{Good, good-is}
 use Rattle.board.proofs.Answered.{none-given}
-use Rattle.promises.specs.Calls.{Call, opens, adds, holds, withdraws, asks, explains, settles, grounds, blames, reads, writes}
-use Rattle.promises.specs.Calls.{readsText, addsText, writesText, World, front, answer, outcome, after, run, notOpen}
-use Rattle.promises.specs.Demands.{rowsOfWorld, premisesOf, derivedSet, Appends, BlameTakes, Marked, Spares, then, BlameMarksHeld}
-use Rattle.promises.specs.Demands.{BlameAlone, ConflictStays}
-use Rattle.promises.proofs.Refusals.{so-after}
-use Rattle.promises.proofs.Changes.{hold-puts, withdraw-takes}
-use Rattle.promises.proofs.Stored.{rows-grown, rule-appends, text-appends, read-appends}
-use Rattle.promises.proofs.Told.{rows-read, blame-tells}
-
--- a premise held stays where another is put
-set-true : (held : List Bool) (x p : ℕ) → has held p ≡ true → has (set held x true) p ≡ true
-set-true [] x p e = e
-set-true (b ∷ held) zero zero e = refl
-set-true (b ∷ held) zero (suc p) e = e
-set-true (b ∷ held) (suc x) zero e = e
-set-true (b ∷ held) (suc x) (suc p) e = set-true held x p e
+use Rattle.promises.specs.Calls.{blames, World, front, answer, outcome, run}
+use Rattle.promises.specs.Demands.{rowsOfWorld, premisesOf, derivedSet, BlameTakes, Marked, BlameMarksHeld, BlameAlone, ConflictStays}
+use Rattle.promises.proofs.Told.{rows-read, blame-tells, mark-at, byte-one}
+use Rattle.promises.proofs.Spared.{Kept, spared}
 
 -- ---- a board on which blame is done
 
@@ -89,11 +68,8 @@ module _ (w : World) (lent furnace : ℕ) (marks : List ℕ) (e : outcome w (bla
   long : length marked ≡ 2 * S
   long = length-blame S rows held
 
-  mark-at : (p : ℕ) → p < 2 * S → getD (blameMarks (front w lent) (w .board) furnace marks) p 0 ≡ byteOf (has marked p)
-  mark-at p h =
-      ap (λ (l : List ℕ). getD l p 0) (blame-tells w lent furnace marks e)
-      ∙ List·getD-append (map byteOf marked) (drop (2 * S) marks) 0 p (omega (arith, length-map marked byteOf, long))
-      ∙ List·getD-map byteOf marked p false
+  its-mark : (p : ℕ) → p < 2 * S → getD (blameMarks (front w lent) (w .board) furnace marks) p 0 ≡ byteOf (has marked p)
+  its-mark p h = ap (λ (l : List ℕ). getD l p 0) (blame-tells w lent furnace marks e) ∙ mark-at marked (drop (2 * S) marks) p (omega (arith, long))
 
   takes : (s : ℕ) × Earliest S rows held s
       × ((p : ℕ) → p < 2 * S → getD (blameMarks (front w lent) (w .board) furnace marks) p 0
@@ -101,95 +77,23 @@ module _ (w : World) (lent furnace : ℕ) (marks : List ℕ) (e : outcome w (bla
   takes = (
     blamed S rows held,
     blamed-is S rows held (blamed S rows held) small in-conflict .0 refl,
-    λ p h. mark-at p h ∙ ap byteOf (blame-at S rows held p h),
+    λ p h. its-mark p h ∙ ap byteOf (blame-at S rows held p h),
   )
 
   marked-has : (p : ℕ) → Marked w lent furnace marks p → has marked p ≡ true
-  marked-has p m = one (has marked p) (sym (mark-at p (m .0)) ∙ m .1)
-    where
-      one : (b : Bool) → byteOf b ≡ 1 → b ≡ true
-      one true e = refl
-      one false e = absurd (omega arith)
+  marked-has p m = byte-one (has marked p) (sym (its-mark p (m .0)) ∙ m .1)
 
   has-marked : (p : ℕ) → has marked p ≡ true → Marked w lent furnace marks p
-  has-marked p h = let low : p < 2 * S = omega (arith, has-below marked p h, long) in (low, mark-at p low ∙ ap byteOf h)
+  has-marked p h = let low : p < 2 * S = omega (arith, has-below marked p h, long) in (low, its-mark p low ∙ ap byteOf h)
 
   marks-held : Within marked held
   marks-held = blame-held S rows held small few in-conflict
 
-  -- ---- another board that has these rows, and maybe others, and on which the furnace holds the premises marked, and maybe others
-
-  record Kept (v : World) : Type 0 where
-    symbols : v .board .symbols ≡ w .board .symbols
-    rows : (row : List ℕ) → In row (rowsOfWorld w) → In row (rowsOfWorld v)
-    premises : Within (blame (w .board .symbols) (rowsOfWorld w) (premisesOf w furnace)) (premisesOf v furnace)
-
-  kept-conflict : (v : World) → Kept v → conflict (derivedSet v furnace) ≡ true
+  -- a board that has these rows, and maybe others, and on which the furnace holds the premises marked, and maybe others
+  kept-conflict : (v : World) → Kept w furnace marked v → conflict (derivedSet v furnace) ≡ true
   unfolding heldBy
   kept-conflict v k =
       rw (k .symbols) (blame-enough S rows (rowsOfWorld v) held (premisesOf v furnace) small few in-conflict (k .rows) (k .premises))
-
-  module _ (v : World) (k : Kept v) where
-    -- rules more
-    grown : {next : World} {rules : ℕ} {new : List Ruled} {count : ℕ} → Appends v next rules new count → Kept next
-    grown a =
-        record {
-          symbols = a .symbols ∙ k .symbols;
-          rows = λ row m. rw (rows-grown a) (Memᴰ·append-left _ (k .rows row m));
-          premises = λ p h. rw (a .premises furnace) (k .premises p h);
-        }
-
-    -- a premise held,
-    more-held : (l : ℤ) → Within marked (set (premisesOf v furnace) (placeOf l) true)
-    more-held l p h = set-true (premisesOf v furnace) (placeOf l) p (k .premises p h)
-
-    -- or one withdrawn that is not marked:
-    less-held : (l : ℤ) → (Marked w lent furnace marks (placeOf l) → ⊥) → Within marked (set (premisesOf v furnace) (placeOf l) false)
-    less-held l out p h =
-        getD-set-other (premisesOf v furnace) (placeOf l) p false false (λ s. out (rw s at (has-marked p h))) ∙ k .premises p h
-
-    -- done for this furnace; for the other it leaves this one what it held
-    flagged : (named : ℕ) (l : ℤ) (flag : Bool) → (named ≡ furnace → Within marked (set (premisesOf v furnace) (placeOf l) flag))
-        → Kept (record { board = withFlag (v .board) named l flag; table = v .table })
-    unfolding withHeld
-    flagged named l flag own =
-        record { symbols = k .symbols; rows = k .rows; premises = ⊎-elim same another (true-or-false (eqb named furnace)) }
-      where
-        same : eqb named furnace ≡ true → Within marked (heldBy (withFlag (v .board) named l flag) furnace)
-        same e p h =
-            let is = eqb-true named furnace e in
-            rw (is, held-own (v .board) furnace (set (premisesOf v furnace) (placeOf l) flag) is-furnace) (own is p h)
-
-        another : eqb named furnace ≡ false → Within marked (heldBy (withFlag (v .board) named l flag) furnace)
-        another e p h =
-            rw (held-other (v .board) named (set (premisesOf v named) (placeOf l) flag) furnace (eqb-false named furnace e)) (k .premises p h)
-
-    step : (c : Call) → notOpen c ≡ true
-        → ((some : ℕ) (l : ℤ) → c ≡ withdraws some furnace l → outcome v c ≡ Done → Marked w lent furnace marks (placeOf l) → ⊥) → Kept (after v c)
-    unfolding after
-    step (opens S) n out = clash n refl
-    step (adds some bytes) n out = so-after Kept v (adds some bytes) refl k (λ d. grown (rule-appends v some bytes d))
-    step (holds some named l) n out =
-        so-after Kept v (holds some named l) refl k (λ d. rw (hold-puts v some named l d) (flagged named l true (λ is. more-held l)))
-    step (withdraws some named l) n out =
-        so-after Kept v (withdraws some named l) refl k
-        (λ d.
-        rw (withdraw-takes v some named l d)
-        (flagged named l false (λ is. less-held l (out some l (ap (λ (f : ℕ). withdraws some f l) is) d))))
-    step (asks some named l) n out = k
-    step (explains some named l) n out = k
-    step (settles some named labels ranks supports) n out = k
-    step (grounds some named l bytes) n out = k
-    step (blames some named bytes) n out = k
-    step (reads some text) n out = so-after Kept v (reads some text) refl k (λ d. grown (read-appends v some text d))
-    step (writes some bytes) n out = k
-    step (readsText some text bytes) n out = k
-    step (addsText some text) n out = so-after Kept v (addsText some text) refl k (λ d. grown (text-appends v some text d))
-    step (writesText some formula bytes) n out = k
-
-  steps : (v : World) (calls : List Call) → Kept v → Spares furnace (Marked w lent furnace marks) v calls → Kept (run v calls)
-  steps v [] k sparing = k
-  steps v (c ∷ calls) k (then n out rest) = steps (after v c) calls (step v k c n out) rest
 
 -- ---- the promises
 
@@ -207,4 +111,5 @@ blame-alone w v lent furnace marks e symbols rows only =
 pub conflict-stays : ConflictStays
 conflict-stays w lent furnace marks calls e sparing =
     kept-conflict w lent furnace marks e (run w calls)
-    (steps w lent furnace marks e w calls (record { symbols = refl; rows = λ row m. m; premises = marks-held w lent furnace marks e }) sparing)
+    (spared w furnace (marked w lent furnace marks e) (Marked w lent furnace marks) (is-furnace w lent furnace marks e)
+    (has-marked w lent furnace marks e) (marks-held w lent furnace marks e) calls sparing)

@@ -9,7 +9,10 @@ pub mod Places
 pub mod FormulaPlaces
 pub mod Stops
 pub mod Told
+mod Spared
+mod Fewer
 pub mod Blamed
+pub mod Unmoved
 pub mod Texts
 pub mod FormulaTexts
 pub mod Explained
@@ -22,4 +25,5 @@ pub mod Apart
 mod Boards
 mod TwoFurnaces
 mod NumberedBoards
+mod GroundBoards
 mod Carried

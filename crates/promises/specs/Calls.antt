@@ -8,6 +8,7 @@ use lib.IntN.{ℤ}
 use lib.ListN.{length, take, drop}
 use Rattle.meaning.specs.Tests.{keep}
 use Rattle.meaning.specs.Formulae.{Formula}
+use Rattle.literals.specs.Literal.{placeOf}
 use Rattle.formula.specs.Parse.{wholeOf}
 use Rattle.formula.specs.Answers.{formulaOf}
 use Rattle.board.specs.Faults.{Fault, ifDone}
@@ -167,6 +168,11 @@ abbrev pub run : World → List Call → World
 run w [] = w
 run w (c ∷ calls) = run (after w c) calls
 
+-- each of the calls is so, where it is made, one after the other from w on
+abbrev pub Each : (World → Call → Type 0) → World → List Call → Type 0
+Each So w [] = Unit {0}
+Each So w (c ∷ calls) = So w c × Each So (after w c) calls
+
 -- ---- the rules accepted since the last open
 
 -- the formula of a rule call
@@ -248,6 +254,40 @@ changes (writes lent out) = false
 changes (readsText lent text out) = false
 changes (addsText lent text) = false
 changes (writesText lent bytes out) = false
+
+-- the call, if it is done, brings this furnace a rule or a premise
+abbrev pub brings : (furnace : ℕ) → Call → Bool
+brings f (opens S) = false
+brings f (adds lent bytes) = true
+brings f (holds lent furnace l) = eqb furnace f
+brings f (withdraws lent furnace l) = false
+brings f (asks lent furnace l) = false
+brings f (explains lent furnace l) = false
+brings f (settles lent furnace labels ranks supports) = false
+brings f (grounds lent furnace l marks) = false
+brings f (blames lent furnace marks) = false
+brings f (reads lent text) = true
+brings f (writes lent out) = false
+brings f (readsText lent text out) = false
+brings f (addsText lent text) = true
+brings f (writesText lent bytes out) = false
+
+-- the call, if it is done, takes the premise at the place h from this furnace
+abbrev pub takes : (furnace h : ℕ) → Call → Bool
+takes f h (opens S) = true
+takes f h (adds lent bytes) = false
+takes f h (holds lent furnace l) = false
+takes f h (withdraws lent furnace l) = eqb furnace f && eqb (placeOf l) h
+takes f h (asks lent furnace l) = false
+takes f h (explains lent furnace l) = false
+takes f h (settles lent furnace labels ranks supports) = false
+takes f h (grounds lent furnace l marks) = false
+takes f h (blames lent furnace marks) = false
+takes f h (reads lent text) = false
+takes f h (writes lent out) = false
+takes f h (readsText lent text out) = false
+takes f h (addsText lent text) = false
+takes f h (writesText lent bytes out) = false
 
 -- the calls without the holds and withdraws for this furnace
 abbrev pub without : (furnace : ℕ) → List Call → List Call

@@ -31,6 +31,7 @@ use Rattle.board.specs.Ranking.{rowsOn, derivedOn, rankOn, supportOn}
 use Rattle.board.specs.Asking.{asked, standing, reasoned, explained}
 use Rattle.board.specs.Grounds.{byteOf, groundMarks, blameMarks}
 use Rattle.board.specs.declared.Outcome.the-variants.{Done, Refused}
+use Rattle.board.specs.declared.asking.Standing.the-variants.{Stands}
 use Rattle.dimacs.specs.Form.{isGood, clausesOf, parseText}
 use Rattle.dimacs.specs.Clauses.{oneOf, clauseFaults, clausesFaults}
 use Rattle.dimacs.specs.Reading.{formulaeIn, readAnswer}
@@ -40,7 +41,8 @@ use Rattle.chains.specs.Promises.{Says, Offends}
 use Rattle.text.specs.Reading.{bytesIn, readTextAnswer, readTextBytes}
 use Rattle.text.specs.Adding.{ruledText}
 use Rattle.text.specs.Writing.{textIn, writeTextAnswer, writeTextBytes}
-use Rattle.promises.specs.Calls.{Call, opens, adds, holds, withdraws, asks, explains, settles, grounds, blames, reads, writes, readsText, addsText, writesText, World, front, faults, outcome, after, run, formulaIn, rulesAfterAll, notOpen, names, without, answer}
+use Rattle.promises.specs.Calls.{Call, opens, adds, holds, withdraws, asks, explains, settles, grounds, blames, reads, writes, readsText, addsText, writesText}
+use Rattle.promises.specs.Calls.{World, front, faults, outcome, after, run, Each, formulaIn, rulesAfterAll, notOpen, names, brings, takes, without, ofAsk, answer}
 
 -- ---- demand 1: "Each refusal is given exactly in the case document 01 names, and leaves each table untouched."
 
@@ -358,19 +360,16 @@ BlameAlone =
     → ((p : ℕ) → (has (premisesOf v furnace) p ≡ true) ↔ Marked w lent furnace marks p)
     → conflict (derivedSet v furnace) ≡ true
 
--- of these calls, one after the other from w on, none is an open, and none that is done withdraws one of the premises for this furnace
-pub data Spares (furnace : ℕ) (premises : ℕ → Type 0) : World → List Call → Type 0 where
-  all-made : {w : World} → Spares furnace premises w []
-  then : {w : World} {c : Call} {calls : List Call} → notOpen c ≡ true
-      → ((lent : ℕ) (l : ℤ) → c ≡ withdraws lent furnace l → outcome w c ≡ Done → premises (placeOf l) → ⊥)
-      → Spares furnace premises (after w c) calls → Spares furnace premises w (c ∷ calls)
+-- the call is no open, and if it is done it takes none of these premises from this furnace
+abbrev pub Spares : (furnace : ℕ) → (premises : ℕ → Type 0) → World → Call → Type 0
+Spares furnace premises w c = (notOpen c ≡ true) × ((h : ℕ) → premises h → outcome w c ≡ Done → takes furnace h c ≡ false)
 
 -- so the furnace stays in conflict, whatever rules are added and premises held or withdrawn for either furnace, until one of those is withdrawn for
 -- it or the board is opened anew
 abbrev pub ConflictStays : Type 0
 ConflictStays =
     (w : World) (lent furnace : ℕ) (marks : List ℕ) (calls : List Call) → outcome w (blames lent furnace marks) ≡ Done
-    → Spares furnace (Marked w lent furnace marks) w calls
+    → Each (Spares furnace (Marked w lent furnace marks)) w calls
     → conflict (derivedSet (run w calls) furnace) ≡ true
 
 -- 02, Ticket 2: "Write the rows in use too": the bytes told are the text's, and the bytes beyond it stay
@@ -529,6 +528,62 @@ abbrev pub NumbersApart : Type 0
 NumbersApart =
     (v w : World) (lent furnace : ℕ) → SameLiterals v w → goodBoard (front v lent) (v .board) ≡ true → goodBoard (front w lent) (w .board) ≡ true
     → SameTold v w lent furnace
+
+-- ---- 02, Ticket 9: "The ground is enough."
+
+-- ground writes 1 at the place h: the premise is one of the literal's ground
+abbrev pub InGround : World → (lent furnace : ℕ) → ℤ → (marks : List ℕ) → ℕ → Type 0
+InGround w lent furnace l marks h =
+    (h < 2 * w .board .symbols) × (getD (groundMarks (front w lent) (w .board) furnace l marks) h 0 ≡ 1)
+
+-- "For a derived literal", so one whose ground is told: "with only the premises of its ground held, it is derived with the same rank and the same
+-- support", in every world of one S that has the same rows
+abbrev pub GroundAlone : Type 0
+GroundAlone =
+    (w v : World) (lent furnace : ℕ) (l : ℤ) (marks : List ℕ) → outcome w (grounds lent furnace l marks) ≡ Done
+    → v .board .symbols ≡ w .board .symbols → rowsOfWorld v ≡ rowsOfWorld w
+    → ((h : ℕ) → (has (premisesOf v furnace) h ≡ true) ↔ InGround w lent furnace l marks h)
+    → DerivedOn v furnace (placeOf l) × (rankIn v furnace (placeOf l) ≡ rankIn w furnace (placeOf l))
+    × (supportIn v furnace (placeOf l) ≡ supportIn w furnace (placeOf l))
+
+-- a mark that can't move: what the furnace is told of the literal in v is what it was told in w, refusals included, but for a conflict that was ended
+pub record CannotMove (w v : World) (furnace : ℕ) (l : ℤ) : Type 0 where
+  -- its rank, row and rule, and the row's part of the table
+  pub explain : (lent : ℕ) → answer v (explains lent furnace l) ≡ answer w (explains lent furnace l)
+  -- the rank and the support at its place
+  pub settle : (lent : ℕ) (labels ranks supports : List ℕ) → let c = settles lent furnace labels ranks supports in let p = placeOf l in
+      (outcome v c ≡ outcome w c)
+      × (getD (settledRanks (front v lent) (v .board) furnace labels ranks supports) p 0
+      ≡ getD (settledRanks (front w lent) (w .board) furnace labels ranks supports) p 0)
+      × (getD (settledSupports (front v lent) (v .board) furnace labels ranks supports) p 0
+      ≡ getD (settledSupports (front w lent) (w .board) furnace labels ranks supports) p 0)
+  -- its ground
+  pub ground : (lent : ℕ) (marks : List ℕ) → answer v (grounds lent furnace l marks) ≡ answer w (grounds lent furnace l marks)
+  -- how it stands, unless a conflict was ended, and then it stands; none comes up
+  pub ask : (lent : ℕ) → conflict (derivedSet v furnace) ≡ conflict (derivedSet w furnace)
+      → answer v (asks lent furnace l) ≡ answer w (asks lent furnace l)
+  pub stands : (lent : ℕ) → conflict (derivedSet v furnace) ≡ false → outcome w (asks lent furnace l) ≡ Done
+      → answer v (asks lent furnace l) ≡ ofAsk Stands
+  pub no-conflict : conflict (derivedSet w furnace) ≡ false → conflict (derivedSet v furnace) ≡ false
+
+-- the call, if it is done, brings this furnace no rule and no premise
+abbrev pub BringsNothing : (furnace : ℕ) → World → Call → Type 0
+BringsNothing furnace w c = outcome w c ≡ Done → brings furnace c ≡ false
+
+-- "and withdrawing premises outside its ground, any number of them, changes neither": whatever is called, for either furnace, that opens no board,
+-- brings this one no rule and no premise, and withdraws none of the ground for it
+abbrev pub MarkStays : Type 0
+MarkStays =
+    (w : World) (lent furnace : ℕ) (l : ℤ) (marks : List ℕ) (calls : List Call) → outcome w (grounds lent furnace l marks) ≡ Done
+    → Each (Spares furnace (InGround w lent furnace l marks)) w calls → Each (BringsNothing furnace) w calls
+    → CannotMove w (run w calls) furnace l
+
+-- "Before an operator strikes off a reading we want to tell him which marks can't move": for the premise h, those whose ground does not have it
+abbrev pub StrikesOff : Type 0
+StrikesOff =
+    (w : World) (lent furnace : ℕ) (l : ℤ) (marks : List ℕ) (h : ℤ) (some : ℕ) → outcome w (grounds lent furnace l marks) ≡ Done
+    → getD (groundMarks (front w lent) (w .board) furnace l marks) (placeOf h) 0 ≡ 0
+    → CannotMove w (after w (withdraws some furnace h)) furnace l
 
 -- ---- demand 1: a board that the calls made is a good one
 
