@@ -1,6 +1,7 @@
 /* The measure: open, rule, every call that names a furnace, and DIMACS text in and out through the library, against the same by hand in plain C
- * (bench/plain.c and bench/dimacs.c), and settle, ask and ground against plain C with an index of the rows by literal (bench/indexed.c). Then rules
- * from formula text against the same rules from their bytes (bench/spelt.c).
+ * (bench/plain.c and bench/dimacs.c), and settle, ask and ground against plain C with an index of the rows by literal (bench/indexed.c). Then the
+ * smallest sets against the same search over that ask (bench/sets.c), and rules from formula text against the same rules from their bytes
+ * (bench/spelt.c).
  *
  * All sides in one program, one process, same inputs, same outputs (compared first), calls by the same kind of pointer.
  * A figure is the best of several runs, the sides taking turns within each run; times are the processor's, not the wall's.
@@ -15,10 +16,11 @@
 #include "boards.h"
 #include "indexed.h"
 #include "plain.h"
+#include "sets.h"
 #include "spelt.h"
 #include "timing.h"
 
-enum { OPEN, SETTLE, ASK, EXPLAIN, GROUND, BLAME, HOLD, WITHDRAW, RULE, READ, WRITE, CALLS };
+enum { OPEN, SETTLE, ASK, EXPLAIN, GROUND, BLAME, HOLD, WITHDRAW, RULE, READ, WRITE, SMALLEST, CALLS };
 enum { LIBRARY, PLAIN, INDEXED, OTHER, SIDES };
 
 typedef struct side {
@@ -33,17 +35,20 @@ typedef struct side {
     tup_addition (*rule)(tup_board, int16_t *, size_t numbers, const uint8_t *, size_t);
     tup_reading (*read)(tup_board, int16_t *, size_t numbers, const uint8_t *, size_t);
     tup_writing (*write)(tup_board, const int16_t *, size_t numbers, uint8_t *, size_t);
+    tup_listing (*smallest)(tup_board, const int16_t *, size_t numbers, const int16_t *, size_t, int16_t, uint16_t *, size_t);
 } side;
 
 static const side sides[SIDES] = {
-    {tup_open, tup_settle, tup_ask, tup_explain, tup_ground, tup_blame, tup_hold, tup_withdraw, tup_rule, tup_read_dimacs, tup_write_dimacs},
+    {tup_open, tup_settle, tup_ask, tup_explain, tup_ground, tup_blame, tup_hold, tup_withdraw, tup_rule, tup_read_dimacs, tup_write_dimacs,
+     tup_smallest},
     {plain_open, plain_settle, plain_ask, plain_explain, plain_ground, plain_blame, plain_hold, plain_withdraw, plain_rule, plain_read_dimacs,
-     plain_write_dimacs},
-    {.settle = indexed_settle, .ask = indexed_ask, .ground = indexed_ground},
+     plain_write_dimacs, NULL},
+    {.settle = indexed_settle, .ask = indexed_ask, .ground = indexed_ground, .smallest = indexed_smallest},
     {.settle = indexed_settle_summing, .read = plain_read_dimacs_once},
 };
 static const char *const side_words[SIDES] = {"library", "plain", "indexed", "other"};
-static const char *const call_words[CALLS] = {"open", "settle", "ask", "explain", "ground", "blame", "hold", "withdraw", "rule", "read", "write"};
+static const char *const call_words[CALLS] = {"open", "settle", "ask", "explain", "ground", "blame", "hold", "withdraw", "rule", "read", "write",
+                                              "smallest"};
 
 /* All that calls write, and what is compared of what they return. */
 typedef struct outputs {
@@ -51,6 +56,7 @@ typedef struct outputs {
     uint16_t ranks[TUP_PLACES], supports[TUP_PLACES];
     int16_t table[NUMBERS];
     uint8_t text[TUP_MOST_TEXT];
+    uint16_t sets[TUP_MOST_SETS];
     tup_board board;
     tup_reason reason;
     uint8_t refusal;
@@ -65,6 +71,11 @@ static volatile unsigned sink;
 static const double ratio_goal = 1.3, growth_goal = 1.1;
 static double worst_ratio, chain_growth;
 static const char *worst_board, *worst_call;
+
+/* The goals set for ticket 10, and how far they are met: the same ratio for the smallest sets, and their time on the typical board. */
+static const double typical_goal_ms = 100;
+static double worst_sets_ratio, typical_sets_ms;
+static const char *worst_sets_board;
 
 /* ---- Measuring ---- */
 
@@ -108,6 +119,12 @@ static unsigned made_writing(tup_writing writing, outputs *out) {
     return (unsigned)writing.bytes;
 }
 
+/* Notes the refusal of a listing; the sets that it listed. */
+static unsigned made_listing(tup_listing listing, outputs *out) {
+    out->refusal = listing.refusal;
+    return (unsigned)listing.count;
+}
+
 /* Makes one call on one side. */
 static unsigned make(const side *with, unsigned call, outputs *out, int16_t *table) {
     switch (call) {
@@ -122,7 +139,10 @@ static unsigned make(const side *with, unsigned call, outputs *out, int16_t *tab
     case WITHDRAW: return made_change(with->withdraw(now.board, table, NUMBERS, FURNACE, now.premise), out);
     case RULE: return made_rule(with->rule(now.board, table, NUMBERS, now.formula, now.bytes), out);
     case READ: return made_reading(with->read(now.board, table, NUMBERS, now.text, now.text_bytes), out);
-    default: return made_writing(with->write(now.board, table, NUMBERS, out->text, sizeof out->text), out);
+    case WRITE: return made_writing(with->write(now.board, table, NUMBERS, out->text, sizeof out->text), out);
+    default:
+        return made_listing(with->smallest(now.board, table, NUMBERS, now.candidates, TUP_MOST_CANDIDATES, now.literal, out->sets, TUP_MOST_SETS),
+                            out);
     }
 }
 
@@ -139,7 +159,8 @@ static bool has(const side *with, unsigned call) {
     case WITHDRAW: return with->withdraw != NULL;
     case RULE: return with->rule != NULL;
     case READ: return with->read != NULL;
-    default: return with->write != NULL;
+    case WRITE: return with->write != NULL;
+    default: return with->smallest != NULL;
     }
 }
 
@@ -245,6 +266,35 @@ static void print_calls(void) {
     long_rows(false), print_call("2,048 rows of 8", WRITE), as_text(), print_call("text of 2,048 of 8", READ);
 }
 
+/* Measures the smallest sets on the setting, prints a line, and returns the library's time in milliseconds. The propagations are those of indexed. */
+static double print_smallest(const char *board) {
+    static outputs out;
+    double best[SIDES];
+    measure(SMALLEST, best);
+    unsigned count = make(&sides[INDEXED], SMALLEST, &out, now.table);
+    if (out.refusal != 0) {
+        fprintf(stderr, "bench: smallest is refused, %u\n", out.refusal);
+        exit(1);
+    }
+    double ratio = best[LIBRARY] / best[INDEXED];
+    printf("%-36s%14.1f%14.1f%9.2f%9u%14u\n", board, best[LIBRARY], best[INDEXED], ratio, count, sets_propagated());
+    if (ratio > worst_sets_ratio) {
+        worst_sets_ratio = ratio;
+        worst_sets_board = board;
+    }
+    return best[LIBRARY] / 1e6;
+}
+
+/* The table of the smallest sets. */
+static void print_sets(void) {
+    printf("\nthe smallest sets of 12 candidates: ns per call, sets listed, and sets held alone and propagated\n");
+    printf("%-36s%14s%14s%9s%9s%14s\n", "", side_words[LIBRARY], side_words[INDEXED], "ratio", "listed", "propagated");
+    typical_sets(), typical_sets_ms = print_smallest("typical, 150 rows");
+    typical(), no_sets(), typical_sets_ms = fmax(typical_sets_ms, print_smallest("typical, 150 rows, no set"));
+    full_sets(), print_smallest("full, 2,048 rows of 2 to 4");
+    full_board(false), no_sets(), print_smallest("full, 2,048 rows of 2 to 4, no set");
+}
+
 /* Prints the head of a table of sizes: the sides that have the call. */
 static void print_sizes_head(const char *size, unsigned call) {
     printf("%8s", size);
@@ -303,6 +353,10 @@ static void print_goals(void) {
            worst_ratio <= ratio_goal ? "met" : "not met", worst_ratio, worst_call, worst_board);
     printf("the chain's exponent at most %.1f over the last doubling: %s (%.2f);\n", growth_goal, chain_growth <= growth_goal ? "met" : "not met",
            chain_growth);
+    printf("the smallest sets of 12 candidates at most %.1f times indexed on every board: %s (at most %.2f, on %s);\n", ratio_goal,
+           worst_sets_ratio <= ratio_goal ? "met" : "not met", worst_sets_ratio, worst_sets_board);
+    printf("and on the typical board in less than %.0f ms: %s (at most %.1f);\n", typical_goal_ms,
+           typical_sets_ms < typical_goal_ms ? "met" : "not met", typical_sets_ms);
     print_spelt_goal();
 }
 
@@ -311,6 +365,7 @@ int main(void) {
     print_calls();
     print_growths();
     print_bytes();
+    print_sets();
     print_spelt();
     print_goals();
     return 0;

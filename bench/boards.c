@@ -152,3 +152,31 @@ void text_of(unsigned rows) {
     while (now.board.rows < rows) add_random_row(1, 2 + draw(3));
     as_text();
 }
+
+/* Takes a literal to explain, and candidates. */
+static void choose(int16_t literal, const int16_t candidates[TUP_MOST_CANDIDATES]) {
+    now.literal = literal;
+    memcpy(now.candidates, candidates, sizeof now.candidates);
+}
+
+/* The typical board with candidates, found by trying, of which 24 sets are listed, of two to five each; thirteen more end the search in conflict. */
+void typical_sets(void) {
+    static const int16_t candidates[TUP_MOST_CANDIDATES] = {2, -6, -7, 13, 14, 22, 23, 26, 29, 36, -40, 42};
+    typical();
+    choose(-24, candidates);
+}
+
+/* The full board with the twelve literals that derive nothing alone; any other derives nearly all of its sign. Three sets are listed, of two, three
+ * and four; four more end the search in conflict. */
+void full_sets(void) {
+    static const int16_t candidates[TUP_MOST_CANDIDATES] = {-9, 12, -57, 67, -71, 72, 100, -119, 128, -151, 161, 167};
+    full_board(false);
+    choose(-67, candidates);
+}
+
+/* The first twelve symbols as candidates, and the opposite of the literal aimed at. On a board of implications they derive no negative literal, so
+ * that no set is listed and none is in conflict: nothing ends the search. */
+void no_sets(void) {
+    static const int16_t candidates[TUP_MOST_CANDIDATES] = {1, 2, 3, 4, 5, 6, 7, 8, 9, 10, 11, 12};
+    choose(opposite(now.literal), candidates);
+}

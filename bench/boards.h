@@ -12,7 +12,8 @@ extern "C" {
 
 enum { NUMBERS = TUP_MOST_ROWS * TUP_ROW_WIDTH, FURNACE = 1 };
 
-/* What a call is given: a board, its table, a literal to ask of, one to withdraw, which FURNACE holds on all boards with rows, a formula, a text. */
+/* What a call is given: a board, its table, a literal to ask of, one to withdraw, which FURNACE holds on all boards with rows, a formula, a text, and
+ * candidates to explain the literal by. */
 typedef struct setting {
     tup_board board;
     int16_t table[NUMBERS];
@@ -21,6 +22,7 @@ typedef struct setting {
     size_t bytes;
     uint8_t text[TUP_MOST_TEXT];
     size_t text_bytes;
+    int16_t candidates[TUP_MOST_CANDIDATES];
 } setting;
 
 extern setting now;
@@ -35,6 +37,9 @@ void in_conflict(void);
 void parity_rule(void);
 void as_text(void);
 void text_of(unsigned rows);
+void typical_sets(void);
+void full_sets(void);
+void no_sets(void);
 
 #ifdef __cplusplus
 }

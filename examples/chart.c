@@ -7,7 +7,7 @@
 enum {
     WIDTH = 1240, LEFT = 172, PER_MINUTE = 2, RIGHT = LEFT + PER_MINUTE * SHIFT_ENDS,
     TOP = 134, LANE = 21, BAR = 13, GROUP_GAP = 26, FURNACE_GAP = 92, FOOT = 150,
-    SHOWN = 84, LINE = 16, LINE_LENGTH = 170 /* of the text that a click shows */
+    TOLD = 76, SHOWN = 84, LINE = 16, LINE_LENGTH = 170 /* of the text at the foot: what marks need, and what a click shows */
 };
 
 /* A furnace's part of the chart: where it begins and ends, where its conclusions begin, and the middle of each symbol's lane, 0 where it has none. */
@@ -217,18 +217,26 @@ static int line_length(const char *text) {
     return fits > 0 ? fits : LINE_LENGTH;
 }
 
-/* Writes the words of bar i at the foot of the picture, over as many lines as they take. They show once the bar is clicked on. */
-static void put_shown(FILE *out, const panel *p, int i, int top) {
-    words whole = bar_words(p, &p->of->bars[i]);
-    const char *rest = whole.text;
-    fprintf(out, "<g class=\"shown\" id=\"mark-%d-%d\">\n", p->of->number, i);
-    for (int y = top; *rest != '\0'; y += LINE) {
+/* Where the line after the next one begins. */
+static const char *past_line(const char *text) {
+    const char *rest = text + line_length(text);
+    return *rest == ' ' ? rest + 1 : rest;
+}
+
+/* Writes a text at the foot of the picture, over as many lines as it takes; where the next text may stand. */
+static int put_lines(FILE *out, int y, const char *text) {
+    for (; *text != '\0'; text = past_line(text), y += LINE) {
         words line = {0};
-        int length = line_length(rest);
-        say(&line, "%.*s", length, rest);
+        say(&line, "%.*s", line_length(text), text);
         put_text(out, "plain", 24, y, line.text);
-        rest += length + (rest[length] == ' ' ? 1 : 0);
     }
+    return y;
+}
+
+/* Writes the words of bar i. They show once the bar is clicked on. */
+static void put_shown(FILE *out, const panel *p, int i, int top) {
+    fprintf(out, "<g class=\"shown\" id=\"mark-%d-%d\">\n", p->of->number, i);
+    put_lines(out, top, bar_words(p, &p->of->bars[i]).text);
     fputs("</g>\n", out);
 }
 
@@ -287,6 +295,24 @@ static void put_legend(FILE *out, int bottom) {
     }
 }
 
+/* Writes what marks need, as the shift desk was told, below the legend: it is of the rules, so it stands in neither furnace's part. */
+static void put_needs(FILE *out, const screen *s, int top) {
+    for (int i = 0; i < s->need_count; i++) {
+        top = put_lines(out, top, s->needs[i].text);
+    }
+}
+
+/* How much room those lines take. The picture's height is written before them. */
+static int needs_height(const screen *s) {
+    int height = 0;
+    for (int i = 0; i < s->need_count; i++) {
+        for (const char *rest = s->needs[i].text; *rest != '\0'; rest = past_line(rest)) {
+            height += LINE;
+        }
+    }
+    return height;
+}
+
 /* Draws the shift, one furnace under the other. */
 static void put_chart(FILE *out, const screen *s) {
     panel panels[TUP_FURNACES];
@@ -295,15 +321,16 @@ static void put_chart(FILE *out, const screen *s) {
         panels[i] = lay_out(&s->furnaces[i], next);
         next = panels[i].bottom + FURNACE_GAP;
     }
-    int bottom = panels[TUP_FURNACES - 1].bottom;
-    put_head(out, bottom + FOOT);
+    int bottom = panels[TUP_FURNACES - 1].bottom, needs = needs_height(s);
+    put_head(out, bottom + FOOT + needs);
     for (int i = 0; i < TUP_FURNACES; i++) {
         put_panel(out, &panels[i]);
     }
     put_legend(out, bottom);
+    put_needs(out, s, bottom + TOLD);
     for (int i = 0; i < TUP_FURNACES; i++) {
         for (int k = 0; k < panels[i].of->bar_count; k++) {
-            put_shown(out, &panels[i], k, bottom + SHOWN);
+            put_shown(out, &panels[i], k, bottom + SHOWN + needs);
         }
     }
     fputs("</svg>\n", out);

@@ -1,13 +1,13 @@
 /* The March case on a trend screen of two furnaces: a night shift's readings go to the board minute by minute, each change of
- * a mark is printed with its rule and its ground, and the shift is drawn as a chart. Of readings, marks and answers, those that name no
- * furnace are furnace 1's.
+ * a mark is printed with its rule and its ground, the shift desk is told which readings a mark needs, and the shift is drawn as a
+ * chart. Of readings, marks and answers, those that name no furnace are furnace 1's; what a mark needs is of both.
  *
  * The screen owner's rule is that nothing stands on a chart without its ground. "crown hot" and "overfired" lean on each
  * other here; when furnace 1's TC-3, the thermocouple that first brought them up, is struck off at 03:10, both have to go.
  * Furnace 2 runs the same rules in the same table with a TC-3 of its own, and nothing that happens at furnace 1 moves its marks.
  *
  * Use: trend [PICTURE], by default trend.svg. For a screen of your own, change the section "The plant" here and in trend.h
- * (symbols, names, readings) and the functions that add rules; below those only the summary and the chart's notes name symbols. */
+ * (symbols, names, readings, the shift) and the functions that add rules; below those only the summary and the chart's notes name symbols. */
 #include "trend.h"
 
 #include <stdarg.h>
@@ -44,11 +44,20 @@ const char *const names[SYMBOLS + 1] = {
     [BOOST_ON] = "electric boost on",
 };
 
-/* What happens to a reading of a furnace, or what is asked of it, and when. A negative symbol number is the reading that it is not so. */
+/* All that the shift's instruments report, for the shift desk to choose from; a negative symbol number is the reading that it is not so. */
+static const int16_t readings[] = {
+    TC_3_HIGH, TC_4_HIGH, TC_7_HIGH, TC_8_HIGH, TC_9_LOW, PYROMETER_NORMAL,
+    DAMPER_OPEN, DAMPER_SHUT, VALVE_CYCLING, -VALVE_CYCLING, GAS_FLOW_HIGH, OXYGEN_LOW,
+};
+
+enum { READINGS = sizeof readings / sizeof readings[0] };
+_Static_assert((int)READINGS <= (int)TUP_MOST_CANDIDATES, "the shift desk has more readings than the library chooses from");
+
+/* What happens to a reading of a furnace, what is asked of it, or which readings a mark needs, and when. The last names no furnace. */
 typedef struct event {
     int at;
     uint8_t furnace;
-    enum { HOLD, WITHDRAW, ASK } what;
+    enum { HOLD, WITHDRAW, ASK, NEEDS } what;
     int literal;
 } event;
 
@@ -68,6 +77,7 @@ static const event shift[] = {
     {AT(0, 45), 2, ASK, TRIM_GAS}, /* answered as ever: the conflict is furnace 1's */
     {AT(0, 51), 1, WITHDRAW, DAMPER_SHUT},
     {AT(1, 20), 1, HOLD, TC_8_HIGH},
+    {AT(1, 40), 0, NEEDS, BURN_OFF_DUE}, /* ahead of striking TC-7 off: is there more that it stands on? */
     {AT(1, 45), 1, WITHDRAW, TC_7_HIGH}, /* "burn-off due" has another ground by now and stays up */
     {AT(1, 58), 1, HOLD, TC_8_HIGH},     /* reported twice: refused */
     {AT(2, 0), 2, HOLD, TC_8_HIGH},      /* and for furnace 2 no repetition */
@@ -78,6 +88,7 @@ static const event shift[] = {
     {STRUCK_OFF, STRUCK_FURNACE, WITHDRAW, TC_3_HIGH}, /* the March case */
     {AT(3, 12), 1, ASK, TRIM_GAS},
     {AT(3, 12), 2, ASK, TRIM_GAS},       /* furnace 2 is still overfired by its own TC-3 */
+    {AT(3, 14), 0, NEEDS, TRIM_GAS},     /* what would bring it up again? */
     {AT(3, 18), 1, WITHDRAW, TC_3_HIGH}, /* struck off twice: refused, though furnace 2 holds its own */
     {AT(3, 25), 2, WITHDRAW, TC_8_HIGH}, /* furnace 1's stays */
     {AT(3, 35), 1, WITHDRAW, VALVE_CYCLING},
@@ -146,6 +157,7 @@ static const char *refusal_word(uint8_t refusal) {
         [TUP_TABLE_TOO_SHORT] = "table too short",
         [TUP_BAD_TEXT] = "no formula text",
         [TUP_BAD_FURNACE] = "no such furnace",
+        [TUP_BAD_CANDIDATES] = "bad candidates",
     };
     bool is_known = refusal < sizeof known / sizeof known[0] && known[refusal];
     return is_known ? known[refusal] : "unknown refusal";
@@ -565,6 +577,182 @@ static void check_unmoved(screen *s, const furnace *f, const settling *before, c
     }
 }
 
+/* ---- What a mark needs ---- */
+
+/* The smallest sets of readings that carry a mark, in the order of the list. Bit i of a set's number stands for readings[i]. */
+typedef struct listed {
+    int count;
+    uint16_t sets[TUP_MOST_SETS];
+} listed;
+
+/* Asks for the smallest sets of readings that carry a literal. The rules alone decide: whatever the furnaces hold does not count. */
+static listed find_sets(const screen *s, int literal) {
+    listed list;
+    tup_listing listing = tup_smallest(s->board, s->table, NUMBERS, readings, READINGS, (int16_t)literal, list.sets, TUP_MOST_SETS);
+    must_be_done("smallest", listing.refusal);
+    list.count = (int)listing.count;
+    return list;
+}
+
+/* Marks the premises that a set of readings has. */
+static void mark_set(unsigned set, uint8_t marks[PLACES]) {
+    memset(marks, 0, PLACES);
+    for (int i = 0; i < READINGS; i++) {
+        marks[place_of(readings[i])] = set >> i & 1;
+    }
+}
+
+/* The set of the readings that are marked. */
+static unsigned marked_set(const uint8_t marks[PLACES]) {
+    unsigned set = 0;
+    for (int i = 0; i < READINGS; i++) {
+        set |= (marks[place_of(readings[i])] != 0 ? 1u : 0u) << i;
+    }
+    return set;
+}
+
+/* Whether a set has a set of the list in it. */
+static bool has_listed(unsigned set, const listed *list) {
+    for (int i = 0; i < list->count; i++) {
+        if ((list->sets[i] & ~set) == 0) {
+            return true;
+        }
+    }
+    return false;
+}
+
+/* Says the readings of a set. */
+static void say_set(words *line, unsigned set) {
+    const char *between = "";
+    for (int i = 0; i < READINGS; i++) {
+        if ((set >> i & 1) != 0) {
+            say(line, "%s", between);
+            say_literal(line, readings[i]);
+            between = " and ";
+        }
+    }
+    say(line, "%s", set == 0 ? "the rules alone" : "");
+}
+
+/* Says which furnaces hold all of a set now. The list itself is the same for both. */
+static void say_holders(words *line, const screen *s, unsigned set) {
+    const char *before = " (held at furnace ";
+    bool any = false;
+    for (int i = 0; i < TUP_FURNACES && set != 0; i++) {
+        if ((set & ~marked_set(s->board.held[i])) == 0) {
+            say(line, "%s%d", before, s->furnaces[i].number);
+            before = " and furnace ";
+            any = true;
+        }
+    }
+    say(line, "%s", any ? ")" : "");
+}
+
+/* How a literal stands where the readings of a set alone are held, under the same rules. At which furnace does not matter. */
+static uint8_t standing_on(const screen *s, unsigned set, int literal) {
+    const furnace *f = &s->furnaces[0];
+    uint8_t marks[PLACES];
+    mark_set(set, marks);
+    tup_answer answer = tup_ask(holding_only(s, f, marks), s->table, NUMBERS, f->number, (int16_t)literal);
+    must_be_done("ask", answer.refusal);
+    return answer.standing;
+}
+
+/* Counts a check of a set and a literal; one that fails is printed. */
+static void count_set_check(screen *s, bool good, int literal, unsigned set, const char *complaint) {
+    s->sets.made++;
+    if (!good) {
+        words line = {0};
+        say_literal(&line, literal);
+        say(&line, ": ");
+        say_set(&line, set);
+        printf("%s: %s\n", line.text, complaint);
+        s->sets.failed++;
+    }
+}
+
+/* Checks that a set alone brings its mark up without conflict, and that with any one reading less the mark is open: it is not up, and were it ruled
+ * out, or in conflict, it would be so with the whole set too. */
+static void check_set(screen *s, int literal, unsigned set) {
+    count_set_check(s, standing_on(s, set, literal) == TUP_STANDS, literal, set, "not up by these alone");
+    for (int i = 0; i < READINGS; i++) {
+        if ((set >> i & 1) != 0) {
+            count_set_check(s, standing_on(s, set & ~(1u << i), literal) == TUP_OPEN, literal, set, "not all of these are needed");
+        }
+    }
+}
+
+/* Checks that nothing was left out: of all sets of readings, none brings the mark up without conflict but by a set of the list in it. This is one
+ * check, failed by the first set that does. */
+static void check_no_other(screen *s, int literal, const listed *list) {
+    unsigned set = 0, sets = 1u << READINGS;
+    while (set < sets && (has_listed(set, list) || standing_on(s, set, literal) != TUP_STANDS)) {
+        set++;
+    }
+    count_set_check(s, set == sets, literal, set, "up by these too");
+}
+
+/* Whether all premises that are marked are readings that the shift desk chooses from. */
+static bool are_readings(const uint8_t marks[PLACES]) {
+    uint8_t all[PLACES];
+    mark_set((1u << READINGS) - 1, all);
+    for (int place = 0; place < PLACES; place++) {
+        if (marks[place] && !all[place]) {
+            return false;
+        }
+    }
+    return true;
+}
+
+/* Checks that the ground of a mark that stands, where it is of these readings alone, has a set of the list in it: a ground is enough, though it may
+ * have readings to spare. */
+static void check_ground_has_set(screen *s, const furnace *f, int literal, const listed *list) {
+    uint8_t marks[PLACES];
+    find_ground(s, f, literal, marks);
+    if (are_readings(marks)) {
+        count_set_check(s, has_listed(marked_set(marks), list), literal, marked_set(marks), "its ground, with none of the sets in it");
+    }
+}
+
+/* Checks a list. */
+static void check_sets(screen *s, int literal, const listed *list) {
+    for (int i = 0; i < list->count; i++) {
+        check_set(s, literal, list->sets[i]);
+    }
+    check_no_other(s, literal, list);
+    for (int i = 0; i < TUP_FURNACES; i++) {
+        const furnace *f = &s->furnaces[i];
+        if (!f->in_conflict && f->settled.ranks[place_of(literal)] != TUP_NONE) {
+            check_ground_has_set(s, f, literal, list);
+        }
+    }
+}
+
+/* Keeps a line on what a mark needs for the chart, and prints it. */
+static void keep_need(screen *s, const words *line) {
+    if (s->need_count == MOST_NEEDS) {
+        stop("the chart has no room for what another mark needs");
+    }
+    s->needs[s->need_count++] = *line;
+    printf("%s\n", line->text);
+}
+
+/* Tells the shift desk which readings a mark needs, and checks what was told. */
+static void tell_needs(screen *s, int literal, int now) {
+    listed list = find_sets(s, literal);
+    words line = {0};
+    say(&line, "%s ", clock_at(now).text);
+    say_literal(&line, literal);
+    say(&line, list.count == 0 ? " can't be had by these readings" : " needs one of: ");
+    for (int i = 0; i < list.count; i++) {
+        say(&line, "%s", i > 0 ? "; " : "");
+        say_set(&line, list.sets[i]);
+        say_holders(&line, s, list.sets[i]);
+    }
+    keep_need(s, &line);
+    check_sets(s, literal, &list);
+}
+
 /* ---- Events ---- */
 
 /* Asks the board how a literal stands at a furnace, and prints the answer. */
@@ -611,10 +799,10 @@ static void take_reading(screen *s, const event *e) {
 
 /* Takes one event of the shift. */
 static void take(screen *s, const event *e) {
-    if (e->what == ASK) {
-        print_standing(s, e->furnace, e->literal, e->at);
-    } else {
-        take_reading(s, e);
+    switch (e->what) {
+    case ASK: print_standing(s, e->furnace, e->literal, e->at); break;
+    case NEEDS: tell_needs(s, e->literal, e->at); break;
+    default: take_reading(s, e); break;
     }
 }
 
@@ -690,6 +878,8 @@ static void print_summary(const screen *s) {
     printf("every conclusion's row was one of the rule named for it: %s (%d checks)\n", s->sentences.failed == 0 ? "yes" : "NO", s->sentences.made);
     printf("nothing moved that was said not to: %s (%d checks)\n", s->unmoved.failed == 0 ? "yes" : "NO", s->unmoved.made);
     printf("no reading of one furnace moved the other: %s (%d checks)\n", s->others.failed == 0 ? "yes" : "NO", s->others.made);
+    printf("every set named carried its mark, none less and no other did, and where the mark stood its ground had one: %s (%d checks)\n",
+           s->sets.failed == 0 ? "yes" : "NO", s->sets.made);
 }
 
 /* ---- The shift ---- */
@@ -724,5 +914,6 @@ int main(int count, char **arguments) {
     if (!write_chart(count > 1 ? arguments[1] : "trend.svg", &s)) {
         stop("the picture could not be written");
     }
-    return s.grounds.failed + s.blames.failed + s.others.failed + s.sentences.failed + s.unmoved.failed == 0 ? EXIT_SUCCESS : EXIT_FAILURE;
+    int failed = s.grounds.failed + s.blames.failed + s.others.failed + s.sentences.failed + s.unmoved.failed + s.sets.failed;
+    return failed == 0 ? EXIT_SUCCESS : EXIT_FAILURE;
 }

@@ -30,7 +30,7 @@ enum { SHIFT_ENDS = AT(6, 0), STRUCK_OFF = AT(3, 10), STRUCK_FURNACE = 1 };
 
 enum {
     ROWS = 64, NUMBERS = ROWS * TUP_ROW_WIDTH, PLACES = 2 * SYMBOLS,
-    MOST_RULES = 64, MOST_BARS = 256, MOST_CONFLICTS = 32, ROOM = 768
+    MOST_RULES = 64, MOST_BARS = 256, MOST_CONFLICTS = 32, MOST_NEEDS = 8, ROOM = 768
 };
 
 /* A line of text being put together. */
@@ -87,8 +87,9 @@ typedef struct screen {
     int16_t table[NUMBERS];
     kept_rule rules[MOST_RULES + 1]; /* rules are numbered from 1 */
     furnace furnaces[TUP_FURNACES];
-    int rules_refused, readings_refused;
-    tally grounds, blames, others, sentences, unmoved;
+    words needs[MOST_NEEDS]; /* what the shift desk was told that marks need, a line each */
+    int need_count, rules_refused, readings_refused;
+    tally grounds, blames, others, sentences, unmoved, sets;
 } screen;
 
 /* Gives up with a reason. */

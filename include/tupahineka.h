@@ -1,7 +1,7 @@
 /* Tupahineka: a proved truth-maintenance board behind a trend screen. The nine calls of document 01 for C and C++, with the places of
  * document 02's first ticket, the two calls for DIMACS text of its second, blame as its fourth has it, the three calls for formulae in plain text
- * of its fifth, the two furnaces of its sixth, without refusal 14, which its seventh took out, and with the number of its rule in each row, as its
- * eighth asks.
+ * of its fifth, the two furnaces of its sixth, without refusal 14, which its seventh took out, with the number of its rule in each row, as its
+ * eighth asks, and the shift desk's smallest sets of its tenth.
  *
  * Two furnaces run the same rules: a board has one S and one table of rows, and for each furnace a set of premises of its own. A call that changes
  * premises, or answers by them, names its furnace, 1 or 2, right after the table and its count. What is held and withdrawn for one furnace changes
@@ -38,6 +38,8 @@ enum {
     TUP_ROW_LITERALS = 8,      /* of them places for literals; the last is the rule's number */
     TUP_MOST_ROWS = 2048,      /* rows used of a longer table */
     TUP_MOST_RULES = 32767,    /* rules accepted since the board was opened */
+    TUP_MOST_CANDIDATES = 12,  /* literals that tup_smallest may choose from */
+    TUP_MOST_SETS = 4096,      /* no list that tup_smallest writes is longer */
     TUP_NONE = 65535,          /* no rank, no support, no row */
     TUP_MOST_TEXT = 86031,     /* no text that tup_write_dimacs writes has more bytes */
     TUP_MOST_FORMULA = 98303,  /* no formula has more bytes */
@@ -66,7 +68,8 @@ enum {
     TUP_TABLE_TOO_SHORT = 13, /* a table to be written is shorter than stated */
     TUP_BAD_TEXT = 15,        /* DIMACS text that breaks the form, has not the header's number of clauses, or a literal beyond its variables;
                                * formula text that breaks its form, or opens a seventeenth bracket */
-    TUP_BAD_FURNACE = 16      /* a furnace number other than 1 or 2 */
+    TUP_BAD_FURNACE = 16,     /* a furnace number other than 1 or 2 */
+    TUP_BAD_CANDIDATES = 17   /* more than 12 candidates, or one given twice */
 };
 
 /* How a literal stands. */
@@ -120,6 +123,11 @@ typedef struct tup_spelling {
     size_t bytes; /* bytes written, from the front on; 0 where refused */
 } tup_spelling;
 
+typedef struct tup_listing {
+    uint8_t refusal;
+    size_t count; /* sets written, from the front on; 0 where refused */
+} tup_listing;
+
 typedef struct tup_answer {
     uint8_t refusal;
     uint8_t standing; /* TUP_OPEN where refused */
@@ -171,6 +179,16 @@ tup_addition tup_rule_text(tup_board board, int16_t *table, size_t numbers, cons
  * tup_read_text it gives the same bytes. Refused: 1, 2 to 6 (each with its place, as tup_rule gives them), 13 (the text is longer than `room`). */
 tup_spelling tup_write_text(tup_board board, const int16_t *table, size_t numbers, const uint8_t *formula, size_t bytes,
                             uint8_t *text, size_t room);
+
+/* The smallest sets of candidates that carry a literal. Writes a number for each set of candidates that, held alone under the rows in use, derives
+ * the literal without conflict, while no smaller set inside it derives the literal, in conflict or not. Bit i of a set's number, from the lowest,
+ * stands for candidates[i]. The sets are listed by size, then by number, each once; places beyond the list stay as they were. Premises held on the
+ * board, of either furnace, don't count, and nothing is held or withdrawn. A list of no sets is a good answer: no set of the candidates carries the
+ * literal. The one set 0 is the answer where the rows alone derive it. Where the rows alone are in conflict there is none. The candidates may be
+ * none, and may have a literal and its opposite, or the literal to explain. Refused: 1; 2 for any literal given, of the candidates, however many, or
+ * the one to explain; 17; 13 (the list is longer than `room`: TUP_MOST_SETS is always enough). */
+tup_listing tup_smallest(tup_board board, const int16_t *table, size_t numbers, const int16_t *candidates, size_t candidate_count,
+                         int16_t literal, uint16_t *sets, size_t room);
 
 /* The calls below name a furnace: the first two change its premises, the others tell what these and the rules derive. */
 

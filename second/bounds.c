@@ -1,10 +1,10 @@
 /* What document 02's Ticket 7 says of every answer, tested on the library's own and without the model: "No rank can exceed 2S", and 14 is out of the
- * table of refusals. */
+ * table of refusals. Of lists of smallest sets what Ticket 10 says of every one, in listing.c. */
 #include <stdio.h>
 
 #include "steps.h"
 
-enum { TAKEN_OUT = 14, LAST_REFUSAL = 16 };
+enum { TAKEN_OUT = 14, LAST_REFUSAL = 17 };
 
 /* True for 0 and the numbers of refusals; notes another one. */
 bool number_is_known(Play *play, unsigned number) {
@@ -35,7 +35,8 @@ static bool reason_is_bounded(Play *play, unsigned rank, unsigned symbols) {
 /* True if nothing that the library told in a step is ruled out, on a board of so many symbols and with these tables written. */
 bool answer_is_bounded(Play *play, const Step *step, const Outcome *told, unsigned symbols, const Tables *tables) {
     if (!number_is_known(play, told->refusal)) return false;
-    if (told->refusal != 0) return true;
+    if (told->refusal != 0) return same(play, "sets listed by a refused call", NONE, told->listed, 0);
+    if (step->kind == SMALLEST) return list_is_bounded(play, step, told->listed, tables->sets + GUARD);
     if (step->kind == SETTLE) return ranks_are_bounded(play, tables->ranks + GUARD, symbols);
     return step->kind != EXPLAIN || reason_is_bounded(play, told->rank, symbols);
 }

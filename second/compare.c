@@ -39,7 +39,7 @@ bool same_outcome(Play *play, const Outcome *ours, const Outcome *theirs) {
            same(play, "literals of the reason", NONE, theirs->literals, ours->literals) &&
            same(play, "rank of the reason", NONE, theirs->rank, ours->rank) &&
            same(play, "row of the reason", NONE, theirs->row, ours->row) &&
-           same(play, "rule of the reason", NONE, theirs->rule, ours->rule);
+           same(play, "rule of the reason", NONE, theirs->rule, ours->rule) && same(play, "sets listed", NONE, theirs->listed, ours->listed);
 }
 
 _Static_assert(sizeof(bool) == 1, "the model's premises are compared with the library's byte by byte");
@@ -59,15 +59,15 @@ static bool same_board(Play *play, const Step *step) {
     return differs(play, held_words[i / PLACES], i % PLACES, theirs[i], ours[i]);
 }
 
-/* Compares two clause tables, guards included; the first place lent is place 0. */
-static bool same_table(Play *play, const int16_t *theirs, const int16_t *ours, size_t bytes) {
+/* Compares two tables of signed numbers, guards included; the first place lent is place 0. */
+static bool same_table(Play *play, const char *what, const int16_t *theirs, const int16_t *ours, size_t bytes) {
     if (memcmp(theirs, ours, bytes) == 0) return true;
     size_t i = 0;
     while (theirs[i] == ours[i]) i++;
-    return differs(play, "clause table", (long)i - GUARD, theirs[i], ours[i]);
+    return differs(play, what, (long)i - GUARD, theirs[i], ours[i]);
 }
 
-/* Compares two tables of ranks or supports, guards included. */
+/* Compares two tables of ranks, supports or sets, guards included. */
 static bool same_numbers(Play *play, const char *what, const uint16_t *theirs, const uint16_t *ours, size_t bytes) {
     if (memcmp(theirs, ours, bytes) == 0) return true;
     size_t i = 0;
@@ -85,19 +85,21 @@ static bool same_bytes(Play *play, const char *what, const uint8_t *theirs, cons
 
 /* Compares the whole clause tables. */
 bool table_agrees(Play *play) {
-    return same_table(play, play->theirs.table, play->ours.table, sizeof play->ours.table);
+    return same_table(play, "clause table", play->theirs.table, play->ours.table, sizeof play->ours.table);
 }
 
 /* Compares every table, those that the call was not lent included. */
 bool same_tables(Play *play, const Step *step) {
     const Tables *theirs = &play->theirs, *ours = &play->ours;
-    return same_table(play, theirs->table, ours->table, play->watched) &&
+    return same_table(play, "clause table", theirs->table, ours->table, play->watched) &&
            same_bytes(play, "labels", theirs->labels, ours->labels, sizeof ours->labels) &&
            same_numbers(play, "ranks", theirs->ranks, ours->ranks, sizeof ours->ranks) &&
            same_numbers(play, "supports", theirs->supports, ours->supports, sizeof ours->supports) &&
            same_bytes(play, "marks", theirs->marks, ours->marks, sizeof ours->marks) &&
            same_bytes(play, "formula", theirs->formula, ours->formula, formula_window(step)) &&
-           same_bytes(play, "text", theirs->text, ours->text, text_window(step));
+           same_bytes(play, "text", theirs->text, ours->text, text_window(step)) &&
+           same_table(play, "candidates", theirs->candidates, ours->candidates, candidates_window(step) * sizeof ours->candidates[0]) &&
+           same_numbers(play, "sets", theirs->sets, ours->sets, sets_window(step) * sizeof ours->sets[0]);
 }
 
 /* Compares everything after a call. */

@@ -54,7 +54,7 @@ static const unsigned possible[CALLS][NUMBERS] = {
     [OPEN] = {2},              [RULE] = {1, 2, 3, 4, 5, 6, 7, 8, 9}, [READ] = {1, 2, 7, 8, 9, 15},  [HOLD] = {1, 16, 2, 10},
     [SETTLE] = {1, 16, 13},    [WITHDRAW] = {1, 16, 2, 11},          [GROUND] = {1, 16, 2, 13, 12}, [ASK] = {1, 16, 2},
     [BLAME] = {1, 16, 13, 12}, [EXPLAIN] = {1, 16, 2, 12},           [WRITE] = {1, 13},             [TEXT_RULE] = {1, 2, 5, 7, 8, 9, 15},
-    [TO_BYTES] = {1, 2, 5, 13, 15}, [TO_TEXT] = {1, 2, 3, 4, 5, 6, 13}};
+    [TO_BYTES] = {1, 2, 5, 13, 15}, [TO_TEXT] = {1, 2, 3, 4, 5, 6, 13}, [SMALLEST] = {1, 2, 17, 13}};
 
 static unsigned long calls[CALLS], refusals[CALLS][NUMBERS], damaged[BAD_BOARDS][CALLS], cases[CASES];
 static unsigned long broken[BREAKS][SPOTS];
@@ -137,7 +137,7 @@ static void cover_rule(const Play *play, const Step *step) {
 /* Counts a refusal 13 by the table that was short. */
 static void cover_short(const Play *play, const Step *step) {
     size_t symbols = play->board.symbols;
-    if (step->kind == WRITE || step->kind == TO_BYTES || step->kind == TO_TEXT) return;
+    if (step->kind == WRITE || step->kind == TO_BYTES || step->kind == TO_TEXT || step->kind == SMALLEST) return;
     if (step->kind != SETTLE) {
         cases[SHORT_BY_ONE] += step->lent[0] == 2 * symbols - 1;
         return;
@@ -256,6 +256,7 @@ void cover_step(const Play *play, const Step *step) {
     refusals[step->kind][play->last.refusal]++;
     if (step->kind == READ || step->kind == WRITE) cover_text(play, step);
     if (step->kind == TO_TEXT || spells(step->kind)) cover_spelt(play, step);
+    if (step->kind == SMALLEST) cover_sets(play, step), cover_candidates(play, step);
     cover_rules(play, step);
     cases[TWO_FAULTS] += step->faults > 1;
     if (play->last.refusal == 0) cover_done(play, step);
@@ -347,6 +348,8 @@ void cover_print(void) {
     cover_furnaces_print();
     cover_rules_print();
     cover_outside_print();
+    cover_candidates_print();
+    cover_sets_print();
     cover_texts_print();
     cover_spelt_print();
     printf("labels 0, 1, 2, 3: %lu %lu %lu %lu\n", labels_seen[0], labels_seen[1], labels_seen[2], labels_seen[3]);
@@ -357,6 +360,7 @@ void cover_print(void) {
     cover_furnaces_close();
     cover_rules_close();
     cover_outside_close();
+    cover_sets_close();
     cover_texts_close();
     cover_spelt_close();
 }
@@ -386,6 +390,8 @@ bool cover_is_whole(void) {
     whole &= cover_furnaces_are_whole();
     whole &= cover_rules_are_whole();
     whole &= cover_outside_is_whole();
+    whole &= cover_candidates_are_whole();
+    whole &= cover_sets_are_whole();
     whole &= cover_texts_are_whole();
     whole &= cover_spelt_is_whole();
     for (unsigned k = 0; k < CALLS; k++) {

@@ -5,7 +5,7 @@
 #include "outside.h"
 #include "steps.h"
 
-enum { NUMBERS = 17 }; /* of refusals, and 0 for a call that is done */
+enum { NUMBERS = 18 }; /* of refusals, and 0 for a call that is done */
 
 void cover_step(const Play *play, const Step *step);
 void cover_print(void);
@@ -47,6 +47,17 @@ void cover_moved(const Trial *trial, Kind by);
 void cover_outside_print(void);
 void cover_outside_close(void);
 bool cover_outside_is_whole(void);
+
+/* covercandidates.c: what the lists of smallest sets were to be made of, and how they were refused. */
+void cover_candidates(const Play *play, const Step *step);
+void cover_candidates_print(void);
+bool cover_candidates_are_whole(void);
+
+/* coversets.c: the lists of smallest sets that were made. */
+void cover_sets(const Play *play, const Step *step);
+void cover_sets_print(void);
+void cover_sets_close(void);
+bool cover_sets_are_whole(void);
 
 /* covertext.c: the texts read and written. */
 void cover_text(const Play *play, const Step *step);

@@ -24,17 +24,30 @@ Step *add_own_row(Draft *draft) {
     return step;
 }
 
+/* Makes the step an ask, where there is no room for what it is given. */
+static void ask_instead(Step *step) {
+    step->kind = ASK;
+    step->value = 1;
+}
+
 /* Puts bytes into the pool, so many of them given to the step. Where there is no room the step becomes an ask, and they are NULL. */
 const uint8_t *keep_bytes(Draft *draft, Step *step, const uint8_t *bytes, size_t length, size_t given) {
-    if (draft->pooled + length > POOL) {
-        step->kind = ASK;
-        step->value = 1;
-        return NULL;
-    }
+    if (draft->pooled + length > POOL) return ask_instead(step), NULL;
     uint8_t *kept = draft->pool + draft->pooled;
     memcpy(kept, bytes, length);
     step->bytes = given;
     step->standing = length;
     draft->pooled += length;
+    return kept;
+}
+
+/* Puts candidates where they stay, so many of them given to the step; without room as above. */
+const int16_t *keep_candidates(Draft *draft, Step *step, const int16_t *candidates, size_t length, size_t given) {
+    if (draft->kept + length > CANDIDATES_KEPT) return ask_instead(step), NULL;
+    int16_t *kept = draft->candidates + draft->kept;
+    memcpy(kept, candidates, length * sizeof kept[0]);
+    step->bytes = given;
+    step->standing = length;
+    draft->kept += length;
     return kept;
 }

@@ -2,18 +2,20 @@
 #include "draw.h"
 
 #include "damage.h"
+#include "drawcauses.h"
 #include "drawfurnace.h"
 #include "drawrows.h"
+#include "drawsets.h"
 #include "drawspelt.h"
 #include "drawtext.h"
 #include "formulae.h"
 
 /* Styles of sequences. */
-enum { FREE, PLANTS, CIRCLE, CHAIN, ROWS, FULL, TIGHT, BROAD, PACKED, TEXTS, KNOTS, STYLES };
+enum { FREE, PLANTS, CIRCLE, CHAIN, ROWS, FULL, TIGHT, BROAD, PACKED, TEXTS, KNOTS, CAUSES, STYLES };
 
 static const unsigned style_weights[STYLES] = {
     [FREE] = 330, [PLANTS] = 230, [CIRCLE] = 80, [CHAIN] = 30, [ROWS] = 160, [FULL] = 14, [TIGHT] = 120, [BROAD] = 70, [PACKED] = 14,
-    [TEXTS] = 120, [KNOTS] = 60};
+    [TEXTS] = 120, [KNOTS] = 60, [CAUSES] = 60};
 
 /* Which sorts of formulae a style has, in the order PLANT, TREE, SPINE, WIDE, PARITY, LITERALS, NEVER, ALWAYS, LONG, NOISE,
  * PARITY_OF_8, ANY_TRUTH, WIDE_TRUTH, TOO_MANY. */
@@ -28,14 +30,19 @@ static const unsigned sort_weights[STYLES][SORTS] = {
     [BROAD] = {50, 50, 30, 400, 100, 100, 80, 50, 0, 10, 10, 50, 600, 150},
     [PACKED] = {10, 10, 0, 10, 10, 10, 5, 5, 0, 5, 60, 20, 20, 15},
     [TEXTS] = {800, 50, 5, 1, 5, 10, 5, 5, 0, 5, 0, 20, 1, 15},
-    [KNOTS] = {500, 200, 20, 2, 20, 50, 20, 20, 4, 20, 0, 60, 2, 20}};
+    [KNOTS] = {500, 200, 20, 2, 20, 50, 20, 20, 4, 20, 0, 60, 2, 20},
+    [CAUSES] = {800, 50, 5, 1, 5, 10, 5, 5, 0, 5, 0, 20, 1, 15}};
 
-/* How often each call comes: at first, and later on. */
-static const unsigned call_weights[2][CALLS] = {
+/* How often each call comes: at first, later on, and among causes of marks. */
+enum { AT_FIRST, LATER, AMONG_CAUSES, TIMES };
+
+static const unsigned call_weights[TIMES][CALLS] = {
     {[OPEN] = 3, [RULE] = 90, [TEXT_RULE] = 40, [READ] = 30, [HOLD] = 74, [WITHDRAW] = 14, [SETTLE] = 20, [ASK] = 10, [EXPLAIN] = 10, [GROUND] = 10,
-     [BLAME] = 5, [WRITE] = 10, [TO_BYTES] = 16, [TO_TEXT] = 14},
+     [BLAME] = 5, [SMALLEST] = 8, [WRITE] = 10, [TO_BYTES] = 16, [TO_TEXT] = 14},
     {[OPEN] = 5, [RULE] = 20, [TEXT_RULE] = 14, [READ] = 20, [HOLD] = 44, [WITHDRAW] = 26, [SETTLE] = 40, [ASK] = 28, [EXPLAIN] = 26, [GROUND] = 26,
-     [BLAME] = 16, [WRITE] = 16, [TO_BYTES] = 16, [TO_TEXT] = 14}};
+     [BLAME] = 16, [SMALLEST] = 20, [WRITE] = 16, [TO_BYTES] = 16, [TO_TEXT] = 14},
+    {[OPEN] = 1, [RULE] = 10, [TEXT_RULE] = 6, [READ] = 4, [HOLD] = 40, [WITHDRAW] = 20, [SETTLE] = 12, [ASK] = 10, [EXPLAIN] = 8, [GROUND] = 12,
+     [BLAME] = 8, [SMALLEST] = 180, [WRITE] = 2, [TO_BYTES] = 2, [TO_TEXT] = 2}};
 
 /* A count of symbols that suits the style. */
 static unsigned draw_symbols(Random *random, unsigned style) {
@@ -46,6 +53,7 @@ static unsigned draw_symbols(Random *random, unsigned style) {
     case ROWS: return random_between(random, 1, random_chance(random, 70) ? 20 : 80);
     case FULL: return random_chance(random, 40) ? MOST_SYMBOLS : random_between(random, 60, MOST_SYMBOLS);
     case KNOTS: return random_chance(random, 40) ? MOST_SYMBOLS : random_between(random, 1, 12);
+    case CAUSES: return random_chance(random, 20) ? MOST_SYMBOLS : random_between(random, 3, 14);
     case BROAD: return random_between(random, 8, 14);
     case PACKED: return random_between(random, 8, 10);
     case TIGHT: return random_chance(random, 30) ? random_between(random, 9, 14) : random_between(random, 1, 8);
@@ -72,6 +80,7 @@ static unsigned draw_setup(Random *random, unsigned style, unsigned symbols) {
         if (symbols == MOST_SYMBOLS && random_chance(random, 12)) return MOST_ROWS;
         return random_between(random, 1, random_chance(random, 80) ? 24 : 160);
     case PACKED: return 16;
+    case CAUSES: return random_between(random, 2, random_chance(random, 60) ? 16 : 40);
     case TEXTS: return random_chance(random, 85) ? random_between(random, 1, 60) : random_between(random, 60, random_chance(random, 80) ? 400 : 3000);
     default: return 0;
     }
@@ -81,7 +90,7 @@ static unsigned draw_setup(Random *random, unsigned style, unsigned symbols) {
 void draft_start(Draft *draft, uint64_t seed, uint64_t number) {
     Random *random = &draft->random;
     *random = random_for(seed, number);
-    draft->count = draft->pooled = 0;
+    draft->count = draft->pooled = draft->kept = 0;
     draft->favoured = 1 + random_below(random, FURNACES);
     draft->style = random_weighted(random, style_weights, STYLES);
     draft->symbols = draw_symbols(random, draft->style);
@@ -114,7 +123,7 @@ int draw_bad_literal(Random *random, unsigned symbols) {
 }
 
 /* A literal: one that leans, one of a row in use, or any. */
-static int draw_literal(Draft *draft, const Play *play) {
+int draw_literal(Draft *draft, const Play *play) {
     Random *random = &draft->random;
     const Board *board = &play->board;
     unsigned most = board->symbols >= 1 && board->symbols <= MOST_SYMBOLS ? board->symbols : draft->symbols;
@@ -272,6 +281,7 @@ static void draw_call(Draft *draft, const Play *play, Step *step) {
     case OPEN: step->value = draw_opening(draft); break;
     case RULE: case TEXT_RULE: case TO_BYTES: case TO_TEXT: draw_rule(draft, play, step); break;
     case READ: draw_read(draft, play, step); break;
+    case SMALLEST: draw_smallest(draft, play, step, draft->style == CAUSES && random_chance(&draft->random, 60)); break;
     case SETTLE: case BLAME: case WRITE: break;
     default: draw_given_literal(draft, play, step);
     }
@@ -306,11 +316,12 @@ static void add_call(Draft *draft, const Play *play) {
     if (random_chance(random, 1)) add_high_count(draft, play);
     if (play->board.symbols == 0 && random_chance(random, 70)) {
         add_step(draft, OPEN)->value = (int)draft->symbols;
-    } else if (random_chance(random, 15)) {
+    } else if (random_chance(random, 16)) {
         add_damaged_call(draft, play);
     } else {
         bool later = draft->style != PACKED && (draft->calls < 12 || draft->style == ROWS || draft->style == FULL || draft->style == KNOTS);
-        Step *step = add_step(draft, (Kind)random_weighted(random, call_weights[later], CALLS));
+        unsigned time = draft->style == CAUSES ? AMONG_CAUSES : later ? LATER : AT_FIRST;
+        Step *step = add_step(draft, (Kind)random_weighted(random, call_weights[time], CALLS));
         draw_call(draft, play, step);
     }
 }
@@ -380,6 +391,10 @@ static bool add_setup(Draft *draft, const Play *play) {
     }
     if (draft->style == KNOTS) {
         add_knot(draft, draft->setup);
+        return false;
+    }
+    if (draft->style == CAUSES) {
+        add_causes(draft, draft->setup);
         return false;
     }
     bool links = random_chance(random, 50), falling = random_chance(random, 50);

@@ -7,6 +7,7 @@
 void draft_start(Draft *draft, uint64_t seed, uint64_t number);
 bool draft_next(Draft *draft, const Play *play);
 int draw_bad_literal(Random *random, unsigned symbols);
+int draw_literal(Draft *draft, const Play *play);
 size_t rows_needed(const Step *step, unsigned symbols);
 
 #endif

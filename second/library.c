@@ -54,6 +54,14 @@ static Outcome call_write(const Step *step, const tup_board *board, const int16_
     return (Outcome){.refusal = writing.refusal, .written = writing.bytes};
 }
 
+/* Lists the smallest sets of candidates. */
+static Outcome call_smallest(const Step *step, const tup_board *board, const int16_t *table, Tables *tables) {
+    const int16_t *candidates = LENT(tables->candidates + GUARD, step->bytes, step);
+    uint16_t *sets = LENT(tables->sets + GUARD, step->lent[0], step);
+    tup_listing listing = tup_smallest(*board, table, step->numbers, candidates, step->bytes, (int16_t)step->value, sets, step->lent[0]);
+    return (Outcome){.refusal = listing.refusal, .listed = listing.count};
+}
+
 /* Settles. */
 static Outcome call_settle(const Step *step, const tup_board *board, const int16_t *table, Tables *tables) {
     const size_t *lent = step->lent;
@@ -84,6 +92,7 @@ Outcome library_call(const Step *step, tup_board *board, Tables *tables) {
     case TO_TEXT: return call_to_text(step, board, table, formula, text);
     case READ: return call_read(step, board, table, text);
     case WRITE: return call_write(step, board, table, text);
+    case SMALLEST: return call_smallest(step, board, table, tables);
     case HOLD: return changed(tup_hold(*board, table, step->numbers, furnace, literal), board);
     case WITHDRAW: return changed(tup_withdraw(*board, table, step->numbers, furnace, literal), board);
     case SETTLE: return call_settle(step, board, table, tables);

@@ -20,7 +20,7 @@ const bool *premises_of(const Board *board, unsigned furnace) {
 }
 
 /* True for a number that is a literal of symbols 1 to S. */
-static bool is_literal(int number, unsigned symbols) {
+bool is_literal(int number, unsigned symbols) {
     int symbol = number < 0 ? -number : number;
     return symbol >= 1 && symbol <= (int)symbols;
 }

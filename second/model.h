@@ -1,4 +1,4 @@
-/* Document 01 with Tickets 1, 2 and 4 to 8 of document 02 by brute force, for the independent second program.
+/* Document 01 with Tickets 1, 2, 4 to 8 and 10 of document 02 by brute force, for the independent second program.
  *
  * Written from these documents and include/tupahineka.h alone. No other code of the project was read for it: what this
  * program and the library share is the documents and nothing else. Slow and by definition, wherever a definition is there. */
@@ -26,7 +26,9 @@ enum {
     MOST_TEXT = 86031,   /* bytes of 2,048 rows of 8 literals such as -200, under the header of 200 symbols */
     MOST_FORMULA = 98303,   /* bytes of 32,768 symbols at depth 16 and the 32,767 kinds above them */
     MOST_SPELLING = 196603, /* bytes of their text: three digits each, the marks, brackets round all of these forms but the whole */
-    MOST_OPEN = 16          /* brackets open at once in formula text */
+    MOST_OPEN = 16,         /* brackets open at once in formula text */
+    MOST_CANDIDATES = 12,
+    ALL_SETS = 4096         /* sets of so many candidates, the empty one included */
 };
 
 /* Where no byte place is told: the largest size_t, by the C interface. */
@@ -47,7 +49,14 @@ typedef struct Outcome {
     unsigned clauses; /* of a text read: those before the first at fault */
     size_t place;     /* of a rule, and of formula text: the byte where its formula or its text breaks, or NO_PLACE */
     size_t written;   /* of a text or a formula written: its bytes */
+    unsigned listed;  /* of the smallest sets: how many */
 } Outcome;
+
+/* What each set of candidates does, held alone: bit i of its number stands for candidate i. Then how many of the sets are listed. */
+typedef struct Weighed {
+    unsigned candidates, listed;
+    bool derives[ALL_SETS], conflict[ALL_SETS];
+} Weighed;
 
 /* How reading a formula ended: done, the bytes used and NO_PLACE; refused, the number and the place where it breaks. */
 typedef struct Reading {
@@ -107,6 +116,7 @@ unsigned blamed_symbol(const Board *board, const Findings *found);
 void walk_back(const bool premises[PLACES], const int16_t *table, const Findings *found, unsigned place, bool seen[PLACES]);
 
 /* model.c: the nine calls, and what they test. */
+bool is_literal(int number, unsigned symbols);
 size_t rows_lent(size_t numbers);
 bool is_furnace(unsigned number);
 const bool *premises_of(const Board *board, unsigned furnace);
@@ -144,6 +154,14 @@ size_t text_of_formula(const uint8_t *formula, char out[MOST_SPELLING + 1]);
 Outcome model_to_bytes(const Board *board, const int16_t *table, size_t numbers, const uint8_t *text, size_t length, uint8_t *formula, size_t room);
 Outcome model_text_rule(Board *board, int16_t *table, size_t numbers, const uint8_t *text, size_t length);
 Outcome model_to_text(const Board *board, const int16_t *table, size_t numbers, const uint8_t *formula, size_t bytes, uint8_t *text, size_t room);
+
+/* smallest.c: the smallest sets of candidates, one call more. */
+unsigned set_size(unsigned set);
+const Weighed *last_weighed(void);
+unsigned list_smallest(const Board *board, const int16_t *table, const int16_t *candidates, unsigned count, int literal, uint16_t listed[ALL_SETS]);
+bool repeats(const int16_t *candidates, size_t count);
+Outcome model_smallest(const Board *board, const int16_t *table, size_t numbers, const int16_t *candidates, size_t count, int literal, uint16_t *sets,
+                       size_t room);
 
 /* reduced.c: the form of formula text a second way, and the place of a 15 by its definition. */
 bool text_is_of_form(const uint8_t *text, size_t length);

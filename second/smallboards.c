@@ -1,5 +1,6 @@
 /* All boards of few symbols: of 1 and 2 with every set of sound rows and every set of premises, of 3 with every set of up to four rows and nothing
- * held. Each is settled for each furnace, while the other one holds just the literals that this one does not.
+ * held. Each is settled for each furnace, while the other one holds just the literals that this one does not. Over the same rows the smallest sets of
+ * all literals are listed: of 1 and 2 symbols for every literal, of 3 with up to three rows for one of them, by turns.
  *
  * The highest rank of all has to be 2S - 1. None is 2S: that takes 2S rounds of one literal each and nothing held, but then the round that completes
  * the first conflict, or the one before it, gives two. */
@@ -16,7 +17,7 @@ enum { MOST_SOUND = 26, SIZES = 3 };
 typedef struct Size {
     unsigned symbols, most_rows, sets;
     unsigned sound, highest;
-    unsigned long boards;
+    unsigned long boards, lists;
     int16_t row[MOST_SOUND][ROW_LITERALS];
 } Size;
 
@@ -57,11 +58,31 @@ static bool board_agrees(Play *play, Size *size, unsigned furnace, unsigned set)
     return true;
 }
 
+/* Lists the smallest sets of all literals, the first of which is another one each time, for the literal at a place; false where the sides differ. */
+static bool list_agrees(Play *play, Size *size, unsigned place) {
+    int16_t candidates[2 * SIZES];
+    unsigned places = 2 * size->symbols, first = (unsigned)(size->lists++ / places % places);
+    for (unsigned i = 0; i < places; i++) candidates[i] = (int16_t)literal_at((first + i) % places);
+    Step step = {.kind = SMALLEST, .value = literal_at(place), .numbers = TABLE_LENDABLE, .candidates = candidates, .bytes = places,
+                 .standing = places, .lent = {ALL_SETS}, .noise = size->lists << 4};
+    return play_step(play, &step) && play->last.refusal == 0;
+}
+
+/* Lists them over the rows in use, for every literal or by turns. */
+static bool lists_agree(Play *play, Size *size) {
+    unsigned places = 2 * size->symbols;
+    if (size->symbols == SIZES) return play->board.rows == size->most_rows || list_agrees(play, size, (unsigned)(size->lists % places));
+    for (unsigned p = 0; p < places; p++)
+        if (!list_agrees(play, size, p)) return false;
+    return true;
+}
+
 /* Tries the rows in use, and those with each later sound row added, as long as so many more may be; so each set of rows comes once. */
 static bool rows_agree(Play *play, Size *size, unsigned from, unsigned more) {
     unsigned rows = play->board.rows;
     for (unsigned i = 0; i < FURNACES * size->sets; i++)
         if (!board_agrees(play, size, 1 + i % FURNACES, i / FURNACES)) return false;
+    if (!lists_agree(play, size)) return false;
     for (unsigned r = from; r < size->sound && more > 0; r++) {
         try_row(play, size->row[r]);
         if (!rows_agree(play, size, r + 1, more - 1)) return false;
@@ -94,6 +115,7 @@ bool small_boards_agree(Play *play) {
 
 /* Prints the closing line of these boards. */
 void small_boards_close(void) {
-    printf("all boards of 1 and 2 symbols, and of 3 with up to %u rows: %lu boards for each furnace, highest ranks %u, %u, %u\n",
-           sizes[2].most_rows, sizes[0].boards + sizes[1].boards + sizes[2].boards, sizes[0].highest, sizes[1].highest, sizes[2].highest);
+    printf("all boards of 1 and 2 symbols, and of 3 with up to %u rows: %lu boards for each furnace, highest ranks %u, %u, %u; %lu lists of sets\n",
+           sizes[2].most_rows, sizes[0].boards + sizes[1].boards + sizes[2].boards, sizes[0].highest, sizes[1].highest, sizes[2].highest,
+           sizes[0].lists + sizes[1].lists + sizes[2].lists);
 }

@@ -43,6 +43,16 @@ size_t formula_window(const Step *step) {
     return step->kind == TO_BYTES ? GUARD + step->lent[0] + GUARD : 0;
 }
 
+/* Places of the candidates' table that a call may see. */
+size_t candidates_window(const Step *step) {
+    return step->kind == SMALLEST ? GUARD + step->standing : 0;
+}
+
+/* Places of the sets' table that a call may see, and its guards. */
+size_t sets_window(const Step *step) {
+    return step->kind == SMALLEST ? GUARD + step->lent[0] + GUARD : 0;
+}
+
 /* Both sides alike: no board, and noise in every place of every table. */
 void play_start(Play *play, uint64_t seed, bool with_library) {
     play->with_library = with_library;
@@ -65,7 +75,16 @@ static void lend_bytes(const Step *step, bool given, const uint8_t *bytes, size_
     memcpy(theirs, ours, window);
 }
 
-/* Fresh noise in the tables that calls write, and the formula or the text with what stands after it, on both sides. */
+/* The candidates with what stands after them, and fresh noise where the sets are to be written, on both sides. */
+static void lend_candidates(const Step *step, Tables *ours, Tables *theirs) {
+    size_t given = candidates_window(step) * sizeof ours->candidates[0], written = sets_window(step) * sizeof ours->sets[0];
+    if (step->kind == SMALLEST && step->standing > 0) memcpy(ours->candidates + GUARD, step->candidates, step->standing * sizeof ours->candidates[0]);
+    memcpy(theirs->candidates, ours->candidates, given);
+    random_fill(step->noise, ours->sets, written);
+    memcpy(theirs->sets, ours->sets, written);
+}
+
+/* Fresh noise in the tables that calls write, and the formula, the text or the candidates with what stands after it, on both sides. */
 void lend(Play *play, const Step *step) {
     Tables *ours = &play->ours, *theirs = &play->theirs;
     size_t from = offsetof(Tables, ranks), bytes = offsetof(Tables, formula) - from;
@@ -73,6 +92,7 @@ void lend(Play *play, const Step *step) {
     memcpy((char *)theirs + from, (char *)ours + from, bytes);
     lend_bytes(step, gives_text(step->kind), step->text, text_window(step), ours->text, theirs->text);
     lend_bytes(step, gives_formula(step->kind), step->formula, formula_window(step), ours->formula, theirs->formula);
+    lend_candidates(step, ours, theirs);
 }
 
 /* The model's side of a call. */
@@ -87,6 +107,8 @@ static Outcome model_call(const Step *step, Board *board, Tables *tables) {
     case TO_TEXT: return model_to_text(board, table, step->numbers, formula, step->bytes, text, step->lent[0]);
     case READ: return model_read(board, table, step->numbers, text, step->bytes);
     case WRITE: return model_write(board, table, step->numbers, text, step->lent[0]);
+    case SMALLEST:
+        return model_smallest(board, table, step->numbers, tables->candidates + GUARD, step->bytes, step->value, tables->sets + GUARD, step->lent[0]);
     case HOLD: return model_hold(board, table, step->numbers, step->furnace, step->value);
     case WITHDRAW: return model_withdraw(board, table, step->numbers, step->furnace, step->value);
     case SETTLE:
@@ -141,6 +163,7 @@ static void model_caller_acts(const Step *step, Board *board, Tables *tables) {
 static bool library_agrees(Play *play, const Step *step) {
     play->library_last = library_call(step, &play->library_board, &play->theirs);
     if (!answer_is_bounded(play, step, &play->library_last, play->given.symbols, &play->theirs)) return false;
+    if (step->kind == SMALLEST && play->library_last.refusal == 0 && !list_carries(play, step)) return false;
     if (!same_everywhere(play, step, &play->last, &play->library_last)) return false;
     if (step->kind == BLAME && play->last.refusal == 0 && !marks_are_enough(play, step)) return false;
     play->renumbered = can_renumber(step->kind) && play->last.refusal == 0 && (step->noise >> 8) % 3 == 0;
@@ -150,6 +173,7 @@ static bool library_agrees(Play *play, const Step *step) {
 /* Plays one step on both sides; false if they differ, with the difference in words. */
 bool play_step(Play *play, const Step *step) {
     play->demand_3 = play->booked = play->renumbered = false;
+    play->carried = play->grounds = play->own_grounds = 0;
     if (step->kind >= CALLS) {
         model_caller_acts(step, &play->board, &play->ours);
         caller_acts(step, &play->library_board, &play->theirs);

@@ -12,14 +12,16 @@ enum {
     PLACES_LENDABLE = PLACES + 9,
     FORMULA_LENDABLE = 98304,                  /* the longest formula of depth 16, and a byte too many */
     TEXT_LENDABLE = 1100000,                   /* a comment of a megabyte, and a text after it */
+    CANDIDATES_LENDABLE = 65600,               /* more than 12, and more than a 16-bit count can say */
+    SETS_LENDABLE = 65600,
     MOST_STEPS = 2600,
     PLACE_WORD = 24                            /* bytes for a place in words */
 };
 
-/* The fourteen calls, those that hand a board back first; then what the caller may do between them. READ and WRITE are of DIMACS text; TEXT_RULE,
- * TO_BYTES and TO_TEXT of formula text: a rule added from it, it read to bytes, and bytes written as it. */
+/* The fifteen calls, those that hand a board back first; then what the caller may do between them. READ and WRITE are of DIMACS text; TEXT_RULE,
+ * TO_BYTES and TO_TEXT of formula text: a rule added from it, it read to bytes, and bytes written as it. SMALLEST lists sets of candidates. */
 typedef enum Kind {
-    OPEN, RULE, TEXT_RULE, READ, HOLD, WITHDRAW, SETTLE, ASK, EXPLAIN, GROUND, BLAME, WRITE, TO_BYTES, TO_TEXT,
+    OPEN, RULE, TEXT_RULE, READ, HOLD, WITHDRAW, SETTLE, ASK, EXPLAIN, GROUND, BLAME, SMALLEST, WRITE, TO_BYTES, TO_TEXT,
     CALLS,
     SET_SYMBOLS = CALLS, /* the caller writes S = value into the board */
     SET_ROWS,            /* the caller writes rows in use = value */
@@ -38,10 +40,11 @@ typedef struct Step {
     int16_t row[ROW_LITERALS];
     unsigned rules;          /* that the caller counts ahead of his row */
     size_t numbers;          /* numbers of the clause table lent */
-    size_t lent[3];          /* labels, ranks and supports; or marks; or bytes for a text or a formula */
+    size_t lent[3];          /* labels, ranks and supports; or marks; or bytes for a text or a formula; or places for sets */
     const uint8_t *formula;  /* of a rule, or to be written as text */
     const uint8_t *text;     /* to be read, of either sort */
-    size_t bytes, standing;  /* bytes given, and bytes that stand there: those past the given ones must not be read */
+    const int16_t *candidates;
+    size_t bytes, standing;  /* bytes given, or candidates, and those that stand there: the ones past those given must not be read */
     uint64_t noise;          /* what stands in the tables to be written, before the call */
     unsigned damage, faults; /* for the counts only: what was spoilt ahead of this call, and how many things */
     bool torn;               /* for the counts only: the text is a damaged one */
@@ -56,6 +59,8 @@ typedef struct Tables {
     uint8_t marks[GUARD + PLACES_LENDABLE + GUARD];
     uint8_t formula[GUARD + FORMULA_LENDABLE + GUARD];
     uint8_t text[GUARD + TEXT_LENDABLE + GUARD];
+    int16_t candidates[GUARD + CANDIDATES_LENDABLE + GUARD];
+    uint16_t sets[GUARD + SETS_LENDABLE + GUARD];
 } Tables;
 
 /* The rules accepted since the last good open, clauses of texts among them, and the rows they wrote, each with the number of its rule as the book
@@ -77,6 +82,7 @@ typedef struct Play {
     Book book;
     Outcome last, library_last;
     bool demand_3, booked, renumbered; /* compared at the last step: demand 3, the book of rules, the call with other rule numbers */
+    unsigned carried, grounds, own_grounds; /* sets of the last list held alone; grounds with one of them inside; those of the board's own premises */
     char difference[240];    /* empty, or the first difference in words */
 } Play;
 
@@ -87,6 +93,8 @@ bool gives_text(Kind kind);
 bool spells(Kind kind);
 size_t text_window(const Step *step);
 size_t formula_window(const Step *step);
+size_t candidates_window(const Step *step);
+size_t sets_window(const Step *step);
 void play_start(Play *play, uint64_t seed, bool with_library);
 void lend(Play *play, const Step *step);
 void caller_acts(const Step *step, tup_board *board, Tables *tables);
@@ -110,6 +118,10 @@ Outcome library_call(const Step *step, tup_board *board, Tables *tables);
 bool number_is_known(Play *play, unsigned number);
 bool ranks_are_bounded(Play *play, const uint16_t *ranks, unsigned symbols);
 bool answer_is_bounded(Play *play, const Step *step, const Outcome *told, unsigned symbols, const Tables *tables);
+
+/* listing.c */
+bool list_is_bounded(Play *play, const Step *step, unsigned count, const uint16_t *sets);
+bool list_carries(Play *play, const Step *step);
 
 /* compare.c */
 bool same(Play *play, const char *what, long place, unsigned theirs, unsigned ours);

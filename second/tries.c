@@ -25,14 +25,16 @@ bool try_call(Play *play, Kind kind, unsigned furnace, int value, unsigned refus
     return play_step(play, &step) && play->last.refusal == refusal;
 }
 
-/* A call with so many places of each table to write; where it is given a formula or a text, that is symbol 1 alone. */
+/* A call with so many places of each table to write; where it is given a formula, a text or candidates, that is symbol 1 alone. */
 Step try_lent(Kind kind, unsigned furnace, int value, size_t places) {
     static const uint8_t formula[] = {0x10, 1}, clause[] = "p cnf 1 1\n1 0\n", symbol[] = "1";
+    static const int16_t candidate[] = {1};
     Step step = try_step(kind, furnace, value);
     for (unsigned i = 0; i < 3; i++) step.lent[i] = places;
     step.formula = gives_formula(kind) ? formula : NULL;
     step.text = kind == READ ? clause : spells(kind) ? symbol : NULL;
-    step.bytes = step.standing = kind == READ ? sizeof clause - 1 : spells(kind) ? 1 : gives_formula(kind) ? sizeof formula : 0;
+    step.candidates = kind == SMALLEST ? candidate : NULL;
+    step.bytes = step.standing = kind == READ ? sizeof clause - 1 : gives_formula(kind) ? sizeof formula : spells(kind) || kind == SMALLEST ? 1 : 0;
     return step;
 }
 

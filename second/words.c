@@ -4,8 +4,8 @@
 #include "steps.h"
 
 static const char *const words[KINDS] = {
-    "open", "rule", "add text", "read", "hold", "withdraw", "settle", "ask", "explain", "ground", "blame", "write", "to bytes", "to text", "set S",
-    "set rows used", "set rules", "set a held byte", "set a number", "append a row"};
+    "open", "rule", "add text", "read", "hold", "withdraw", "settle", "ask", "explain", "ground", "blame", "smallest", "write", "to bytes", "to text",
+    "set S", "set rows used", "set rules", "set a held byte", "set a number", "append a row"};
 
 /* The word for a kind of step. */
 const char *kind_word(Kind kind) {
@@ -64,6 +64,14 @@ void print_text(const uint8_t *text, size_t bytes) {
     printf("\"%s", bytes > 600 ? " and so on" : "");
 }
 
+/* Prints the literal to explain and the candidates, so many of them. */
+static void print_candidates(const Step *step) {
+    printf("sets for %d of %zu candidates", step->value, step->bytes);
+    for (size_t i = 0; i < step->bytes && i < 40; i++) printf(" %d", step->candidates[i]);
+    if (step->bytes > 40) printf(" and so on, the last %d", step->candidates[step->bytes - 1]);
+    if (step->standing > step->bytes) printf(" (numbers of the caller's go on after them)");
+}
+
 /* Prints the literals of a row. */
 static void print_row(const int16_t *row) {
     unsigned last = ROW_LITERALS;
@@ -77,6 +85,7 @@ static void print_lent(const Step *step) {
     printf("; table of %zu numbers (%zu rows)", step->numbers, rows_lent(step->numbers));
     if (step->kind == SETTLE) printf("; %zu labels, %zu ranks, %zu supports lent", step->lent[0], step->lent[1], step->lent[2]);
     if (step->kind == GROUND || step->kind == BLAME) printf("; %zu marks lent", step->lent[0]);
+    if (step->kind == SMALLEST) printf("; %zu places for sets lent", step->lent[0]);
     if (step->kind == WRITE || step->kind == TO_BYTES || step->kind == TO_TEXT) printf("; %zu bytes lent", step->lent[0]);
     if (gives_text(step->kind) && step->standing > step->bytes) printf("; bytes of the caller's go on after the text");
 }
@@ -95,6 +104,7 @@ void print_step(const Step *step, size_t ordinal) {
     case READ: case TEXT_RULE: case TO_BYTES: printf("%s ", words[step->kind]), print_text(step->text, step->bytes), print_lent(step); break;
     case OPEN: printf("open %d", step->value); break;
     case WRITE: printf("write"), print_lent(step); break;
+    case SMALLEST: printf("%s ", words[step->kind]), print_candidates(step), print_lent(step); break;
     case SETTLE: case BLAME: printf("%s for furnace %u", words[step->kind], step->furnace), print_lent(step); break;
     default: printf("%s %d for furnace %u", words[step->kind], step->value, step->furnace), print_lent(step);
     }
@@ -109,6 +119,7 @@ void print_outcome(const char *who, Kind kind, const Outcome *outcome) {
     else if (kind == RULE || kind == TEXT_RULE || kind == READ) printf("%u rows added", outcome->added);
     else if (kind == WRITE || kind == TO_BYTES || kind == TO_TEXT) printf("%zu bytes written", outcome->written);
     else if (kind == ASK) printf("%s", outcome->standing < 4 ? standings[outcome->standing] : "no standing");
+    else if (kind == SMALLEST) printf("%u sets listed", outcome->listed);
     else if (kind == EXPLAIN) printf("rank %u, row %u of %u literals, rule %u", outcome->rank, outcome->row, outcome->literals, outcome->rule);
     else printf("done");
     if (kind == READ) printf(", %u clauses before the fault or the end", outcome->clauses);

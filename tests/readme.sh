@@ -17,9 +17,10 @@ diff <(sed -n '/| .\/run cnf$/,/^$/s/^    \([^$].*\)/\1/p' README.md) crates/cnf
 diff <(printf "$(shown spell)") crates/spell/stdin
 diff <(sed -n '/| .\/run spell$/,/^[^ ]/p' README.md | sed -e 1d -e '$d' -e 's/^    //' | sed '$d') crates/spell/stdout
 
-# the line of the demo
-grep -qxF -- "$(sed -n 's/^    \(03:10 if .*\)/\1/p' README.md)" examples/trend.expected || {
-    echo "README.md: examples/trend.expected does not have its line of the demo"
+# the lines of the demo
+lines=$(sed -n 's/^    \([0-9][0-9]:[0-9][0-9] .*\)/\1/p' README.md)
+[ "$(wc -l <<<"$lines")" -eq 2 ] && ! grep -vxFf examples/trend.expected <<<"$lines" || {
+    echo "README.md: examples/trend.expected does not have its two lines of the demo"
     exit 1
 }
 

@@ -13,8 +13,9 @@ use Rattle.chains.specs.Emitting.{minusesOf, kindFor, startOn, starts, s
 use Rattle.chains.specs.declared.signs.Class.the-variants.{Denial}
 use Rattle.chains.specs.declared.signs.Start.{Start}
 use Rattle.chains.specs.declared.signs.Start.the-variants.{Digits, Bracket, Neither}
+use Rattle.meaning.proofs.Tables.{sets-append}
 use Rattle.formula.proofs.Parts.{onward, onward-drop}
-use Rattle.spelling.proofs.Pieces.{sets-append, put-put}
+use Rattle.spelling.proofs.Pieces.{put-put}
 
 fill-put : (before : List ℕ) {after : List ℕ} (at n byte : ℕ) → after ≡ sets before at (replicate n byte)
     → Put before after at (replicate n byte) (at + n)

@@ -6,7 +6,8 @@ use Prim.Native.String.{String}
 use lib.IntN.{ℤ, pos, negsuc}
 use lib.ListN.{replicate}
 use Rattle.meaning.specs.Formulae.{occurs, symbolsOf, value}
-use Rattle.meaning.specs.Clauses.{hit, implicate, ofSize, prime}
+use Rattle.meaning.specs.BySize.{ofSize}
+use Rattle.meaning.specs.Clauses.{hit, implicate, prime}
 use Rattle.literals.specs.Literal.{literalAt}
 use Rattle.literals.specs.Row.{encode, rowsSound}
 use Rattle.literals.specs.declared.refusal.Refusal.the-variants.{TableFull}

@@ -4,7 +4,6 @@ pub mod Digits
 pub mod Thirds
 pub mod Table
 pub mod Lone
-pub mod Counting
 pub mod Putting
 pub mod Appending
 pub mod Turns

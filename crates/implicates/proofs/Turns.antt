@@ -1,39 +1,16 @@
--- One turn of a loop that appends the rows of clauses, and which clauses it appends.
+-- One turn of a loop that appends the rows of clauses.
 use mathlib.Core.Path.{_≡_, refl, sym, ap, ap₂, _∙_, subst}
-use mathlib.Core.Logic.{⊎-elim}
-use mathlib.Core.Bool.{Bool, true, false, cond, _&&_, and-false}
 use mathlib.Core.List.{List, [], _∷_, _++_, map, map-append}
-use Prim.Native.Nat.{ℕ, zero, suc, _+_, _-_, _*_, _<_, _≤_, _^_}
+use Prim.Native.Nat.{ℕ, _+_, _-_, _*_, _≤_}
 use native.Mathlib.Omega.{arith}
 use native.Mathlib.Nat.{add-zero}
-use native.Mathlib.Numerals.{add-one}
-use borrow.Author.Tests.{eq-eqb, ne-eqb}
 use borrow.Rule.Slice.PartMut.{putMid}
-use lib.Dec.{eqb}
-use lib.ListN.{length, take, drop, set, length-append, length-map, take-append-drop}
-use lib.Seq.{take-suc, take-all}
+use lib.ListN.{length, set, length-append, length-map}
 use lib.IntN.{ℤ, pos}
-use Rattle.meaning.specs.Tests.{keep}
-use Rattle.meaning.specs.Clauses.{Digit, clauses, size, chosen, ofSize, belowSize, rowOf}
-use Rattle.meaning.proofs.Tests.{keep-append}
-use Rattle.meaning.proofs.Tables.{le-or-lt}
+use Rattle.meaning.specs.Clauses.{Digit, rowOf}
 use Rattle.literals.specs.Row.{width, mostLiterals, encode, Ruled, ofRule}
-use Rattle.implicates.specs.Numbers.{clauseAt}
 use Rattle.implicates.specs.Appending.{appended}
-use Rattle.implicates.proofs.Numbers.{length-clauses, clause-at}
 use Rattle.implicates.proofs.Appending.{appended-none, appended-one, appended-more, length-appended}
-
--- ---- a clause is chosen, or not
-
-module _ (test : List Digit → Bool) (k : ℕ) (v : List Digit) where
-  pub chosen-other : (size v ≡ k → ⊥) → chosen test k (v ∷ []) ≡ []
-  chosen-other h = ap (λ (b : Bool). cond (b && test v) (v ∷ []) []) (ne-eqb (size v) k h)
-
-  pub chosen-failed : test v ≡ false → chosen test k (v ∷ []) ≡ []
-  chosen-failed h = ap (λ (b : Bool). cond b (v ∷ []) []) (ap (λ (b : Bool). eqb (size v) k && b) h ∙ and-false (eqb (size v) k))
-
-  pub chosen-one : size v ≡ k → test v ≡ true → chosen test k (v ∷ []) ≡ v ∷ []
-  chosen-one h t = ap₂ (λ (a b : Bool). cond (a && b) (v ∷ []) []) (eq-eqb (size v) k h) t
 
 -- ---- what is appended for some clauses
 
@@ -90,34 +67,3 @@ module _ {t : List ℤ} {row rule : ℕ} {ss : List ℕ} {us vs : List (List Dig
             ∙ ap (appended t row) joined;
         count = omega (arith, both);
       }
-
--- ---- the clauses of k literals, by number
-
--- those that are chosen of the first c
-abbrev pub upTo : (List Digit → Bool) → ℕ → ℕ → ℕ → List (List Digit)
-upTo test n k c = chosen test k (take c (clauses n))
-
-module _ (test : List Digit → Bool) (n k : ℕ) where
-  pub upTo-more : (c : ℕ) → c < 3 ^ n → upTo test n k (c + 1) ≡ upTo test n k c ++ chosen test k (clauseAt n c ∷ [])
-  upTo-more c h =
-      ap (λ (j : ℕ). upTo test n k j) (add-one c)
-      ∙ ap (chosen test k) (take-suc (clauses n) c [] (rw length-clauses h) ∙ ap (λ (v : List Digit). take c (clauses n) ++ (v ∷ [])) (clause-at n c h))
-      ∙ keep-append (λ (v : List Digit). eqb (size v) k && test v) (take c (clauses n)) (clauseAt n c ∷ [])
-
-  pub upTo-all : upTo test n k (3 ^ n) ≡ ofSize test n k
-  unfolding ofSize
-  upTo-all = ap (chosen test k) (take-all (3 ^ n) (clauses n) (omega (arith, length-clauses n)))
-
-  pub upTo-le : (c : ℕ) → length (upTo test n k c) ≤ length (ofSize test n k)
-  unfolding ofSize
-  upTo-le c =
-      let q : List Digit → Bool = λ v. eqb (size v) k && test v in
-      let e = ap (keep q) (sym (take-append-drop c (clauses n))) ∙ keep-append q (take c (clauses n)) (drop c (clauses n)) in
-      omega (arith, ap length e, length-append (keep q (take c (clauses n))) (keep q (drop c (clauses n))))
-
--- fewer literals, no more clauses
-pub belowSize-le : (test : List Digit → Bool) (n j k : ℕ) → j ≤ k → length (belowSize test n j) ≤ length (belowSize test n k)
-belowSize-le test n j zero h = let e : j ≡ 0 = omega arith in rw e (omega arith)
-belowSize-le test n j (suc k) h =
-    ⊎-elim (λ l. omega (arith, belowSize-le test n j k l, length-append (belowSize test n k) (ofSize test n k)))
-    (λ (l : k < j). let q : j ≡ suc k = omega arith in rw q (omega arith)) (le-or-lt j k)

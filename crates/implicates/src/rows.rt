@@ -9,7 +9,8 @@ ghost use mathlib.Core.Bool.{not, true};
 ghost use lib.Dec.{leb};
 ghost use Rattle.meaning.specs.Tests.{all};
 ghost use Rattle.meaning.specs.Literals.{place};
-ghost use Rattle.meaning.specs.Clauses.{size, chosen, ofSize, inOrder, rowOf};
+ghost use Rattle.meaning.specs.BySize.{ofSize};
+ghost use Rattle.meaning.specs.Clauses.{clauses, size, inOrder, rowOf};
 ghost use Rattle.literals.specs.Literal.{literalAt};
 ghost use Rattle.literals.specs.Row.{width, mostLiterals, mostRules, encode, ofRule};
 ghost use Rattle.implicates.specs.Numbers.{clauseAt};
@@ -112,9 +113,9 @@ fn append_one(
     c: usize,
 ) -> usize
     requires { ⌜ (n ≤ 8) × (n ≡ length (now symbols)) × (all (leb 1) (now symbols) ≡ true) × (c < 3 ^ n) × (3 ^ n ≤ length (now primes)) × (rule ≤ mostRules) ⌝ }
-    requires room { ⌜ width * (row + length (chosen (marked (now primes)) k (clauseAt n c ∷ []))) ≤ length (now table) ⌝ }
-    ensures { λ _. ⌜ now (table .exit) ≡ appended (now (table .entry)) row (ofRule rule (map (rowOf (now (symbols .entry))) (chosen (marked (now (primes .entry))) k (clauseAt n c ∷ [])))) ⌝ }
-    ensures { λ r. ⌜ r ≡ row + length (chosen (marked (now (primes .entry))) k (clauseAt n c ∷ [])) ⌝ }
+    requires room { ⌜ width * (row + length (ofSize size (marked (now primes)) (clauseAt n c ∷ []) k)) ≤ length (now table) ⌝ }
+    ensures { λ _. ⌜ now (table .exit) ≡ appended (now (table .entry)) row (ofRule rule (map (rowOf (now (symbols .entry))) (ofSize size (marked (now (primes .entry))) (clauseAt n c ∷ []) k))) ⌝ }
+    ensures { λ r. ⌜ r ≡ row + length (ofSize size (marked (now (primes .entry))) (clauseAt n c ∷ []) k) ⌝ }
 {
     if !primes[c] {
         return row;
@@ -139,9 +140,9 @@ fn append_size(
     k: usize,
 ) -> usize
     requires { ⌜ (n ≤ 8) × (n ≡ length (now symbols)) × (all (leb 1) (now symbols) ≡ true) × (length (now primes) ≡ 3 ^ n) × (rule ≤ mostRules) ⌝ }
-    requires room { ⌜ width * (row + length (ofSize (marked (now primes)) n k)) ≤ length (now table) ⌝ }
-    ensures { λ _. ⌜ now (table .exit) ≡ appended (now (table .entry)) row (ofRule rule (map (rowOf (now (symbols .entry))) (ofSize (marked (now (primes .entry))) n k))) ⌝ }
-    ensures { λ r. ⌜ r ≡ row + length (ofSize (marked (now (primes .entry))) n k) ⌝ }
+    requires room { ⌜ width * (row + length (ofSize size (marked (now primes)) (clauses n) k)) ≤ length (now table) ⌝ }
+    ensures { λ _. ⌜ now (table .exit) ≡ appended (now (table .entry)) row (ofRule rule (map (rowOf (now (symbols .entry))) (ofSize size (marked (now (primes .entry))) (clauses n) k))) ⌝ }
+    ensures { λ r. ⌜ r ≡ row + length (ofSize size (marked (now (primes .entry))) (clauses n) k) ⌝ }
 {
     let mut next = row;
     let mut c = 0;

@@ -3,7 +3,7 @@ use Prim.Native.Nat.{_≤_}
 use native.Mathlib.Omega.{arith}
 use Rattle.literals.specs.Refusals.{numberOf}
 use Rattle.literals.specs.declared.refusal.Refusal.{Refusal}
-use Rattle.literals.specs.declared.refusal.Refusal.the-variants.{BadBoard, BadLiteral, CutShort, UnknownKind, TooDeep, BytesLeftOver, TooManySymbols, NoAssignment, TableFull, AlreadyHeld, NotHeld, NothingToShow, TableTooShort, BadText, BadFurnace}
+use Rattle.literals.specs.declared.refusal.Refusal.the-variants.{BadBoard, BadLiteral, CutShort, UnknownKind, TooDeep, BytesLeftOver, TooManySymbols, NoAssignment, TableFull, AlreadyHeld, NotHeld, NothingToShow, TableTooShort, BadText, BadFurnace, BadCandidates}
 
 pub number-some : (why : Refusal) → 1 ≤ numberOf why
 number-some BadBoard = omega arith
@@ -21,3 +21,4 @@ number-some NothingToShow = omega arith
 number-some TableTooShort = omega arith
 number-some BadText = omega arith
 number-some BadFurnace = omega arith
+number-some BadCandidates = omega arith

@@ -1,7 +1,7 @@
 -- 01, "Numbers of the refusals", and 02's.
 use Prim.Native.Nat.{ℕ}
 use Rattle.literals.specs.declared.refusal.Refusal.{Refusal}
-use Rattle.literals.specs.declared.refusal.Refusal.the-variants.{BadBoard, BadLiteral, CutShort, UnknownKind, TooDeep, BytesLeftOver, TooManySymbols, NoAssignment, TableFull, AlreadyHeld, NotHeld, NothingToShow, TableTooShort, BadText, BadFurnace}
+use Rattle.literals.specs.declared.refusal.Refusal.the-variants.{BadBoard, BadLiteral, CutShort, UnknownKind, TooDeep, BytesLeftOver, TooManySymbols, NoAssignment, TableFull, AlreadyHeld, NotHeld, NothingToShow, TableTooShort, BadText, BadFurnace, BadCandidates}
 
 abbrev pub numberOf : Refusal → ℕ
 numberOf BadBoard = 1
@@ -20,3 +20,4 @@ numberOf TableTooShort = 13
 -- 14, "a literal would need a rank above 2S", was taken out (02, Ticket 7), and its number stays unused
 numberOf BadText = 15
 numberOf BadFurnace = 16
+numberOf BadCandidates = 17

@@ -9,7 +9,8 @@ use lib.ListN.{getD, set}
 use Rattle.meaning.specs.Tests.{tabulate, keep, from, first}
 use Rattle.meaning.specs.Literals.{place, opp, has, conflict}
 use Rattle.meaning.specs.Formulae.{Formula, symbol, neg, and, or, imp, same, value, occurs, symbolsOf, ruleOf}
-use Rattle.meaning.specs.Clauses.{hit, implicate, prime, ofSize, rowsOf, allRows, satisfiable}
+use Rattle.meaning.specs.BySize.{ofSize}
+use Rattle.meaning.specs.Clauses.{hit, implicate, prime, rowsOf, allRows, satisfiable}
 use Rattle.meaning.specs.Rounds.{gives, next, reached, derived, rankBy, firstGiver, supportAt, label, rankOf, supportOf}
 use Rattle.meaning.specs.Ground.{reachesIn, reaches, ground, largerRank, blamed, blame}
 use Rattle.meaning.specs.SecondWay.{rulesOf, forces, firstWay, secondWay}

@@ -10,15 +10,17 @@ use native.Mathlib.Omega.{arith}
 use lib.ListN.{length, length-map}
 use borrow.Author.Tests.{not-true}
 use Rattle.meaning.specs.Tests.{from}
+use Rattle.meaning.specs.BySize.{BySize, EachBefore}
 use Rattle.meaning.specs.Formulae.{Rule}
-use Rattle.meaning.specs.Clauses.{Digit, denies, out, falsifies, hit, prime, lone, belowSize, primesInOrder, rowOf, rowsOf}
-use Rattle.meaning.specs.Clauses.{RowBefore, here, later, Precedes}
+use Rattle.meaning.specs.Clauses.{Digit, denies, out, falsifies, hit, prime, lone, clauses, size, primesInOrder, rowOf, rowsOf}
+use Rattle.meaning.specs.Clauses.{RowBefore, here, later}
 use Rattle.meaning.proofs.Tests.{both-true, and-intro, or-left, or-right, not-intro, clash}
+use Rattle.meaning.proofs.BySize.{length-from, belowSize-each}
 use Rattle.meaning.proofs.Clauses.{hit-denies, hit-out, hit-same}
 use Rattle.meaning.proofs.Primes.{lone-same, prime-lone, prime-same}
 use Rattle.meaning.proofs.Formulae.{Ascending}
 use Rattle.meaning.proofs.Order.{all-primes}
-use Rattle.meaning.proofs.OrderOfRows.{Rel, Chain, belowSize-chain}
+use Rattle.meaning.proofs.OrderOfRows.{Sorted, clauses-each}
 
 -- a clause that is not hit, while leaving out any one literal makes it hit, is prime; and a prime one is not hit
 prime-of : (sat : List Bool → Bool) (v : List Digit) → hit sat v ≡ false → lone (hit sat) v ≡ true → prime sat v ≡ true
@@ -102,11 +104,11 @@ not-before : {r : List ℕ} → RowBefore r r → ⊥
 not-before (here l) = omega arith
 not-before (later b) = not-before b
 
-not-itself : (r : List ℕ) → Precedes r r → ⊥
-not-itself r h = ⊎-elim (λ l. omega arith) (λ w. not-before (w .1)) h
+not-itself : (ss : List ℕ) (u : List Digit) → BySize size (Sorted ss) u u → ⊥
+not-itself ss u h = ⊎-elim (λ l. omega arith) (λ w. not-before (w .1 refl)) h
 
 -- a list in order that has one clause only has it once
-once : (R : Rel) (u : List Digit) (vs : List (List Digit)) → (R u u → ⊥) → Chain R vs → In u vs
+once : (R : List Digit → List Digit → Type 0) (u : List Digit) (vs : List (List Digit)) → (R u u → ⊥) → EachBefore R vs → In u vs
     → ((v : List Digit) → In v vs → v ≡ u) → vs ≡ u ∷ []
 once R u [] n c m f = absurd (in-nil m)
 once R u (v ∷ []) n c m f = ap (λ (w : List Digit). w ∷ []) (f v (here-in refl))
@@ -116,17 +118,12 @@ from-ascends : (m k n : ℕ) → m < k → Ascending m (from k n)
 from-ascends m k zero l = tt
 from-ascends m k (suc n) l = (l, from-ascends k (suc k) n (omega arith))
 
-length-from : (k n : ℕ) → length (from k n) ≡ n
-length-from k zero = refl
-length-from k (suc n) = ap suc (length-from (suc k) n)
-
 one-prime : (sat : List Bool → Bool) (n : ℕ) (u : List Digit) → length u ≡ n → prime sat u ≡ true
     → ((v : List Digit) → length v ≡ n → prime sat v ≡ true → v ≡ u) → primesInOrder sat n ≡ u ∷ []
 one-prime sat n u l p f =
     let ss = from 1 n in
-    let c = belowSize-chain (prime sat) ss (from-ascends 0 1 n (omega arith)) (suc n) in
-    once (λ v w. Precedes (rowOf ss v) (rowOf ss w)) u (primesInOrder sat n) (not-itself (rowOf ss u))
-    (subst (λ (k : ℕ). Chain (λ v w. Precedes (rowOf ss v) (rowOf ss w)) (belowSize (prime sat) k (suc n))) (length-from 1 n) c)
+    let c = subst (λ (k : ℕ). EachBefore (Sorted ss) (clauses k)) (length-from 1 n) (clauses-each 0 ss (from-ascends 0 1 n (omega arith))) in
+    once (BySize size (Sorted ss)) u (primesInOrder sat n) (not-itself ss u) (belowSize-each size (prime sat) (clauses n) (Sorted ss) c (suc n))
     (all-primes sat n u .1 (l, p)) (λ v m. let r = all-primes sat n v .0 m in f v (r .0) (r .1))
 
 -- a rule that says of its symbols what one clause says has this clause as its row

@@ -1,6 +1,7 @@
 -- Laws and theorems, cited by the crates below.
 pub mod Tests
 pub mod Tables
+pub mod BySize
 pub mod Literals
 pub mod Formulae
 pub mod Clauses
@@ -20,7 +21,10 @@ pub mod Derived
 mod Standing
 pub mod Blame
 mod Ways
+pub mod Growth
 pub mod Unmoved
+pub mod Sets
+pub mod Smallest
 mod Reason
 mod LeavingOff
 pub mod TwoWays
@@ -28,4 +32,5 @@ mod Words
 pub mod Forced
 pub mod DemandThree
 mod Boards
+mod SetBoards
 pub mod Answers

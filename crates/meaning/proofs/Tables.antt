@@ -1,13 +1,14 @@
--- Laws of `tabulate`, the table of a function, of `first`, the least number that passes a test, and of `firstSmallest`, the one of smallest value.
+-- Laws of `tabulate`, the table of a function, of runs of stores, of `first`, the least number that passes a test, and of `firstSmallest`, the one of
+-- smallest value.
 use Prim.Native.Nat.{ℕ, zero, suc, _+_, _≤_, _<_}
 use mathlib.Core.Path.{_≡_, refl, sym, ap, _∙_, subst}
 use mathlib.Core.Logic.{_⊎_, inl, inr, ⊎-elim}
 use mathlib.Core.Bool.{Bool, true, false, cond, _&&_, _||_, true≢false}
 use mathlib.Core.List.{List, [], _∷_, _++_, map, List·Memᴰ as In, List·Memᴰ·cases-cons as in-cons, List·Memᴰ·not-nil as in-nil}
-use native.Mathlib.Nat.{le-of-suc-le-suc, not-suc-le-zero, eq-or-lt-of-le}
+use native.Mathlib.Nat.{add-zero, le-of-suc-le-suc, not-suc-le-zero, eq-or-lt-of-le}
 use native.Mathlib.Omega.{arith}
 use lib.ListN.{length, getD, set}
-use lib.Seq.{ext-getD, getD-set-same, getD-set-other}
+use lib.Seq.{ext-getD, getD-set-same, getD-set-other, sets}
 use lib.Dec.{eqb, ltb, leb}
 use borrow.Author.Count.{below-more}
 use borrow.Author.Tests.{eq-eqb, ne-eqb, lt-ltb, le-ltb, ltb-true, ltb-false, leb-true, leb-false}
@@ -51,6 +52,13 @@ module _ {A : Type 0} where
       below-more (λ i. getD (set l p v) i d ≡ f i) p
       (λ i b. getD-set-other l p i v d (λ e. omega (arith, e)) ∙ before i b)
       (getD-set-same l p v d h ∙ here)
+
+  -- a run of stores, and one after it
+  pub sets-append : (l : List A) (i : ℕ) (a b : List A) → sets l i (a ++ b) ≡ sets (sets l i a) (i + length a) b
+  sets-append l i [] b = rw add-zero
+  sets-append l i (x ∷ a) b =
+      let e : suc i + length a ≡ i + suc (length a) = omega arith in
+      sets-append (set l i x) (suc i) a b ∙ rw e
 
 pub map-tabulate : {A B : Type 0} (f : A → B) (n : ℕ) (g : ℕ → A) → map f (tabulate n g) ≡ tabulate n (λ i. f (g i))
 map-tabulate f zero g = refl

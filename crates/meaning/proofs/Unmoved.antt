@@ -11,41 +11,33 @@ use lib.ListN.{length, getD, set}
 use lib.Seq.{getD-set-other}
 use borrow.Author.Tests.{eqb-false, eq-eqb}
 use Rattle.meaning.specs.Tests.{any, none}
-use Rattle.meaning.specs.Literals.{opp, has, Within, conflict}
-use Rattle.meaning.specs.Rounds.{byRows, after, derived, rankOf, supportOf}
+use Rattle.meaning.specs.Literals.{opp, has, Within}
+use Rattle.meaning.specs.Rounds.{byRows, derived, rankOf, supportOf}
 use Rattle.meaning.specs.Ground.{reaches, ground, struckOff}
 use Rattle.meaning.specs.Promises.{GaveRank, GroundHeld, GroundEnough, OnlyGround, OutsideWithdrawn}
 use Rattle.meaning.proofs.Tests.{true-or-false, false-of, clash, any-same}
 use Rattle.meaning.proofs.Tables.{length-tabulate, getD-tabulate, tabulate-same}
-use Rattle.meaning.proofs.Literals.{has-below, conflict-within}
-use Rattle.meaning.proofs.Rounds.{reached-length, reached-grows}
+use Rattle.meaning.proofs.Literals.{has-below}
+use Rattle.meaning.proofs.Rounds.{reached-length}
 use Rattle.meaning.proofs.Ranks.{rankOf-is, rank-le, rank-zero}
 use Rattle.meaning.proofs.Supports.{supportOf-held, support-rule}
 use Rattle.meaning.proofs.Reach.{ranks-fall, premise-reaches, others-reach}
 use Rattle.meaning.proofs.Standing.{reached-held, reaches-on, supported, in-round, stands}
-use Rattle.meaning.proofs.Ways.{rows-grow}
+use Rattle.meaning.proofs.Growth.{known-before}
 
 -- a derived literal is one of the places
-derived-below : (places : ℕ) (rows : List (List ℕ)) (held : List Bool) (p : ℕ) → has (derived places rows held) p ≡ true → p < places
+pub derived-below : (places : ℕ) (rows : List (List ℕ)) (held : List Bool) (p : ℕ) → has (derived places rows held) p ≡ true → p < places
 derived-below places rows held p h = omega (arith, has-below (derived places rows held) p h, reached-length places (byRows rows) held places)
 
 -- ---- fewer premises
 
 module _ (places : ℕ) (rows : List (List ℕ)) (held now : List Bool) (small : places < none) (fewer : Within now held) where
-  -- know no more in any round,
-  known-before : (k : ℕ) → Within (after places rows now k) (after places rows held k)
-  known-before k = reached-grows places (byRows rows) (rows-grow rows) now held fewer k
-
-  -- so no literal has a smaller rank,
+  -- know no more in any round: no literal has a smaller rank
   no-sooner : (p : ℕ) → rankOf places rows held p ≤ rankOf places rows now p
   no-sooner p =
-      ⊎-elim (λ f. rank-le places rows held small (rankOf places rows now p) p (f .0) (known-before (rankOf places rows now p) p (f .1)))
+      ⊎-elim (λ f. rank-le places rows held small (rankOf places rows now p) p (f .0) (known-before places rows now held fewer (rankOf places rows now p) p (f .1)))
       (λ f. ⊎-elim (λ g. omega (arith, f .0, g .0)) (λ g. omega (arith, f .0, g .0)) (rankOf-is places rows held p small))
       (rankOf-is places rows now p small)
-
-  -- and no conflict comes up
-  pub no-conflict-more : conflict (derived places rows now) ≡ true → conflict (derived places rows held) ≡ true
-  no-conflict-more c = conflict-within (derived places rows now) (derived places rows held) (known-before places) c
 
   -- ---- that have what a literal reaches
 
@@ -126,10 +118,15 @@ module _ (places : ℕ) (rows : List (List ℕ)) (held now : List Bool) (small :
 
 -- ---- the promises
 
+pub ground-below : (places : ℕ) (rows : List (List ℕ)) (held : List Bool) (p x : ℕ) → has (ground places rows held p) x ≡ true → x < places
+unfolding ground
+ground-below places rows held p x e =
+    omega (arith, has-below (ground places rows held p) x e, length-tabulate places (reaches places rows held p))
+
 pub ground-held : GroundHeld
 unfolding ground
 ground-held places rows held p small few b x e =
-    let low : x < places = omega (arith, has-below (ground places rows held p) x e, length-tabulate places (reaches places rows held p)) in
+    let low = ground-below places rows held p x e in
     reached-held places rows held small (omega arith) p x b (sym (getD-tabulate places (reaches places rows held p) x false low) ∙ e) .1
 
 pub ground-enough : GroundEnough

@@ -1,12 +1,10 @@
 -- 01, "From a rule to rows". A rule over n symbols is told by which assignments satisfy it, `sat`.
-use mathlib.Core.Path.{_≡_}
 use mathlib.Core.Bool.{Bool, true, false, not, _&&_, Bool·beq}
-use mathlib.Core.Logic.{_⊎_}
-use mathlib.Core.List.{List, [], _∷_, _++_, map, List·Memᴰ}
+use mathlib.Core.List.{List, [], _∷_, _++_, map}
 use Prim.Native.Nat.{ℕ, zero, suc, _<_}
 use lib.ListN.{length}
-use lib.Dec.{eqb}
-use Rattle.meaning.specs.Tests.{any, all, keep}
+use Rattle.meaning.specs.Tests.{any, all}
+use Rattle.meaning.specs.BySize.{belowSize, BySize, EachBefore}
 use Rattle.meaning.specs.Literals.{place}
 use Rattle.meaning.specs.Formulae.{Rule}
 
@@ -74,22 +72,9 @@ lone test [] = true
 lone test (out ∷ v) = lone (λ u. test (out ∷ u)) v
 lone test (denies x ∷ v) = test (out ∷ v) && lone (λ u. test (denies x ∷ u)) v
 
--- of some clauses those of k literals that pass a test
-abbrev pub chosen : (List Digit → Bool) → ℕ → List (List Digit) → List (List Digit)
-chosen test k vs = keep (λ v. eqb (size v) k && test v) vs
-
--- of all clauses over n symbols
-unfoldable pub ofSize : (List Digit → Bool) → ℕ → ℕ → List (List Digit)
-ofSize test n k = chosen test k (clauses n)
-
--- those of fewer than k literals, fewer literals first
-abbrev pub belowSize : (List Digit → Bool) → ℕ → ℕ → List (List Digit)
-belowSize test n zero = []
-belowSize test n (suc k) = belowSize test n k ++ ofSize test n k
-
--- all of them: a clause over n symbols has at most n literals
+-- the clauses over n symbols that pass a test, fewer literals first: a clause over n symbols has at most n
 abbrev pub inOrder : (List Digit → Bool) → ℕ → List (List Digit)
-inOrder test n = belowSize test n (suc n)
+inOrder test n = belowSize size test (clauses n) (suc n)
 
 -- "An accepted rule appends exactly its prime implicates, each once: fewer literals first", then as `Precedes` has it
 abbrev pub primesInOrder : (List Bool → Bool) → ℕ → List (List Digit)
@@ -121,9 +106,8 @@ pub data RowBefore : List ℕ → List ℕ → Type 0 where
 
 -- "fewer literals first; of equal length", that order
 abbrev pub Precedes : List ℕ → List ℕ → Type 0
-Precedes r t = (length r < length t) ⊎ ((length r ≡ length t) × RowBefore r t)
+Precedes r t = BySize length RowBefore r t
 
 -- each row precedes every later one: so none stands there twice
 abbrev pub InOrder : List (List ℕ) → Type 0
-InOrder [] = Unit {0}
-InOrder (r ∷ rows) = ((t : List ℕ) → List·Memᴰ t rows → Precedes r t) × InOrder rows
+InOrder rows = EachBefore Precedes rows

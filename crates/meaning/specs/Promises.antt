@@ -4,15 +4,18 @@ use mathlib.Core.Logic.{_↔_, _≢_, _⊎_}
 use mathlib.Core.Bool.{Bool, true, false, not, _&&_}
 use mathlib.Core.List.{List, []}
 use mathlib.Core.List.{List·Memᴰ as In}
-use Prim.Native.Nat.{ℕ, suc, _*_, _≤_, _<_}
+use Prim.Native.Nat.{ℕ, suc, _*_, _^_, _≤_, _<_}
 use lib.Dec.{eqb}
 use lib.ListN.{length, getD}
 use Rattle.meaning.specs.Tests.{any, all, none}
+use Rattle.meaning.specs.BySize.{BySize, EachBefore}
 use Rattle.meaning.specs.Literals.{place, opp, has, Within, conflict}
 use Rattle.meaning.specs.Formulae.{Formula, ruleOf}
 use Rattle.meaning.specs.Clauses.{Digit, prime, primesInOrder, rowsOf, allRows, InOrder}
 use Rattle.meaning.specs.Rounds.{after, derived, rankOf, supportOf, label}
 use Rattle.meaning.specs.Ground.{reaches, ground, struckOff, largerRank, blamed, blame}
+use Rattle.meaning.specs.Sets.{bit, chosen, size}
+use Rattle.meaning.specs.Smallest.{alone, derives, clashes, smallest}
 use Rattle.meaning.specs.LeavingOff.{violation, WorksTo, LeavesOff}
 use Rattle.meaning.specs.SecondWay.{Forces, accepted, rulesOf, firstWay, secondWay}
 
@@ -227,3 +230,70 @@ pub record SameFindings (a b : List Bool) : Type 0 where
 
 abbrev pub DemandThreeComputed : Type 0
 DemandThreeComputed = (S : ℕ) (fs : List Formula) (held : List Bool) → all (accepted S) fs ≡ true → SameFindings (firstWay S fs held) (secondWay S fs held)
+
+-- ---- 02, Ticket 10: "The shift desk's smallest sets."
+
+-- "bit i stands for candidate i": a set has the candidates whose bits are set,
+abbrev pub ChosenAre : Type 0
+ChosenAre =
+    (cands : List ℕ) (m c : ℕ) → In c (chosen cands m) ↔ ((i : ℕ) × (i < length cands) × (getD cands i 0 ≡ c) × (bit i m ≡ true))
+
+-- its size is their number,
+abbrev pub SizeIs : Type 0
+SizeIs = (cands : List ℕ) (m : ℕ) → length (chosen cands m) ≡ size (length cands) m
+
+-- and a is inside b if every bit of a is one of b: another set that is inside it is smaller, in size and by number;
+abbrev pub Inside : ℕ → ℕ → Type 0
+Inside a b = (i : ℕ) → bit i a ≡ true → bit i b ≡ true
+
+abbrev pub InsideSmaller : Type 0
+InsideSmaller = (n a b : ℕ) → a < 2 ^ n → b < 2 ^ n → Inside a b → a ≢ b → (size n a < size n b) × (a < b)
+
+-- and where no candidate is given twice, a is inside b just if each candidate of a is one of b's
+abbrev pub Different : List ℕ → Type 0
+Different cands = (i j : ℕ) → i < length cands → j < length cands → getD cands i 0 ≡ getD cands j 0 → i ≡ j
+
+abbrev pub InsideIs : Type 0
+InsideIs =
+    (cands : List ℕ) (a b : ℕ) → Different cands → a < 2 ^ length cands
+    → Inside a b ↔ ((c : ℕ) → In c (chosen cands a) → In c (chosen cands b))
+
+-- "held alone": a literal is held just if it is one of the set's candidates
+abbrev pub AloneIs : Type 0
+AloneIs = (places : ℕ) (cands : List ℕ) (m p : ℕ) → (has (alone places cands m) p ≡ true) ↔ ((p < places) × In p (chosen cands m))
+
+-- a set that, "held alone under the table's rules, derives the literal without conflict, while no smaller set inside it derives the literal"
+pub record Carries (places : ℕ) (rows : List (List ℕ)) (cands : List ℕ) (p m : ℕ) : Type 0 where
+  pub derives-it : Derived places rows (alone places cands m) p
+  pub no-conflict : ¬ Conflict (Derived places rows (alone places cands m))
+  pub no-smaller : (a : ℕ) → Inside a m → a ≢ m → ¬ Derived places rows (alone places cands a) p
+
+-- "it lists each set of candidates that" is such, and no other,
+abbrev pub SmallestAre : Type 0
+SmallestAre =
+    (places : ℕ) (rows : List (List ℕ)) (cands : List ℕ) (p m : ℕ)
+    → In m (smallest places rows cands p) ↔ ((m < 2 ^ length cands) × Carries places rows cands p m)
+
+-- "order by size, then by number, each once": each stands so to every later one,
+abbrev pub SmallestInOrder : Type 0
+SmallestInOrder =
+    (places : ℕ) (rows : List (List ℕ)) (cands : List ℕ) (p : ℕ)
+    → EachBefore (BySize (size (length cands)) (λ a b. a < b)) (smallest places rows cands p)
+
+-- no more of them than there are sets
+abbrev pub SmallestBound : Type 0
+SmallestBound = (places : ℕ) (rows : List (List ℕ)) (cands : List ℕ) (p : ℕ) → length (smallest places rows cands p) ≤ 2 ^ length cands
+
+-- inside any set that derives the literal without conflict there is a listed one,
+abbrev pub OneInside : Type 0
+OneInside =
+    (places : ℕ) (rows : List (List ℕ)) (cands : List ℕ) (p m : ℕ) → m < 2 ^ length cands → derives places rows cands p m ≡ true
+    → clashes places rows cands m ≡ false → (a : ℕ) × In a (smallest places rows cands p) × Inside a m
+
+-- and a literal that held premises derive without conflict, whose ground is of candidates alone, has a listed set inside its ground
+abbrev pub OneInGround : Type 0
+OneInGround =
+    (places : ℕ) (rows : List (List ℕ)) (cands : List ℕ) (held : List Bool) (p : ℕ) → places < none → length rows < none
+    → ((h : ℕ) → has (ground places rows held p) h ≡ true → In h cands) → has (derived places rows held) p ≡ true
+    → conflict (derived places rows held) ≡ false
+    → (m : ℕ) × In m (smallest places rows cands p) × Within (alone places cands m) (ground places rows held p)

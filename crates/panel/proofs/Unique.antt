@@ -44,3 +44,6 @@ one-rule-text κs a x y = (cc, refl & (cc) & refl)
 
 one-write-text : One panel.tup_write_text.ended panel.tup_write_text.Reads.Post
 one-write-text κs a x y = (cc, refl & refl & refl & (cc) & refl)
+
+one-smallest : One panel.tup_smallest.ended panel.tup_smallest.Reads.Post
+one-smallest κs a x y = (cc, refl & refl & refl & refl & (cc) & refl)

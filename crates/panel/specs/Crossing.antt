@@ -16,6 +16,7 @@ use Rattle.board.specs.declared.asking.Standing.the-variants.{Conflict, Stands,
 use Rattle.dimacs.specs.declared.reading.Reading.{Reading}
 use Rattle.dimacs.specs.declared.writing.Writing.{Writing}
 use Rattle.text.specs.declared.Spelling.{Spelling}
+use Rattle.smallest.specs.declared.Listing.{Listing}
 use Rattle.panel.specs.declared.PanelBoard.{PanelBoard}
 use Rattle.panel.specs.declared.PanelChange.{PanelChange}
 use Rattle.panel.specs.declared.PanelAddition.{PanelAddition}
@@ -24,6 +25,7 @@ use Rattle.panel.specs.declared.PanelReason.{PanelReason}
 use Rattle.panel.specs.declared.PanelReading.{PanelReading}
 use Rattle.panel.specs.declared.PanelWriting.{PanelWriting}
 use Rattle.panel.specs.declared.PanelSpelling.{PanelSpelling}
+use Rattle.panel.specs.declared.PanelListing.{PanelListing}
 
 -- any byte other than 0 is a premise held
 abbrev pub flagOf : ℕ → Bool
@@ -62,6 +64,9 @@ writingOut w = record { refusal = numberIn (w .outcome); bytes = w .bytes }
 
 abbrev pub spellingOut : Spelling → PanelSpelling
 spellingOut s = record { refusal = numberIn (s .outcome); place = s .place; bytes = s .bytes }
+
+abbrev pub listingOut : Listing → PanelListing
+listingOut l = record { refusal = numberIn (l .outcome); count = l .count }
 
 -- the header's numbers for how a literal stands: 0 open, 1 stands, 2 ruled out, 3 conflict; 0 where refused
 abbrev pub answerOut : Standing → PanelAnswer

@@ -6,11 +6,12 @@ ghost use Prim.Native.Nat.{_<_};
 ghost use lib.ListN.{length};
 ghost use Rattle.board.specs.Faults.{numberIn};
 ghost use Rattle.board.specs.Grounds.{byteOf};
-ghost use Rattle.panel.specs.Crossing.{flagOf, boardIn, boardOut, Narrow, nextOut, changeOut, additionOut, answerOut, readingOut, writingOut, spellingOut};
+ghost use Rattle.panel.specs.Crossing.{flagOf, boardIn, boardOut, Narrow, nextOut, changeOut, additionOut, answerOut, readingOut, writingOut, spellingOut, listingOut};
 use crate::PanelAddition;
 use crate::PanelAnswer;
 use crate::PanelBoard;
 use crate::PanelChange;
+use crate::PanelListing;
 use crate::PanelReading;
 use crate::PanelSpelling;
 use crate::PanelWriting;
@@ -22,6 +23,7 @@ use board::rules::Addition;
 use dimacs::reading::Reading;
 use dimacs::writing::Writing;
 use literals::refusal::number;
+use smallest::Listing;
 use text::Spelling;
 
 // A board on which each furnace holds what its bytes say: both sets in one pass.
@@ -189,6 +191,17 @@ pub fn spelling_out(spelling: Spelling) -> PanelSpelling
         refusal: number_of(outcome),
         place: spelling.place,
         bytes: spelling.bytes,
+    }
+}
+
+// What listing the smallest sets tells C.
+pub fn listing_out(listing: Listing) -> PanelListing
+    ensures { λ r. ⌜ r ≡ listingOut listing ⌝ }
+{
+    let outcome = listing.outcome;
+    PanelListing {
+        refusal: number_of(outcome),
+        count: listing.count,
     }
 }
 

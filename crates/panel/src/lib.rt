@@ -1,4 +1,4 @@
-// The C boundary: each exported function is a call of `board`, `dimacs` or `text` and nothing else. include/tupahineka.h declares them.
+// The C boundary: each exported function is a call of `board`, `smallest`, `dimacs` or `text` and nothing else. include/tupahineka.h declares them.
 
 mod crossing;
 
@@ -10,17 +10,19 @@ ghost use Rattle.board.specs.Rules.{ruled, ruledTable};
 ghost use Rattle.board.specs.Settling.{settleOutcome, settledLabels, settledRanks, settledSupports, RanksBounded};
 ghost use Rattle.board.specs.Asking.{asked, reasoned, explained};
 ghost use Rattle.board.specs.Grounds.{groundOutcome, groundMarks, blameOutcome, blameMarks};
+ghost use Rattle.smallest.specs.Listing.{smallestAnswer, smallestSets};
 ghost use Rattle.dimacs.specs.Reading.{readAnswer, readTable};
 ghost use Rattle.dimacs.specs.Writing.{writeAnswer, writeBytes};
 ghost use Rattle.text.specs.Adding.{ruledText, ruledTextTable};
 ghost use Rattle.text.specs.Reading.{readTextAnswer, readTextBytes};
 ghost use Rattle.text.specs.Writing.{writeTextAnswer, writeTextBytes};
-ghost use Rattle.panel.specs.Crossing.{boardIn, boardOut, changeOut, additionOut, answerOut, reasonOut, readingOut, writingOut, spellingOut};
+ghost use Rattle.panel.specs.Crossing.{boardIn, boardOut, changeOut, additionOut, answerOut, reasonOut, readingOut, writingOut, spellingOut, listingOut};
 use crate::crossing::addition_out;
 use crate::crossing::answer_out;
 use crate::crossing::board_in;
 use crate::crossing::board_out;
 use crate::crossing::change_out;
+use crate::crossing::listing_out;
 use crate::crossing::number_of;
 use crate::crossing::reading_out;
 use crate::crossing::spelling_out;
@@ -71,6 +73,12 @@ pub struct PanelSpelling {
     pub refusal: u8,
     pub place: usize,
     pub bytes: usize,
+}
+
+#[repr(C)]
+pub struct PanelListing {
+    pub refusal: u8,
+    pub count: usize,
 }
 
 #[repr(C)]
@@ -163,6 +171,21 @@ pub extern "C" fn tup_write_text(
 {
     let spelling = text::writing::write(board_in(given), table, bytes, out);
     spelling_out(spelling)
+}
+
+#[no_mangle]
+pub extern "C" fn tup_smallest(
+    given: PanelBoard,
+    table: &[i16],
+    candidates: &[i16],
+    l: i16,
+    sets: &mut [u16],
+) -> PanelListing
+    ensures { λ r. ⌜ r ≡ listingOut (smallestAnswer (now (table .entry)) (boardIn given) (now (candidates .entry)) l (now (sets .entry))) ⌝ }
+    ensures { λ _. ⌜ now (sets .exit) ≡ smallestSets (now (table .entry)) (boardIn given) (now (candidates .entry)) l (now (sets .entry)) ⌝ }
+{
+    let listing = smallest::call::smallest(board_in(given), table, candidates, l, sets);
+    listing_out(listing)
 }
 
 #[no_mangle]

@@ -8,7 +8,8 @@ use lib.IntN.{ℤ, pos, negsuc}
 use lib.ListN.{replicate, take}
 use Rattle.meaning.specs.Literals.{place, opp}
 use Rattle.meaning.specs.Formulae.{value, occurs, symbolsOf}
-use Rattle.meaning.specs.Clauses.{hit, implicate, prime, ofSize}
+use Rattle.meaning.specs.BySize.{ofSize}
+use Rattle.meaning.specs.Clauses.{hit, implicate, prime}
 use Rattle.meaning.specs.Rounds.{gives, next, reached, rankBy, firstGiver, supportAt, supportOf, labelsOf}
 use Rattle.meaning.specs.Ground.{reachesIn, reaches, largerRank, blamed, blame}
 use Rattle.literals.specs.Literal.{placeOf, literalAt}

@@ -7,7 +7,8 @@ use lib.IntN.{ℤ, pos, negsuc}
 use Rattle.meaning.specs.Tests.{none}
 use Rattle.meaning.specs.Literals.{opp}
 use Rattle.meaning.specs.Formulae.{value, occurs, symbolsOf}
-use Rattle.meaning.specs.Clauses.{hit, implicate, prime, ofSize}
+use Rattle.meaning.specs.BySize.{ofSize}
+use Rattle.meaning.specs.Clauses.{hit, implicate, prime}
 use Rattle.meaning.specs.Rounds.{gives, next, reached, rankBy, firstGiver, supportAt, supportOf}
 use Rattle.meaning.specs.Ground.{reachesIn, reaches, ground}
 use Rattle.literals.specs.Literal.{placeOf, literalAt}
@@ -116,10 +117,10 @@ boards =
     ∷ []
 
 -- what the calls made answer, 0 for each, and then what is asked
-abbrev found : List Call × List (Call × Answer) → List ℕ × List Answer
+abbrev pub found : List Call × List (Call × Answer) → List ℕ × List Answer
 found b = (answers fresh (b .0), map (λ q. answer (run fresh (b .0)) (q .0)) (b .1))
 
-abbrev due : List Call × List (Call × Answer) → List ℕ × List Answer
+abbrev pub due : List Call × List (Call × Answer) → List ℕ × List Answer
 due b = (map (λ c. 0) (b .0), map (λ q. q .1) (b .1))
 
 ground-boards-hold : map found boards ≡ map due boards

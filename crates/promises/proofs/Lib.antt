@@ -13,6 +13,7 @@ mod Spared
 mod Fewer
 pub mod Blamed
 pub mod Unmoved
+pub mod Listed
 pub mod Texts
 pub mod FormulaTexts
 pub mod Explained
@@ -26,4 +27,5 @@ mod Boards
 mod TwoFurnaces
 mod NumberedBoards
 mod GroundBoards
+mod ListedBoards
 mod Carried

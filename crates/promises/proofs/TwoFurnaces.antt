@@ -8,7 +8,8 @@ use lib.ListN.{replicate}
 use Rattle.meaning.specs.Tests.{none}
 use Rattle.meaning.specs.Literals.{opp}
 use Rattle.meaning.specs.Formulae.{value, occurs, symbolsOf}
-use Rattle.meaning.specs.Clauses.{hit, implicate, prime, ofSize}
+use Rattle.meaning.specs.BySize.{ofSize}
+use Rattle.meaning.specs.Clauses.{hit, implicate, prime}
 use Rattle.meaning.specs.Rounds.{gives, next, reached, rankBy, firstGiver, supportAt, supportOf, ranksOf, supportsOf, labelsOf}
 use Rattle.literals.specs.Literal.{placeOf, literalAt}
 use Rattle.literals.specs.Row.{numbersAt, ruleAt, zeros, rising, rowSound, ruleBefore, ruleSound, rowsSound, decode, rowsIn, encode}

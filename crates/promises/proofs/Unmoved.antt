@@ -19,7 +19,8 @@ use Rattle.meaning.proofs.Tables.{length-tabulate}
 use Rattle.meaning.proofs.Literals.{has-below}
 use Rattle.meaning.proofs.Ranks.{rank-zero}
 use Rattle.meaning.proofs.Derived.{derived-is}
-use Rattle.meaning.proofs.Unmoved.{no-conflict-more, ground-held, ground-enough}
+use Rattle.meaning.proofs.Growth.{no-conflict-more}
+use Rattle.meaning.proofs.Unmoved.{ground-held, ground-enough}
 use Rattle.literals.specs.Literal.{inRange, placeOf}
 use Rattle.literals.proofs.Decoding.{length-rows}
 use Rattle.board.specs.Furnaces.{isFurnace, heldBy}
@@ -79,14 +80,14 @@ module _ (w : World) (lent furnace : ℕ) (l : ℤ) (marks : List ℕ) (e : outc
   below : p < 2 * S
   below = place-fits S l range
 
-  is-derived : has (derivedSet w furnace) p ≡ true
+  pub is-derived : has (derivedSet w furnace) p ≡ true
   unfolding groundFaults
   is-derived = rw (rows-read w lent (not-given 0)) at (not-false (has (derivedOn (front w lent) (w .board) furnace) p) (not-given 4))
 
-  small : 2 * S < none
+  pub small : 2 * S < none
   small = omega (arith, good .sound .symbols)
 
-  few : length rows < none
+  pub few : length rows < none
   few = omega (arith, length-rows (w .board .rows) (w .table), good .sound .rows)
 
   -- ---- the bytes
@@ -100,7 +101,7 @@ module _ (w : World) (lent furnace : ℕ) (l : ℤ) (marks : List ℕ) (e : outc
       ap (λ (bytes : List ℕ). getD bytes h 0) (ground-tells w lent furnace l marks e)
       ∙ mark-at its-ground (drop (2 * S) marks) h (omega (arith, long))
 
-  in-ground : (h : ℕ) → has its-ground h ≡ true → InGround w lent furnace l marks h
+  pub in-ground : (h : ℕ) → has its-ground h ≡ true → InGround w lent furnace l marks h
   in-ground h t = let low : h < 2 * S = omega (arith, has-below its-ground h t, long) in (low, its-mark h low ∙ ap byteOf t)
 
   ground-in : (h : ℕ) → InGround w lent furnace l marks h → has its-ground h ≡ true
@@ -181,7 +182,7 @@ module _ (w : World) (lent furnace : ℕ) (l : ℤ) (marks : List ℕ) (e : outc
     no-conflict quiet =
         rw (f .symbols, f .rows, f .table)
         (false-of (conflict (derived (2 * S) rows (premisesOf v furnace)))
-        (λ c. clash (no-conflict-more (2 * S) rows held (premisesOf v furnace) small (f .premises) c) quiet))
+        (λ c. clash (no-conflict-more (2 * S) rows (premisesOf v furnace) held (f .premises) c) quiet))
 
     module _ (some : ℕ) (labels ranks supports : List ℕ) where
       outcome-same : outcome v (settles some furnace labels ranks supports) ≡ outcome w (settles some furnace labels ranks supports)

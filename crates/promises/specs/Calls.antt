@@ -1,5 +1,5 @@
 -- "After every sequence of calls": the calls with all that each is lent, and what they do to the board and the caller's table, by the
--- very definitions that the contracts of `board`, `dimacs` and `text` cite.
+-- very definitions that the contracts of `board`, `smallest`, `dimacs` and `text` cite.
 use Prim.Native.Nat.{ℕ}
 use mathlib.Core.Bool.{Bool, true, false, not, _&&_}
 use mathlib.Core.List.{List, [], _∷_, _++_}
@@ -17,6 +17,7 @@ use Rattle.board.specs.Rules.{ruleFaults, ruled, ruledTable}
 use Rattle.board.specs.Settling.{settleFaults, settleOutcome, settledLabels, settledRanks, settledSupports}
 use Rattle.board.specs.Asking.{askFaults, asked, explainFaults, reasoned, Span, explained}
 use Rattle.board.specs.Grounds.{groundFaults, groundOutcome, groundMarks, blameFaults, blameOutcome, blameMarks}
+use Rattle.smallest.specs.Listing.{smallestFaults, smallestAnswer, smallestSets}
 use Rattle.dimacs.specs.Form.{parseText}
 use Rattle.dimacs.specs.Reading.{formulaeIn, readFaults, readAnswer, readTable}
 use Rattle.dimacs.specs.Writing.{writeFaults, writeAnswer, writeBytes}
@@ -30,11 +31,12 @@ use Rattle.board.specs.declared.Outcome.the-variants.{Done, Refused}
 use Rattle.board.specs.declared.asking.Reason.{Reason}
 use Rattle.board.specs.declared.asking.Standing.{Standing}
 use Rattle.board.specs.declared.asking.Standing.the-variants.{Conflict, Stands, RuledOut, Open, Refused as Unasked}
+use Rattle.smallest.specs.declared.Listing.{Listing}
 use Rattle.dimacs.specs.declared.writing.Writing.{Writing}
 use Rattle.text.specs.declared.Spelling.{Spelling}
 
 -- Every call but open is lent the table "from its front": its first `lent` numbers, as many as the caller likes at each call. 02, Ticket 6: "Every
--- call but open and adding a rule names a furnace", "DIMACS and formula calls name no furnace".
+-- call but open and adding a rule names a furnace", "DIMACS and formula calls name no furnace"; Ticket 10: "no furnace is named".
 pub data Call : Type 0 where
   opens : (symbols : ℕ) → Call
   adds : (lent : ℕ) (bytes : List ℕ) → Call
@@ -42,6 +44,7 @@ pub data Call : Type 0 where
   settles : (lent furnace : ℕ) (labels ranks supports : List ℕ) → Call
   grounds : (lent furnace : ℕ) (l : ℤ) (marks : List ℕ) → Call
   blames : (lent furnace : ℕ) (marks : List ℕ) → Call
+  lists : (lent : ℕ) (cands : List ℤ) (l : ℤ) (sets : List ℕ) → Call
   reads : (lent : ℕ) (text : List ℕ) → Call
   writes : (lent : ℕ) (out : List ℕ) → Call
   readsText : (lent : ℕ) (text out : List ℕ) → Call
@@ -69,6 +72,7 @@ faults w (settles lent furnace labels ranks supports) =
     settleFaults (front w lent) (w .board) furnace (length labels) (length ranks) (length supports)
 faults w (grounds lent furnace l marks) = groundFaults (front w lent) (w .board) furnace l (length marks)
 faults w (blames lent furnace marks) = blameFaults (front w lent) (w .board) furnace (length marks)
+faults w (lists lent cands l sets) = smallestFaults (front w lent) (w .board) cands l (length sets)
 faults w (reads lent text) = readFaults (front w lent) (w .board) text
 faults w (writes lent out) = writeFaults (front w lent) (w .board) (length out)
 faults w (readsText lent text out) = readTextFaults (front w lent) (w .board) text (length out)
@@ -95,6 +99,7 @@ pub data Answer : Type 0 where
   ofAsk : Standing → Answer
   ofExplain : Reason → Span → Answer
   ofMarks : Outcome → (marks : List ℕ) → Answer
+  ofListing : Listing → (sets : List ℕ) → Answer
 
 unfoldable pub answer : World → Call → Answer
 answer w (opens S) = ofChange (opened S .outcome)
@@ -112,6 +117,8 @@ answer w (grounds lent furnace l marks) =
     ofMarks (groundOutcome (front w lent) (w .board) furnace l marks) (groundMarks (front w lent) (w .board) furnace l marks)
 answer w (blames lent furnace marks) =
     ofMarks (blameOutcome (front w lent) (w .board) furnace marks) (blameMarks (front w lent) (w .board) furnace marks)
+answer w (lists lent cands l sets) =
+    ofListing (smallestAnswer (front w lent) (w .board) cands l sets) (smallestSets (front w lent) (w .board) cands l sets)
 answer w (reads lent text) = let a = readAnswer (front w lent) (w .board) text in ofReading (a .outcome) (a .clauses) (a .added)
 answer w (writes lent out) = ofWriting (writeAnswer (front w lent) (w .board) out) (writeBytes (front w lent) (w .board) out)
 answer w (readsText lent text out) =
@@ -131,6 +138,7 @@ outcomeOf (ofSettle o labels ranks supports) = o
 outcomeOf (ofAsk s) = askOutcome s
 outcomeOf (ofExplain r span) = r .outcome
 outcomeOf (ofMarks o marks) = o
+outcomeOf (ofListing a sets) = a .outcome
 
 unfoldable pub outcome : World → Call → Outcome
 outcome w c = outcomeOf (answer w c)
@@ -150,6 +158,7 @@ after w (explains lent furnace l) = w
 after w (settles lent furnace labels ranks supports) = w
 after w (grounds lent furnace l marks) = w
 after w (blames lent furnace marks) = w
+after w (lists lent cands l sets) = w
 after w (reads lent text) =
     record {
       board = readAnswer (front w lent) (w .board) text .board;
@@ -191,6 +200,7 @@ rulesAfter w fs (explains lent furnace l) = fs
 rulesAfter w fs (settles lent furnace labels ranks supports) = fs
 rulesAfter w fs (grounds lent furnace l marks) = fs
 rulesAfter w fs (blames lent furnace marks) = fs
+rulesAfter w fs (lists lent cands l sets) = fs
 rulesAfter w fs (reads lent text) = ifDone (outcome w (reads lent text)) (fs ++ formulaeIn (parseText text)) (λ _. fs)
 rulesAfter w fs (writes lent out) = fs
 rulesAfter w fs (readsText lent text out) = fs
@@ -213,6 +223,7 @@ notOpen (explains lent furnace l) = true
 notOpen (settles lent furnace labels ranks supports) = true
 notOpen (grounds lent furnace l marks) = true
 notOpen (blames lent furnace marks) = true
+notOpen (lists lent cands l sets) = true
 notOpen (reads lent text) = true
 notOpen (writes lent out) = true
 notOpen (readsText lent text out) = true
@@ -232,6 +243,7 @@ names f (explains lent furnace l) = eqb furnace f
 names f (settles lent furnace labels ranks supports) = eqb furnace f
 names f (grounds lent furnace l marks) = eqb furnace f
 names f (blames lent furnace marks) = eqb furnace f
+names f (lists lent cands l sets) = false
 names f (reads lent text) = false
 names f (writes lent out) = false
 names f (readsText lent text out) = false
@@ -249,6 +261,7 @@ changes (explains lent furnace l) = false
 changes (settles lent furnace labels ranks supports) = false
 changes (grounds lent furnace l marks) = false
 changes (blames lent furnace marks) = false
+changes (lists lent cands l sets) = false
 changes (reads lent text) = false
 changes (writes lent out) = false
 changes (readsText lent text out) = false
@@ -266,6 +279,7 @@ brings f (explains lent furnace l) = false
 brings f (settles lent furnace labels ranks supports) = false
 brings f (grounds lent furnace l marks) = false
 brings f (blames lent furnace marks) = false
+brings f (lists lent cands l sets) = false
 brings f (reads lent text) = true
 brings f (writes lent out) = false
 brings f (readsText lent text out) = false
@@ -283,6 +297,7 @@ takes f h (explains lent furnace l) = false
 takes f h (settles lent furnace labels ranks supports) = false
 takes f h (grounds lent furnace l marks) = false
 takes f h (blames lent furnace marks) = false
+takes f h (lists lent cands l sets) = false
 takes f h (reads lent text) = false
 takes f h (writes lent out) = false
 takes f h (readsText lent text out) = false

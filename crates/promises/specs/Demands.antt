@@ -3,18 +3,20 @@ use mathlib.Core.Path.{_≡_}
 use mathlib.Core.Logic.{_↔_, _≢_, _⊎_}
 use mathlib.Core.Bool.{Bool, true, false, cond, _&&_, _||_}
 use mathlib.Core.List.{List, [], _∷_, _++_, map, List·Memᴰ as In}
-use Prim.Native.Nat.{ℕ, suc, _+_, _-_, _*_, _≤_, _<_}
+use Prim.Native.Nat.{ℕ, suc, _+_, _-_, _*_, _^_, _≤_, _<_}
 use lib.Dec.{leb}
 use lib.IntN.{ℤ}
 use lib.ListN.{length, take, drop, getD}
 use Rattle.meaning.specs.Tests.{all}
+use Rattle.meaning.specs.BySize.{BySize, EachBefore}
 use Rattle.meaning.specs.Literals.{place, has, conflict}
 use Rattle.meaning.specs.Formulae.{Formula, symbol, ruleOf}
 use Rattle.meaning.specs.Clauses.{rowsOf, allRows}
 use Rattle.meaning.specs.Rounds.{label}
 use Rattle.meaning.specs.Ground.{reaches, ground, blame}
+use Rattle.meaning.specs.Sets.{chosen, size}
 use Rattle.meaning.specs.SecondWay.{secondWay, rulesOf}
-use Rattle.meaning.specs.Promises.{Earliest, Derived, Forced, TwoWays}
+use Rattle.meaning.specs.Promises.{Earliest, Derived, Forced, TwoWays, Inside, Carries}
 use Rattle.literals.specs.Literal.{placeOf}
 use Rattle.literals.specs.Row.{width, rowsLent, numbersAt, ruleAt, decode, Ruled, ruledIn, ofRule, ofRules, withNumber}
 use Rattle.literals.specs.Refusals.{numberOf}
@@ -32,6 +34,7 @@ use Rattle.board.specs.Asking.{asked, standing, reasoned, explained}
 use Rattle.board.specs.Grounds.{byteOf, groundMarks, blameMarks}
 use Rattle.board.specs.declared.Outcome.the-variants.{Done, Refused}
 use Rattle.board.specs.declared.asking.Standing.the-variants.{Stands}
+use Rattle.smallest.specs.Listing.{placesOf, smallestOn, smallestAnswer, smallestSets}
 use Rattle.dimacs.specs.Form.{isGood, clausesOf, parseText}
 use Rattle.dimacs.specs.Clauses.{oneOf, clauseFaults, clausesFaults}
 use Rattle.dimacs.specs.Reading.{formulaeIn, readAnswer}
@@ -41,7 +44,7 @@ use Rattle.chains.specs.Promises.{Says, Offends}
 use Rattle.text.specs.Reading.{bytesIn, readTextAnswer, readTextBytes}
 use Rattle.text.specs.Adding.{ruledText}
 use Rattle.text.specs.Writing.{textIn, writeTextAnswer, writeTextBytes}
-use Rattle.promises.specs.Calls.{Call, opens, adds, holds, withdraws, asks, explains, settles, grounds, blames, reads, writes, readsText, addsText, writesText}
+use Rattle.promises.specs.Calls.{Call, opens, adds, holds, withdraws, asks, explains, settles, grounds, blames, lists, reads, writes, readsText, addsText, writesText}
 use Rattle.promises.specs.Calls.{World, front, faults, outcome, after, run, Each, formulaIn, rulesAfterAll, notOpen, names, brings, takes, without, ofAsk, answer}
 
 -- ---- demand 1: "Each refusal is given exactly in the case document 01 names, and leaves each table untouched."
@@ -67,7 +70,8 @@ asBefore w c = cond (notOpen c) w (record { board = emptyBoard 0; table = w .tab
 abbrev pub RefusedUntouched : Type 0
 RefusedUntouched = (w : World) (c : Call) (why : Refusal) → outcome w c ≡ Refused why → after w c ≡ asBefore w c
 
--- "it writes nothing in a lent table": settle's three, the marks of ground and blame, the bytes of a text, and those of a formula
+-- "it writes nothing in a lent table": settle's three, the marks of ground and blame, the smallest sets, the bytes of a text, and those of a
+-- formula
 pub record Unwritten (w : World) (lent : ℕ) (why : Refusal) : Type 0 where
   pub settle : (furnace : ℕ) (labels ranks supports : List ℕ) → outcome w (settles lent furnace labels ranks supports) ≡ Refused why
       → (settledLabels (front w lent) (w .board) furnace labels ranks supports ≡ labels)
@@ -77,6 +81,8 @@ pub record Unwritten (w : World) (lent : ℕ) (why : Refusal) : Type 0 where
       → groundMarks (front w lent) (w .board) furnace l marks ≡ marks
   pub blame : (furnace : ℕ) (marks : List ℕ) → outcome w (blames lent furnace marks) ≡ Refused why
       → blameMarks (front w lent) (w .board) furnace marks ≡ marks
+  pub smallest : (cands : List ℤ) (l : ℤ) (sets : List ℕ) → outcome w (lists lent cands l sets) ≡ Refused why
+      → smallestSets (front w lent) (w .board) cands l sets ≡ sets
   pub write : (out : List ℕ) → outcome w (writes lent out) ≡ Refused why → writeBytes (front w lent) (w .board) out ≡ out
   pub read-text : (text out : List ℕ) → outcome w (readsText lent text out) ≡ Refused why → readTextBytes (front w lent) (w .board) text out ≡ out
   pub write-text : (bytes out : List ℕ) → outcome w (writesText lent bytes out) ≡ Refused why
@@ -86,13 +92,16 @@ abbrev pub RefusedUnwritten : Type 0
 RefusedUnwritten = (w : World) (lent : ℕ) (why : Refusal) → Unwritten w lent why
 
 -- what it hands back besides: a rule, in bytes or in text, and a DIMACS text read no rows; a DIMACS text written, and formula text read or written, no
--- bytes; "A refused explain hands back the empty part at the table's front, and 65535 for rank and row number", and 0 for the rule's (02, Ticket 8)
+-- bytes; the smallest sets none; "A refused explain hands back the empty part at the table's front, and 65535 for rank and row number", and 0 for the
+-- rule's (02, Ticket 8)
 pub record HandedBack (w : World) (lent : ℕ) (why : Refusal) : Type 0 where
   pub rule : (bytes : List ℕ) → outcome w (adds lent bytes) ≡ Refused why → ruled (front w lent) (w .board) bytes .added ≡ 0
   pub explain : (furnace : ℕ) (l : ℤ) → outcome w (explains lent furnace l) ≡ Refused why
       → (reasoned (front w lent) (w .board) furnace l .rank ≡ 65535) × (reasoned (front w lent) (w .board) furnace l .row ≡ 65535)
       × (reasoned (front w lent) (w .board) furnace l .rule ≡ 0)
       × (explained (front w lent) (w .board) furnace l .start ≡ 0) × (explained (front w lent) (w .board) furnace l .stop ≡ 0)
+  pub smallest : (cands : List ℤ) (l : ℤ) (sets : List ℕ) → outcome w (lists lent cands l sets) ≡ Refused why
+      → smallestAnswer (front w lent) (w .board) cands l sets .count ≡ 0
   pub read : (text : List ℕ) → outcome w (reads lent text) ≡ Refused why → readAnswer (front w lent) (w .board) text .added ≡ 0
   pub write : (out : List ℕ) → outcome w (writes lent out) ≡ Refused why → writeAnswer (front w lent) (w .board) out .bytes ≡ 0
   pub read-text : (text out : List ℕ) → outcome w (readsText lent text out) ≡ Refused why
@@ -511,13 +520,14 @@ pub record SameLiterals (v w : World) : Type 0 where
   pub premises : (furnace : ℕ) → premisesOf v furnace ≡ premisesOf w furnace
   pub literals : (r : ℕ) → r < v .board .rows → numbersAt (v .table) r ≡ numbersAt (w .table) r
 
--- are told the same: every label, rank, support, ground and blame, how each literal stands, and the DIMACS text; of what explain tells all but the
--- rule's number
+-- are told the same: every label, rank, support, ground and blame, how each literal stands, the smallest sets, and the DIMACS text; of what explain
+-- tells all but the rule's number
 pub record SameTold (v w : World) (lent furnace : ℕ) : Type 0 where
   pub settle : (labels ranks supports : List ℕ) → let c = settles lent furnace labels ranks supports in answer v c ≡ answer w c
   pub ask : (l : ℤ) → answer v (asks lent furnace l) ≡ answer w (asks lent furnace l)
   pub ground : (l : ℤ) (marks : List ℕ) → answer v (grounds lent furnace l marks) ≡ answer w (grounds lent furnace l marks)
   pub blame : (marks : List ℕ) → answer v (blames lent furnace marks) ≡ answer w (blames lent furnace marks)
+  pub smallest : (cands : List ℤ) (l : ℤ) (sets : List ℕ) → answer v (lists lent cands l sets) ≡ answer w (lists lent cands l sets)
   pub explain : (l : ℤ) → let a = reasoned (front v lent) (v .board) furnace l in let b = reasoned (front w lent) (w .board) furnace l in
       (a .outcome ≡ b .outcome) × (a .rank ≡ b .rank) × (a .row ≡ b .row)
       × (explained (front v lent) (v .board) furnace l ≡ explained (front w lent) (w .board) furnace l)
@@ -584,6 +594,66 @@ StrikesOff =
     (w : World) (lent furnace : ℕ) (l : ℤ) (marks : List ℕ) (h : ℤ) (some : ℕ) → outcome w (grounds lent furnace l marks) ≡ Done
     → getD (groundMarks (front w lent) (w .board) furnace l marks) (placeOf h) 0 ≡ 0
     → CannotMove w (after w (withdraws some furnace h)) furnace l
+
+-- ---- 02, Ticket 10: "The shift desk's smallest sets."
+
+-- "The call returns the count; places beyond the list stay as they were."
+abbrev pub SmallestTells : Type 0
+SmallestTells =
+    (w : World) (lent : ℕ) (cands : List ℤ) (l : ℤ) (sets : List ℕ) → outcome w (lists lent cands l sets) ≡ Done
+    → let list = smallestOn (w .table) (w .board) cands l in
+    (smallestAnswer (front w lent) (w .board) cands l sets .count ≡ length list)
+    × (smallestSets (front w lent) (w .board) cands l sets ≡ list ++ drop (length list) sets)
+
+-- the sets that a good call wrote
+abbrev pub listWritten : World → (lent : ℕ) → (cands : List ℤ) → ℤ → (sets : List ℕ) → List ℕ
+listWritten w lent cands l sets =
+    take (smallestAnswer (front w lent) (w .board) cands l sets .count) (smallestSets (front w lent) (w .board) cands l sets)
+
+-- They are all that, "held alone under the table's rules, derives the literal without conflict, while no smaller set inside it derives the literal",
+-- and no others; "order by size, then by number, each once".
+pub record Lists (w : World) (cands : List ℤ) (l : ℤ) (list : List ℕ) : Type 0 where
+  pub all : (m : ℕ) → In m list
+      ↔ ((m < 2 ^ length cands) × Carries (2 * w .board .symbols) (rowsOfWorld w) (placesOf cands) (placeOf l) m)
+  pub order : EachBefore (BySize (size (length cands)) (λ a b. a < b)) list
+
+abbrev pub SmallestLists : Type 0
+SmallestLists =
+    (w : World) (lent : ℕ) (cands : List ℤ) (l : ℤ) (sets : List ℕ) → outcome w (lists lent cands l sets) ≡ Done
+    → Lists w cands l (listWritten w lent cands l sets)
+
+-- On a board of one S that has the same rows, and where the set's candidates are all that a furnace holds,
+pub record HeldAlone (w v : World) (furnace : ℕ) (cands : List ℤ) (m : ℕ) : Type 0 where
+  pub symbols : v .board .symbols ≡ w .board .symbols
+  pub rows : rowsOfWorld v ≡ rowsOfWorld w
+  pub premises : (h : ℕ) → h < 2 * w .board .symbols → (has (premisesOf v furnace) h ≡ true) ↔ In h (chosen (placesOf cands) m)
+
+-- a set listed derives the literal, and there is no conflict,
+abbrev pub ListedDerives : Type 0
+ListedDerives =
+    (w v : World) (lent furnace : ℕ) (cands : List ℤ) (l : ℤ) (sets : List ℕ) (m : ℕ) → outcome w (lists lent cands l sets) ≡ Done
+    → In m (listWritten w lent cands l sets) → HeldAlone w v furnace cands m
+    → DerivedOn v furnace (placeOf l) × (conflict (derivedSet v furnace) ≡ false)
+
+-- and no other set inside it derives it
+abbrev pub SmallerDoesNot : Type 0
+SmallerDoesNot =
+    (w v : World) (lent furnace : ℕ) (cands : List ℤ) (l : ℤ) (sets : List ℕ) (m a : ℕ) → outcome w (lists lent cands l sets) ≡ Done
+    → In m (listWritten w lent cands l sets) → Inside a m → a ≢ m → HeldAlone w v furnace cands a → ¬ DerivedOn v furnace (placeOf l)
+
+-- With the ground: for a literal that a furnace derives without conflict, whose ground is of candidates alone, some listed set lies inside its
+-- ground.
+abbrev pub ListedInGround : Type 0
+ListedInGround =
+    (w : World) (lent some furnace : ℕ) (cands : List ℤ) (l : ℤ) (sets marks : List ℕ) → outcome w (lists lent cands l sets) ≡ Done
+    → outcome w (grounds some furnace l marks) ≡ Done → conflict (derivedSet w furnace) ≡ false
+    → ((h : ℕ) → InGround w some furnace l marks h → In h (placesOf cands))
+    → (m : ℕ) × In m (listWritten w lent cands l sets) × ((h : ℕ) → In h (chosen (placesOf cands) m) → InGround w some furnace l marks h)
+
+-- a table of 4,096 places is never too short
+abbrev pub ListRoom : Type 0
+ListRoom =
+    (w : World) (lent : ℕ) (cands : List ℤ) (l : ℤ) (sets : List ℕ) → 4096 ≤ length sets → numberIn (outcome w (lists lent cands l sets)) ≢ 13
 
 -- ---- demand 1: a board that the calls made is a good one
 

@@ -3,7 +3,6 @@ use mathlib.Core.Path.{_≡_, refl, sym, ap, subst, _∙_}
 use mathlib.Core.Bool.{Bool, true, false}
 use mathlib.Core.List.{List, [], _∷_, _++_, append-assoc, append-nil}
 use Prim.Native.Nat.{ℕ, zero, suc, _+_, _*_, _/_, _%_, _≤_, _<_}
-use native.Mathlib.Nat.{add-zero}
 use native.Mathlib.Numerals.{add-one}
 use native.Mathlib.Omega.{arith}
 use borrow.Author.Tests.{le-ltb, lt-ltb, ltb-true, ltb-false}
@@ -14,7 +13,8 @@ use lib.ListN.{length, take, getD, set, length-append}
 use mir.Syntax.{w16}
 use mir.Val.{SFits}
 use mir.Facts.{toZ-ofZ}
-use lib.Seq.{sets, length-sets, take-suc}
+use lib.Seq.{length-sets, take-suc}
+use Rattle.meaning.proofs.Tables.{sets-append}
 use Rattle.spelling.specs.Text.{Put, digitsOf, literal, literalList, natural}
 use Rattle.literals.proofs.Signed.{back}
 
@@ -58,12 +58,6 @@ natural-three n h short =
     natural-long n (omega arith) ∙ rw (natural-two (n / 10) (omega arith) (omega arith), tens)
 
 -- ---- pieces
-
-pub sets-append : (l : List ℕ) (i : ℕ) (a b : List ℕ) → sets l i (a ++ b) ≡ sets (sets l i a) (i + length a) b
-sets-append l i [] b = rw add-zero
-sets-append l i (x ∷ a) b =
-    let e : suc i + length a ≡ i + suc (length a) = omega arith in
-    sets-append (set l i x) (suc i) a b ∙ rw e
 
 -- nothing
 pub put-none : (l : List ℕ) (at : ℕ) → Put l l at [] at

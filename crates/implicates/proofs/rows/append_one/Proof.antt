@@ -10,12 +10,14 @@ use mir.Syntax.{w16}
 use mir.Facts.{toZ-pos}
 use lib.IntN.{ℤ}
 use lib.ListN.{length, getD}
-use Rattle.meaning.specs.Clauses.{Digit, chosen}
+use Rattle.meaning.specs.BySize.{ofSize}
+use Rattle.meaning.specs.Clauses.{Digit, size}
+use Rattle.meaning.proofs.BySize.{one-other, one-failed, one-kept}
 use Rattle.literals.specs.Row.{width}
 use Rattle.implicates.specs.Numbers.{clauseAt}
 use Rattle.implicates.specs.Hits.{marked}
 use Rattle.implicates.proofs.Numbers.{marked-at}
-use Rattle.implicates.proofs.Turns.{Stands, chosen-other, chosen-failed, chosen-one, skipped, one-row}
+use Rattle.implicates.proofs.Turns.{Stands, skipped, one-row}
 use Rattle.implicates.proofs.rows.append_one.Statement.{statement}
 use Rattle.implicates.proofs.rows.append_one.Tie as tie
 
@@ -33,7 +35,7 @@ tested s = marked-at (s .args .primes .now) (s .args .n) (s .args .c) (s .pre .0
 
 -- what is chosen of the clause, and the table and the next row after it
 abbrev picked : tie.Start → List (List Digit)
-picked s = chosen (test s) (s .args .k) (clause s ∷ [])
+picked s = ofSize size (test s) (clause s ∷ []) (s .args .k)
 
 abbrev After : tie.Start → List ℤ → ℕ → Type 0
 After s table next = Stands (s .args .table .now) (s .args .row) (s .args .rule) (s .args .symbols .now) (picked s) table next
@@ -42,18 +44,18 @@ picked-it : (c : tie.Else2) → let s = start (c .before .before .before) in pic
 picked-it c =
     let e = c .before .before in
     let s = start (e .before) in
-    chosen-one (test s) (s .args .k) (clause s) (sym (c .before .literal-count .ensures) ∙ c .if2 .left) (tested s ∙ not-false _ (e .if1 .left))
+    one-kept size (test s) (s .args .k) (clause s) (sym (c .before .literal-count .ensures) ∙ c .if2 .left) (tested s ∙ not-false _ (e .if1 .left))
 
 returns : tie.Need-returns
 returns c =
     let s = start (c .before) in
-    let w : After s _ _ = skipped (chosen-failed (test s) (s .args .k) (clause s) (tested s ∙ not-true _ (c .if1 .taken))) in
+    let w : After s _ _ = skipped (one-failed size (test s) (s .args .k) (clause s) (tested s ∙ not-true _ (c .if1 .taken))) in
     (w .rows, w .count)
 
 returns-2 : tie.Need-returns-2
 returns-2 c =
     let s = start (c .before .before .before) in
-    let w : After s _ _ = skipped (chosen-other (test s) (s .args .k) (clause s) (λ e. c .if2 .taken (c .before .literal-count .ensures ∙ e))) in
+    let w : After s _ _ = skipped (one-other size (test s) (s .args .k) (clause s) (λ e. c .if2 .taken (c .before .literal-count .ensures ∙ e))) in
     (w .rows, w .count)
 
 -- there is room for its row

@@ -5,15 +5,18 @@ use Prim.Native.Nat.{ℕ, suc, _+_, _-_, _*_, _≤_}
 use native.Mathlib.Omega.{arith}
 use native.Mathlib.Numerals.{add-one}
 use lib.ListN.{length}
-use Rattle.meaning.specs.Clauses.{Digit, belowSize}
+use Rattle.meaning.specs.BySize.{belowSize}
+use Rattle.meaning.specs.Clauses.{Digit, clauses, size}
+use Rattle.meaning.proofs.BySize.{belowSize-le}
 use Rattle.literals.specs.Row.{width}
 use Rattle.implicates.specs.Hits.{marked}
-use Rattle.implicates.proofs.Turns.{Stands, belowSize-le, next-room, next-stands, stands-long, stands-same, skipped}
+use Rattle.implicates.proofs.Turns.{Stands, next-room, next-stands, stands-long, stands-same, skipped}
 use Rattle.implicates.proofs.rows.append_primes.Statement.{statement}
 use Rattle.implicates.proofs.rows.append_primes.Tie as tie
 
 abbrev Inv-loop : tie.InvT-loop
-Inv-loop table₀ row rule symbols primes n next₀ k₀ table next k = (k ≤ n + 1) × Stands table₀ row rule symbols (belowSize (marked primes) n k) table next
+Inv-loop table₀ row rule symbols primes n next₀ k₀ table next k =
+    (k ≤ n + 1) × Stands table₀ row rule symbols (belowSize size (marked primes) (clauses n) k) table next
 
 abbrev μ-loop : tie.MeasureT-loop
 μ-loop table₀ row rule symbols primes n next₀ k₀ table next k = n + 1 - k
@@ -23,11 +26,13 @@ start c = c .before .before .before
 
 -- those of fewer than k literals, for which there is room
 abbrev fewer : tie.At-loop Inv-loop μ-loop → ℕ → List (List Digit)
-fewer l k = let a = start l .args in belowSize (marked (a .primes .now)) (a .n) k
+fewer l k = let a = start l .args in belowSize size (marked (a .primes .now)) (clauses (a .n)) k
 
 room : (l : tie.At-loop Inv-loop μ-loop) (k : ℕ) → k ≤ start l .args .n + 1
     → width * (start l .args .row + length (fewer l k)) ≤ length (start l .args .table .now)
-room l k h = let a = start l .args in omega (arith, start l .pre .1, belowSize-le (marked (a .primes .now)) (a .n) k (suc (a .n)) (omega arith))
+room l k h =
+    let a = start l .args in
+    omega (arith, start l .pre .1, belowSize-le size (marked (a .primes .now)) (clauses (a .n)) k (suc (a .n)) (omega arith))
 
 loop-holds : tie.Need-loop-holds Inv-loop μ-loop
 loop-holds c = (omega arith, skipped refl)

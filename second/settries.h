@@ -1,0 +1,13 @@
+/* Lists of smallest sets worked out by hand from document 02's Ticket 10, on both sides. */
+#ifndef SETTRIES_H
+#define SETTRIES_H
+
+#include "steps.h"
+
+/* settries.c: the lists of boards made by hand, and the longest list. */
+bool set_tries_agree(Play *play);
+
+/* candidatetries.c: what is refused, and in which order. */
+bool candidate_tries_agree(Play *play);
+
+#endif
