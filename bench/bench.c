@@ -1,7 +1,7 @@
 /* The measure: open, rule, every call that names a furnace, and DIMACS text in and out through the library, against the same by hand in plain C
- * (bench/plain.c and bench/dimacs.c), and settle, ask and ground against plain C with an index of the rows by literal (bench/indexed.c). Then the
- * smallest sets against the same search over that ask (bench/sets.c), and rules from formula text against the same rules from their bytes
- * (bench/spelt.c).
+ * (bench/plain.c and bench/dimacs.c), and settle, both asks and ground against plain C with an index of the rows by literal (bench/indexed.c);
+ * "whole" is ask_whole. Then the smallest sets against the same search over the indexed ask_whole (bench/sets.c), and rules from formula text against
+ * the same rules from their bytes (bench/spelt.c).
  *
  * All sides in one program, one process, same inputs, same outputs (compared first), calls by the same kind of pointer.
  * A figure is the best of several runs, the sides taking turns within each run; times are the processor's, not the wall's.
@@ -20,13 +20,14 @@
 #include "spelt.h"
 #include "timing.h"
 
-enum { OPEN, SETTLE, ASK, EXPLAIN, GROUND, BLAME, HOLD, WITHDRAW, RULE, READ, WRITE, SMALLEST, CALLS };
+enum { OPEN, SETTLE, ASK, ASK_WHOLE, EXPLAIN, GROUND, BLAME, HOLD, WITHDRAW, RULE, READ, WRITE, SMALLEST, CALLS };
 enum { LIBRARY, PLAIN, INDEXED, OTHER, SIDES };
 
 typedef struct side {
     tup_change (*open)(uint16_t);
     uint8_t (*settle)(tup_board, const int16_t *, size_t numbers, uint8_t furnace, uint8_t *, size_t, uint16_t *, size_t, uint16_t *, size_t);
     tup_answer (*ask)(tup_board, const int16_t *, size_t numbers, uint8_t furnace, int16_t);
+    tup_answer (*ask_whole)(tup_board, const int16_t *, size_t numbers, uint8_t furnace, int16_t);
     tup_reason (*explain)(tup_board, const int16_t *, size_t numbers, uint8_t furnace, int16_t);
     uint8_t (*ground)(tup_board, const int16_t *, size_t numbers, uint8_t furnace, int16_t, uint8_t *, size_t);
     uint8_t (*blame)(tup_board, const int16_t *, size_t numbers, uint8_t furnace, uint8_t *, size_t);
@@ -39,16 +40,16 @@ typedef struct side {
 } side;
 
 static const side sides[SIDES] = {
-    {tup_open, tup_settle, tup_ask, tup_explain, tup_ground, tup_blame, tup_hold, tup_withdraw, tup_rule, tup_read_dimacs, tup_write_dimacs,
-     tup_smallest},
-    {plain_open, plain_settle, plain_ask, plain_explain, plain_ground, plain_blame, plain_hold, plain_withdraw, plain_rule, plain_read_dimacs,
-     plain_write_dimacs, NULL},
-    {.settle = indexed_settle, .ask = indexed_ask, .ground = indexed_ground, .smallest = indexed_smallest},
+    {tup_open, tup_settle, tup_ask, tup_ask_whole, tup_explain, tup_ground, tup_blame, tup_hold, tup_withdraw, tup_rule, tup_read_dimacs,
+     tup_write_dimacs, tup_smallest},
+    {plain_open, plain_settle, plain_ask, plain_ask_whole, plain_explain, plain_ground, plain_blame, plain_hold, plain_withdraw, plain_rule,
+     plain_read_dimacs, plain_write_dimacs, NULL},
+    {.settle = indexed_settle, .ask = indexed_ask, .ask_whole = indexed_ask_whole, .ground = indexed_ground, .smallest = indexed_smallest},
     {.settle = indexed_settle_summing, .read = plain_read_dimacs_once},
 };
 static const char *const side_words[SIDES] = {"library", "plain", "indexed", "other"};
-static const char *const call_words[CALLS] = {"open", "settle", "ask", "explain", "ground", "blame", "hold", "withdraw", "rule", "read", "write",
-                                              "smallest"};
+static const char *const call_words[CALLS] = {"open", "settle", "ask", "whole", "explain", "ground", "blame", "hold", "withdraw", "rule", "read",
+                                              "write", "smallest"};
 
 /* All that calls write, and what is compared of what they return. */
 typedef struct outputs {
@@ -132,6 +133,7 @@ static unsigned make(const side *with, unsigned call, outputs *out, int16_t *tab
     case SETTLE:
         return with->settle(now.board, table, NUMBERS, FURNACE, out->labels, sizeof out->labels, out->ranks, TUP_PLACES, out->supports, TUP_PLACES);
     case ASK: return made_answer(with->ask(now.board, table, NUMBERS, FURNACE, now.literal), out);
+    case ASK_WHOLE: return made_answer(with->ask_whole(now.board, table, NUMBERS, FURNACE, now.literal), out);
     case EXPLAIN: return made_reason(with->explain(now.board, table, NUMBERS, FURNACE, now.literal), out);
     case GROUND: return with->ground(now.board, table, NUMBERS, FURNACE, now.literal, out->marks, sizeof out->marks);
     case BLAME: return with->blame(now.board, table, NUMBERS, FURNACE, out->marks, sizeof out->marks);
@@ -152,6 +154,7 @@ static bool has(const side *with, unsigned call) {
     case OPEN: return with->open != NULL;
     case SETTLE: return with->settle != NULL;
     case ASK: return with->ask != NULL;
+    case ASK_WHOLE: return with->ask_whole != NULL;
     case EXPLAIN: return with->explain != NULL;
     case GROUND: return with->ground != NULL;
     case BLAME: return with->blame != NULL;
@@ -231,19 +234,20 @@ static void print_call(const char *board, unsigned call) {
     if (has(&sides[INDEXED], call)) note_ratio(board, call, best[LIBRARY] / best[INDEXED]);
 }
 
-/* Measures the calls that name a furnace on the setting, which stays as it is; blame with a conflict. */
+/* Measures the calls that name a furnace on the setting, which stays as it is; blame with a conflict, in which both asks are compared too. */
 static void print_named(const char *board) {
     tup_board before = now.board;
     for (unsigned call = SETTLE; call <= WITHDRAW; call++)
         if (call != BLAME) print_call(board, call);
     in_conflict();
+    compare_sides(ASK), compare_sides(ASK_WHOLE);
     print_call(board, BLAME);
     now.board = before;
 }
 
 /* Measures what can be done on a board without rows and premises. */
 static void print_empty(void) {
-    static const unsigned calls[] = {OPEN, SETTLE, ASK, HOLD, RULE};
+    static const unsigned calls[] = {OPEN, SETTLE, ASK, ASK_WHOLE, HOLD, RULE};
     empty_board();
     for (unsigned i = 0; i < sizeof calls / sizeof calls[0]; i++) print_call("empty, 200 symbols", calls[i]);
 }
@@ -349,7 +353,7 @@ static void print_growths(void) {
 
 /* Says which goals are met. */
 static void print_goals(void) {
-    printf("\ngoals: settle, ask and ground at most %.1f times indexed on every board: %s (at most %.2f, %s on %s);\n", ratio_goal,
+    printf("\ngoals: settle, both asks and ground at most %.1f times indexed on every board: %s (at most %.2f, %s on %s);\n", ratio_goal,
            worst_ratio <= ratio_goal ? "met" : "not met", worst_ratio, worst_call, worst_board);
     printf("the chain's exponent at most %.1f over the last doubling: %s (%.2f);\n", growth_goal, chain_growth <= growth_goal ? "met" : "not met",
            chain_growth);

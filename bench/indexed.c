@@ -1,5 +1,5 @@
-/* Settle, ask and ground as a C programmer would write them with the rows found by literal: in the call, one list for each place of the cells of
- * the table that have its literal, made from the last row on so that each list rises; a queue of the places that got a rank; and a count for each
+/* Settle, both asks and ground as a C programmer would write them with the rows found by literal: in the call, one list for each place of the cells
+ * of the table that have its literal, made from the last row on so that each list rises; a queue of the places that got a rank; and a count for each
  * row of its literals that are not ruled out yet. A row is looked at when its count falls to 1 or 0. Each support is searched for, as its definition
  * says, over the rows that have the literal. The same tests, the same outputs, no proof. */
 #include "indexed.h"
@@ -139,18 +139,29 @@ uint8_t indexed_settle_summing(tup_board board, const int16_t *table, size_t num
     return refusal;
 }
 
-tup_answer indexed_ask(tup_board board, const int16_t *table, size_t numbers, uint8_t furnace, int16_t literal) {
+/* True if a literal of the queue, which has all that are derived, has its opposite derived too. */
+static bool conflict(const work *w, const uint16_t *ranks) {
+    for (unsigned i = 0; i < w->count; i++)
+        if (ranks[w->queue[i] ^ 1u] != NONE) return true;
+    return false;
+}
+
+/* Both asks. */
+static tup_answer answer(const tup_board *board, const int16_t *table, size_t numbers, uint8_t furnace, int16_t literal, bool whole) {
     work w;
     uint16_t ranks[TUP_PLACES];
-    uint8_t refusal = plain_tests(&board, table, numbers, furnace);
+    uint8_t refusal = plain_ask_tests(board, table, numbers, furnace, literal);
     if (refusal != 0) return (tup_answer){refusal, TUP_OPEN};
-    if (!plain_fits(literal, &board)) return (tup_answer){2, TUP_OPEN};
-    rank_all(&w, &board, board.held[furnace - 1], table, ranks, false);
-    for (unsigned i = 0; i < w.count; i++)
-        if (ranks[w.queue[i] ^ 1u] != NONE) return (tup_answer){0, TUP_CONFLICT};
-    if (ranks[place(literal)] != NONE) return (tup_answer){0, TUP_STANDS};
-    if (ranks[place(opposite(literal))] != NONE) return (tup_answer){0, TUP_RULED_OUT};
-    return (tup_answer){0, TUP_OPEN};
+    rank_all(&w, board, board->held[furnace - 1], table, ranks, false);
+    return plain_standing(ranks, literal, whole ? conflict(&w, ranks) : plain_clash(ranks, literal));
+}
+
+tup_answer indexed_ask(tup_board board, const int16_t *table, size_t numbers, uint8_t furnace, int16_t literal) {
+    return answer(&board, table, numbers, furnace, literal, false);
+}
+
+tup_answer indexed_ask_whole(tup_board board, const int16_t *table, size_t numbers, uint8_t furnace, int16_t literal) {
+    return answer(&board, table, numbers, furnace, literal, true);
 }
 
 uint8_t indexed_ground(tup_board board, const int16_t *table, size_t numbers, uint8_t furnace, int16_t literal, uint8_t *marks,

@@ -1,4 +1,5 @@
-/* The measure's third side: settle, ask and ground by hand in plain C with an index of the rows by literal, with the contract of tupahineka.h. */
+/* The measure's third side: settle, both asks and ground by hand in plain C with an index of the rows by literal, with the contracts of
+ * tupahineka.h. */
 #ifndef INDEXED_H
 #define INDEXED_H
 
@@ -7,6 +8,7 @@
 uint8_t indexed_settle(tup_board board, const int16_t *table, size_t numbers, uint8_t furnace, uint8_t *labels, size_t label_count,
                        uint16_t *ranks, size_t rank_count, uint16_t *supports, size_t support_count);
 tup_answer indexed_ask(tup_board board, const int16_t *table, size_t numbers, uint8_t furnace, int16_t literal);
+tup_answer indexed_ask_whole(tup_board board, const int16_t *table, size_t numbers, uint8_t furnace, int16_t literal);
 uint8_t indexed_ground(tup_board board, const int16_t *table, size_t numbers, uint8_t furnace, int16_t literal, uint8_t *marks,
                        size_t mark_count);
 

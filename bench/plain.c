@@ -169,16 +169,37 @@ uint8_t plain_settle(tup_board board, const int16_t *table, size_t numbers, uint
     return 0;
 }
 
-tup_answer plain_ask(tup_board board, const int16_t *table, size_t numbers, uint8_t furnace, int16_t literal) {
-    uint16_t ranks[TUP_PLACES];
-    uint8_t refusal = plain_tests(&board, table, numbers, furnace);
-    if (refusal != 0) return (tup_answer){refusal, TUP_OPEN};
-    if (!plain_fits(literal, &board)) return (tup_answer){2, TUP_OPEN};
-    rank_all(&board, board.held[furnace - 1], table, ranks);
-    if (conflict(&board, ranks)) return (tup_answer){0, TUP_CONFLICT};
+bool plain_clash(const uint16_t *ranks, int16_t literal) {
+    return ranks[place(literal)] != NONE && ranks[place(opposite(literal))] != NONE;
+}
+
+tup_answer plain_standing(const uint16_t *ranks, int16_t literal, bool clash) {
+    if (clash) return (tup_answer){0, TUP_CONFLICT};
     if (ranks[place(literal)] != NONE) return (tup_answer){0, TUP_STANDS};
     if (ranks[place(opposite(literal))] != NONE) return (tup_answer){0, TUP_RULED_OUT};
     return (tup_answer){0, TUP_OPEN};
+}
+
+uint8_t plain_ask_tests(const tup_board *board, const int16_t *table, size_t numbers, uint8_t furnace, int16_t literal) {
+    uint8_t refusal = plain_tests(board, table, numbers, furnace);
+    return refusal == 0 && !plain_fits(literal, board) ? 2 : refusal;
+}
+
+/* Both asks. */
+static tup_answer answer(const tup_board *board, const int16_t *table, size_t numbers, uint8_t furnace, int16_t literal, bool whole) {
+    uint16_t ranks[TUP_PLACES];
+    uint8_t refusal = plain_ask_tests(board, table, numbers, furnace, literal);
+    if (refusal != 0) return (tup_answer){refusal, TUP_OPEN};
+    rank_all(board, board->held[furnace - 1], table, ranks);
+    return plain_standing(ranks, literal, whole ? conflict(board, ranks) : plain_clash(ranks, literal));
+}
+
+tup_answer plain_ask(tup_board board, const int16_t *table, size_t numbers, uint8_t furnace, int16_t literal) {
+    return answer(&board, table, numbers, furnace, literal, false);
+}
+
+tup_answer plain_ask_whole(tup_board board, const int16_t *table, size_t numbers, uint8_t furnace, int16_t literal) {
+    return answer(&board, table, numbers, furnace, literal, true);
 }
 
 /* An explain that is refused. */

@@ -30,6 +30,15 @@ void plain_tidy(tup_board *board);
 /* Writes the labels from the ranks. */
 void plain_label_all(const tup_board *board, const uint16_t *ranks, uint8_t *labels);
 
+/* Tests of both asks. */
+uint8_t plain_ask_tests(const tup_board *board, const int16_t *table, size_t numbers, uint8_t furnace, int16_t literal);
+
+/* True if the literal and its opposite are both derived. */
+bool plain_clash(const uint16_t *ranks, int16_t literal);
+
+/* How a literal stands by the ranks; clash says whether there is a conflict for it. */
+tup_answer plain_standing(const uint16_t *ranks, int16_t literal, bool clash);
+
 tup_change plain_open(uint16_t symbols);
 tup_addition plain_rule(tup_board board, int16_t *table, size_t numbers, const uint8_t *formula, size_t bytes);
 tup_change plain_hold(tup_board board, const int16_t *table, size_t numbers, uint8_t furnace, int16_t literal);
@@ -37,6 +46,7 @@ tup_change plain_withdraw(tup_board board, const int16_t *table, size_t numbers,
 uint8_t plain_settle(tup_board board, const int16_t *table, size_t numbers, uint8_t furnace, uint8_t *labels, size_t label_count,
                      uint16_t *ranks, size_t rank_count, uint16_t *supports, size_t support_count);
 tup_answer plain_ask(tup_board board, const int16_t *table, size_t numbers, uint8_t furnace, int16_t literal);
+tup_answer plain_ask_whole(tup_board board, const int16_t *table, size_t numbers, uint8_t furnace, int16_t literal);
 tup_reason plain_explain(tup_board board, const int16_t *table, size_t numbers, uint8_t furnace, int16_t literal);
 uint8_t plain_ground(tup_board board, const int16_t *table, size_t numbers, uint8_t furnace, int16_t literal, uint8_t *marks,
                      size_t mark_count);

@@ -1,6 +1,6 @@
-/* The smallest sets as a C programmer would write them over ask: the sets by number, so that each set comes after those inside it; what was found of
- * each noted in a byte; and nothing asked about a set where a set of one candidate fewer ended the search. Each ask tests the board and its table
- * anew, as the library's does, so that both sides do the same work. The same tests, the same outputs, no proof. */
+/* The smallest sets as a C programmer would write them over ask_whole: the sets by number, so that each set comes after those inside it; what was
+ * found of each noted in a byte; and nothing asked about a set where a set of one candidate fewer ended the search. Each call tests the board and its
+ * table anew, as the library's does, so that both sides do the same work. The same tests, the same outputs, no proof. */
 #include "sets.h"
 
 #include <stdbool.h>
@@ -45,7 +45,7 @@ static uint8_t ask_alone(tup_board board, const int16_t *table, size_t numbers, 
     for (unsigned i = 0; set >> i != 0; i++)
         if (set >> i & 1) board.held[0][place(candidates[i])] = 1;
     propagated++;
-    switch (indexed_ask(board, table, numbers, 1, literal).standing) {
+    switch (indexed_ask_whole(board, table, numbers, 1, literal).standing) {
     case TUP_CONFLICT: return STOPS;
     case TUP_STANDS: return LISTED;
     default: return GOES_ON;

@@ -1,4 +1,5 @@
-/* The smallest sets on the measure's third side: the library's search by hand in plain C over the indexed ask, with the contract of tupahineka.h. */
+/* The smallest sets on the measure's third side: the library's search by hand in plain C over the indexed ask_whole, with the contract of
+ * tupahineka.h. */
 #ifndef SETS_H
 #define SETS_H
 

@@ -100,7 +100,7 @@ static const char styles[] =
     ".reading-not { fill: url(#dark-hatch); stroke: #1d3f66; stroke-width: 0.5 }\n"
     ".conclusion { fill: #5b9bd5 }\n"
     ".conclusion-not { fill: url(#pale-hatch); stroke: #c3ccd5; stroke-width: 0.5 }\n"
-    ".conflict { fill: #c62828 }\n"
+    ".conflict, .on-blame { fill: #c62828 }\n"
     ".shown { display: none }\n"
     ".shown:target { display: inline }\n"
     "a { cursor: pointer }\n"
@@ -124,7 +124,8 @@ static void put_head(FILE *out, int height) {
     put_text(out, "title", 24, 36, "Night shift on two furnaces, 22:00 to 06:00: nothing stands without its ground");
     put_text(out, "small", 24, 58, "Each bar is a mark on the board. Click on a bar for the rule behind it, its row, its rank and the "
                                    "readings it stands on. A hair across a bar: another ground took over.");
-    put_text(out, "small", 24, 74, "One rule table serves both furnaces; each has readings of its own.");
+    put_text(out, "small", 24, 74, "One rule table serves both furnaces; each has readings of its own. In a red band only the red marks are in "
+                                   "conflict; the others go on standing.");
 }
 
 /* ---- A furnace ---- */
@@ -162,18 +163,46 @@ static void put_pair(FILE *out, const panel *p) {
     put_text(out, "plain", x + 8, (top + bottom) / 2 + 11, "each other");
 }
 
-/* Draws each conflict of the furnace as a band over all its lanes. */
+/* Draws the line under a bar, whose middle is given, that says: this stands on a reading to blame. */
+static void put_underline(FILE *out, int left, int middle, int width) {
+    put_box(out, "on-blame", left, middle + BAR / 2 + 2, width, 3);
+}
+
+/* Draws a conflict, or a stage of one, as a band over all lanes of the furnace. What stands keeps its bar, with a line under it in the band where it
+ * stands on a reading to blame. */
+static void put_band(FILE *out, const panel *p, const conflict *c) {
+    int left = x_at(c->from), width = x_at(c->to) - left;
+    put_box(out, "band", left, p->top - 12, width, p->bottom - p->top + 12);
+    put_box(out, "conflict", left, p->top - 14, width, 3);
+    for (int symbol = 1; symbol <= SYMBOLS; symbol++) {
+        if (c->on_blame[symbol]) {
+            put_underline(out, left, p->lane[symbol], width);
+        }
+    }
+}
+
+/* Notes over the band of a conflict how many marks are in conflict, how many stand, and the readings to blame. */
+static void put_conflict_note(FILE *out, const panel *p, const conflict *c) {
+    words note = {0}, blame = {0};
+    int middle = (x_at(c->began) + x_at(c->to)) / 2, count[TUP_CONFLICT + 1] = {0};
+    for (int symbol = 1; symbol <= SYMBOLS; symbol++) {
+        count[c->answers[symbol]]++;
+    }
+    say(&note, "%s to %s: %d in conflict, %d standing", clock_at(c->began).text, clock_at(c->to).text, count[TUP_CONFLICT],
+        count[TUP_STANDS] + count[TUP_RULED_OUT]);
+    say(&blame, "to blame: %s", c->blame.text);
+    put_text(out, "conflict-note", middle, p->top - 34, note.text);
+    put_text(out, "conflict-note", middle, p->top - 20, blame.text);
+}
+
+/* Draws each conflict of the furnace. One that other readings changed has several stages, and a note on the last. */
 static void put_conflicts(FILE *out, const panel *p) {
     for (int i = 0; i < p->of->conflict_count; i++) {
         const conflict *c = &p->of->conflicts[i];
-        int left = x_at(c->from), width = x_at(c->to) - left;
-        words note = {0}, blame = {0};
-        say(&note, "conflict %s to %s", clock_at(c->from).text, clock_at(c->to).text);
-        say(&blame, "to blame: %s", c->blame.text);
-        put_box(out, "band", left, p->top - 12, width, p->bottom - p->top + 12);
-        put_box(out, "conflict", left, p->top - 14, width, 3);
-        put_text(out, "conflict-note", left + width / 2, p->top - 34, note.text);
-        put_text(out, "conflict-note", left + width / 2, p->top - 20, blame.text);
+        put_band(out, p, c);
+        if (i + 1 == p->of->conflict_count || c[1].began != c->began) {
+            put_conflict_note(out, p, c);
+        }
     }
 }
 
@@ -282,17 +311,20 @@ static void put_panel(FILE *out, const panel *p) {
 
 /* Writes what the bars mean, below the chart. */
 static void put_legend(FILE *out, int bottom) {
-    static const struct { int x; const char *style, *meaning; } entries[] = {
+    enum { BOX = 28, ENTRIES = 6 };
+    static const struct { int x; const char *style, *meaning; } entries[ENTRIES] = {
         {0, "reading", "held reading"},
-        {150, "reading-not", "held reading: not so"},
-        {350, "conclusion", "conclusion"},
-        {490, "conclusion-not", "ruled out"},
-        {620, "conflict", "in conflict: both true and false"},
+        {130, "reading-not", "held reading: not so"},
+        {310, "conclusion", "conclusion"},
+        {430, "conclusion-not", "ruled out"},
+        {540, "conflict", "in conflict: both true and false"},
+        {775, "conclusion", "stands on a reading to blame"},
     };
-    for (size_t i = 0; i < sizeof entries / sizeof entries[0]; i++) {
-        put_box(out, entries[i].style, LEFT + entries[i].x, bottom + 38, 28, BAR);
-        put_text(out, "plain", LEFT + entries[i].x + 36, bottom + 49, entries[i].meaning);
+    for (int i = 0; i < ENTRIES; i++) {
+        put_box(out, entries[i].style, LEFT + entries[i].x, bottom + 38, BOX, BAR);
+        put_text(out, "plain", LEFT + entries[i].x + BOX + 8, bottom + 49, entries[i].meaning);
     }
+    put_underline(out, LEFT + entries[ENTRIES - 1].x, bottom + 38 + BAR / 2, BOX);
 }
 
 /* Writes what marks need, as the shift desk was told, below the legend: it is of the rules, so it stands in neither furnace's part. */

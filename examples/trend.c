@@ -5,6 +5,7 @@
  * The screen owner's rule is that nothing stands on a chart without its ground. "crown hot" and "overfired" lean on each
  * other here; when furnace 1's TC-3, the thermocouple that first brought them up, is struck off at 03:10, both have to go.
  * Furnace 2 runs the same rules in the same table with a TC-3 of its own, and nothing that happens at furnace 1 moves its marks.
+ * A conflict blanks no furnace: marks that stand go on standing, and those that stand on a reading to blame are told apart.
  *
  * Use: trend [PICTURE], by default trend.svg. For a screen of your own, change the section "The plant" here and in trend.h
  * (symbols, names, readings, the shift) and the functions that add rules; below those only the summary and the chart's notes name symbols. */
@@ -73,8 +74,9 @@ static const event shift[] = {
     {AT(23, 50), 1, WITHDRAW, TC_4_HIGH},
     {AT(0, 5), 1, HOLD, TC_7_HIGH},
     {AT(0, 42), 1, HOLD, DAMPER_SHUT}, /* both limit switches are made: one of them is wrong */
-    {AT(0, 45), 1, ASK, TRIM_GAS},
-    {AT(0, 45), 2, ASK, TRIM_GAS}, /* answered as ever: the conflict is furnace 1's */
+    {AT(0, 45), 1, ASK, DRAUGHT_GOOD}, /* in conflict itself */
+    {AT(0, 45), 1, ASK, TRIM_GAS},     /* stands in the midst of it, though on one of the switches */
+    {AT(0, 45), 2, ASK, TRIM_GAS},     /* and of the whole board too: the conflict is furnace 1's */
     {AT(0, 51), 1, WITHDRAW, DAMPER_SHUT},
     {AT(1, 20), 1, HOLD, TC_8_HIGH},
     {AT(1, 40), 0, NEEDS, BURN_OFF_DUE}, /* ahead of striking TC-7 off: is there more that it stands on? */
@@ -162,6 +164,14 @@ static const char *refusal_word(uint8_t refusal) {
     bool is_known = refusal < sizeof known / sizeof known[0] && known[refusal];
     return is_known ? known[refusal] : "unknown refusal";
 }
+
+/* The board's answers in words. */
+static const char *const answer_words[] = {
+    [TUP_OPEN] = "open",
+    [TUP_STANDS] = "stands",
+    [TUP_RULED_OUT] = "ruled out",
+    [TUP_CONFLICT] = "conflict",
+};
 
 /* Stops at a refusal that only a mistake in this program can bring about. */
 static void must_be_done(const char *call, uint8_t refusal) {
@@ -412,42 +422,138 @@ static tup_board holding_only(const screen *s, const furnace *f, const uint8_t m
     return alone;
 }
 
-/* Asks which readings are to blame, and checks that they alone, under the same rules, are in conflict. */
-static words find_blame(screen *s, const furnace *f) {
-    uint8_t marks[PLACES];
-    words blame = {0};
-    must_be_done("blame", tup_blame(s->board, s->table, NUMBERS, f->number, marks, PLACES));
-    say_premises(&blame, marks);
-    tup_answer answer = tup_ask(holding_only(s, f, marks), s->table, NUMBERS, f->number, 1);
+/* How a literal stands at a furnace, by its own symbol: a conflict of others does not hide it. */
+static uint8_t ask(const screen *s, uint8_t number, int literal) {
+    tup_answer answer = tup_ask(s->board, s->table, NUMBERS, number, (int16_t)literal);
     must_be_done("ask", answer.refusal);
+    return answer.standing;
+}
+
+/* How a literal stands where a whole board under the screen's rules is asked: conflict for each while the furnace is in conflict at all. */
+static uint8_t ask_whole(const screen *s, tup_board board, uint8_t number, int literal) {
+    tup_answer answer = tup_ask_whole(board, s->table, NUMBERS, number, (int16_t)literal);
+    must_be_done("ask of the whole board", answer.refusal);
+    return answer.standing;
+}
+
+/* ---- Conflicts ---- */
+
+/* Finds which readings are to blame, and checks that they alone, under the same rules, are in conflict. Which symbols are in conflict there does
+ * not matter, so the whole board is asked, and any literal will do. */
+static void find_blame(screen *s, const furnace *f, uint8_t marks[PLACES]) {
+    must_be_done("blame", tup_blame(s->board, s->table, NUMBERS, f->number, marks, PLACES));
     s->blames.made++;
-    if (answer.standing != TUP_CONFLICT) {
+    if (ask_whole(s, holding_only(s, f, marks), f->number, 1) != TUP_CONFLICT) {
+        words blame = {0};
+        say_premises(&blame, marks);
         printf("no conflict by these alone: %s\n", blame.text);
         s->blames.failed++;
     }
-    return blame;
 }
 
-/* Prints the start and the end of a furnace's conflict, and the readings to blame, again where they change. */
-static void update_conflict(screen *s, furnace *f, int now) {
-    bool in_conflict = memchr(f->settled.labels, 3, SYMBOLS) != NULL;
-    if (in_conflict && f->conflict_count == MOST_CONFLICTS) {
+/* Whether the ground of a derived literal has one of the premises that are marked. */
+static bool stands_on(const screen *s, const furnace *f, int literal, const uint8_t marks[PLACES]) {
+    uint8_t ground[PLACES];
+    find_ground(s, f, literal, ground);
+    for (int place = 0; place < PLACES; place++) {
+        if (ground[place] && marks[place]) {
+            return true;
+        }
+    }
+    return false;
+}
+
+/* The literal that an answer speaks of: the opposite that stands where the symbol is ruled out, and else the symbol. */
+static int answered_literal(int symbol, uint8_t answer) {
+    return answer == TUP_RULED_OUT ? -symbol : symbol;
+}
+
+/* A furnace's conflict as it is now. The board is asked for each symbol, since this is what a screen that only asks would show. */
+static conflict conflict_now(screen *s, const furnace *f, int now) {
+    conflict result = {.began = now, .from = now};
+    uint8_t blamed[PLACES];
+    find_blame(s, f, blamed);
+    say_premises(&result.blame, blamed);
+    for (int symbol = 1; symbol <= SYMBOLS; symbol++) {
+        uint8_t answer = ask(s, f->number, symbol);
+        bool stands = answer == TUP_STANDS || answer == TUP_RULED_OUT;
+        result.answers[symbol] = answer;
+        result.on_blame[symbol] = stands && stands_on(s, f, answered_literal(symbol, answer), blamed);
+    }
+    return result;
+}
+
+/* Says which marks are in conflict, or which stand, on a reading to blame or on none. */
+static void say_marks(words *line, const conflict *c, bool in_conflict, bool on_blame) {
+    const char *between = "";
+    for (int symbol = 1; symbol <= SYMBOLS; symbol++) {
+        uint8_t answer = c->answers[symbol];
+        if (answer != TUP_OPEN && (answer == TUP_CONFLICT) == in_conflict && c->on_blame[symbol] == on_blame) {
+            say(line, "%s", between);
+            say_literal(line, answered_literal(symbol, answer));
+            between = ", ";
+        }
+    }
+    say(line, "%s", between[0] == '\0' ? "none" : "");
+}
+
+/* Prints a furnace's conflict: the readings to blame, and the marks. What stands on a reading to blame may fall with it, so the crew has to look
+ * before it acts on that. */
+static void print_conflict(const furnace *f, const conflict *c, const char *still) {
+    words line = {0};
+    say(&line, "marks in conflict: ");
+    say_marks(&line, c, true, false);
+    say(&line, "; standing on a reading to blame: ");
+    say_marks(&line, c, false, true);
+    say(&line, "; standing on no such reading: ");
+    say_marks(&line, c, false, false);
+    printf("%s   furnace %d: %sin conflict, to blame: %s\n", clock_at(c->from).text, f->number, still, c->blame.text);
+    printf("%s   furnace %d, %s\n", clock_at(c->from).text, f->number, line.text);
+}
+
+/* Whether a conflict is what it was. */
+static bool is_same_conflict(const conflict *before, const conflict *after) {
+    return strcmp(before->blame.text, after->blame.text) == 0 && memcmp(before->answers, after->answers, sizeof after->answers) == 0 &&
+           memcmp(before->on_blame, after->on_blame, sizeof after->on_blame) == 0;
+}
+
+/* Ends a furnace's conflict, or the stage that it was in, for the chart. */
+static void end_conflict(furnace *f, int now) {
+    f->conflicts[f->conflict_count].to = now;
+    f->conflict_count++;
+}
+
+/* Prints a furnace's conflict at its start, and again wherever another reading has changed it: a stage of its own on the chart. */
+static void take_conflict(screen *s, furnace *f, int now) {
+    conflict *last = &f->conflicts[f->conflict_count];
+    conflict after = conflict_now(s, f, now);
+    if (f->in_conflict) {
+        if (is_same_conflict(last, &after)) {
+            return;
+        }
+        after.began = last->began;
+        end_conflict(f, now);
+    }
+    if (f->conflict_count == MOST_CONFLICTS) {
         stop("the chart has no room for another conflict");
     }
-    conflict *last = &f->conflicts[f->conflict_count];
+    f->conflicts[f->conflict_count] = after;
+    print_conflict(f, &after, f->in_conflict ? "still " : "");
+}
+
+/* Tells a furnace's conflict from its start to its end. */
+static void update_conflict(screen *s, furnace *f, int now) {
+    bool in_conflict = memchr(f->settled.labels, 3, SYMBOLS) != NULL;
     if (in_conflict) {
-        words blame = find_blame(s, f);
-        if (!f->in_conflict || strcmp(blame.text, last->blame.text) != 0) {
-            printf("%s   furnace %d: %sin conflict, to blame: %s\n", clock_at(now).text, f->number, f->in_conflict ? "still " : "", blame.text);
-        }
-        *last = (conflict){f->in_conflict ? last->from : now, SHIFT_ENDS, blame};
+        take_conflict(s, f, now);
     } else if (f->in_conflict) {
         printf("%s   furnace %d: conflict over\n", clock_at(now).text, f->number);
-        last->to = now;
-        f->conflict_count++;
+        end_conflict(f, now);
     }
     f->in_conflict = in_conflict;
 }
+
+/* ---- Settling, and its checks ---- */
 
 /* Whether the ground of a literal is enough: a board that holds nothing else derives it at the same rank, by the same row. An empty ground is
  * thereby enough only for what the rules alone derive. */
@@ -485,6 +591,36 @@ static void check_grounds(screen *s, const furnace *f) {
     }
 }
 
+/* What the board has to answer for a literal by its symbol's label. */
+static uint8_t answer_by_label(const furnace *f, int literal) {
+    static const uint8_t positive[] = {TUP_OPEN, TUP_STANDS, TUP_RULED_OUT, TUP_CONFLICT};
+    static const uint8_t negative[] = {TUP_OPEN, TUP_RULED_OUT, TUP_STANDS, TUP_CONFLICT};
+    uint8_t label = f->settled.labels[abs(literal) - 1];
+    return literal > 0 ? positive[label] : negative[label];
+}
+
+/* Counts a check of an answer; one that fails is printed. */
+static void count_answer_check(screen *s, const furnace *f, int literal, const char *asked, uint8_t answer, uint8_t due) {
+    s->answers.made++;
+    if (answer != due) {
+        words line = {0};
+        say_literal(&line, literal);
+        printf("furnace %d, %s, %s: %s, and not %s\n", f->number, asked, line.text, answer_words[answer], answer_words[due]);
+        s->answers.failed++;
+    }
+}
+
+/* Checks that each literal is answered by the label of its symbol, and of the whole board likewise, or as in conflict while the furnace is. */
+static void check_answers(screen *s, const furnace *f) {
+    for (int place = 0; place < PLACES; place++) {
+        int literal = literal_at(place);
+        uint8_t due = answer_by_label(f, literal);
+        uint8_t whole = ask_whole(s, s->board, f->number, literal);
+        count_answer_check(s, f, literal, "asked", ask(s, f->number, literal), due);
+        count_answer_check(s, f, literal, "asked of the whole board", whole, f->in_conflict ? TUP_CONFLICT : due);
+    }
+}
+
 /* What the board derives for a furnace now. */
 static settling settled_now(const screen *s, const furnace *f) {
     settling result;
@@ -499,6 +635,7 @@ static void settle(screen *s, furnace *f, int now) {
     update_conflict(s, f, now);
     update_marks(s, f, now);
     check_grounds(s, f);
+    check_answers(s, f);
 }
 
 /* Checks that a reading of one furnace left every other with the labels, ranks and supports that it had. */
@@ -648,14 +785,13 @@ static void say_holders(words *line, const screen *s, unsigned set) {
     say(line, "%s", any ? ")" : "");
 }
 
-/* How a literal stands where the readings of a set alone are held, under the same rules. At which furnace does not matter. */
+/* How a literal stands where the readings of a set alone are held, under the same rules. At which furnace does not matter. The whole board is asked:
+ * a mark that is up beside a conflict, of whichever symbols, is not carried without one. */
 static uint8_t standing_on(const screen *s, unsigned set, int literal) {
     const furnace *f = &s->furnaces[0];
     uint8_t marks[PLACES];
     mark_set(set, marks);
-    tup_answer answer = tup_ask(holding_only(s, f, marks), s->table, NUMBERS, f->number, (int16_t)literal);
-    must_be_done("ask", answer.refusal);
-    return answer.standing;
+    return ask_whole(s, holding_only(s, f, marks), f->number, literal);
 }
 
 /* Counts a check of a set and a literal; one that fails is printed. */
@@ -672,7 +808,7 @@ static void count_set_check(screen *s, bool good, int literal, unsigned set, con
 }
 
 /* Checks that a set alone brings its mark up without conflict, and that with any one reading less the mark is open: it is not up, and were it ruled
- * out, or in conflict, it would be so with the whole set too. */
+ * out, or anything in conflict, it would be so with the whole set too. */
 static void check_set(screen *s, int literal, unsigned set) {
     count_set_check(s, standing_on(s, set, literal) == TUP_STANDS, literal, set, "not up by these alone");
     for (int i = 0; i < READINGS; i++) {
@@ -755,12 +891,15 @@ static void tell_needs(screen *s, int literal, int now) {
 
 /* ---- Events ---- */
 
-/* Asks the board how a literal stands at a furnace, and prints the answer. */
+/* Asks the board how a literal stands at a furnace, and prints the answer, with that of the whole board where it is another. */
 static void print_standing(const screen *s, uint8_t number, int literal, int now) {
-    static const char *const standing[] = {"open", "stands", "ruled out", "conflict"};
-    tup_answer answer = tup_ask(s->board, s->table, NUMBERS, number, (int16_t)literal);
-    must_be_done("ask", answer.refusal);
-    printf("%s %sasked, %s: %s\n", clock_at(now).text, whose(number).text, names[abs(literal)], standing[answer.standing]);
+    uint8_t answer = ask(s, number, literal), whole = ask_whole(s, s->board, number, literal);
+    words line = {0};
+    say(&line, "%s %sasked, %s: %s", clock_at(now).text, whose(number).text, names[abs(literal)], answer_words[answer]);
+    if (whole != answer) {
+        say(&line, " (of the whole board: %s)", answer_words[whole]);
+    }
+    printf("%s\n", line.text);
 }
 
 /* Holds a reading, or withdraws it. A refused call changes nothing and is only reported; false then. */
@@ -811,7 +950,9 @@ static void end_shift(furnace *f) {
     for (int symbol = 1; symbol <= SYMBOLS; symbol++) {
         end_mark(f, &f->marks[symbol], SHIFT_ENDS);
     }
-    f->conflict_count += f->in_conflict ? 1 : 0;
+    if (f->in_conflict) {
+        end_conflict(f, SHIFT_ENDS);
+    }
 }
 
 /* ---- Summary ---- */
@@ -880,6 +1021,8 @@ static void print_summary(const screen *s) {
     printf("no reading of one furnace moved the other: %s (%d checks)\n", s->others.failed == 0 ? "yes" : "NO", s->others.made);
     printf("every set named carried its mark, none less and no other did, and where the mark stood its ground had one: %s (%d checks)\n",
            s->sets.failed == 0 ? "yes" : "NO", s->sets.made);
+    printf("every answer was what the label says, and of the whole board the same, or conflict while the furnace was in one: %s (%d checks)\n",
+           s->answers.failed == 0 ? "yes" : "NO", s->answers.made);
 }
 
 /* ---- The shift ---- */
@@ -914,6 +1057,6 @@ int main(int count, char **arguments) {
     if (!write_chart(count > 1 ? arguments[1] : "trend.svg", &s)) {
         stop("the picture could not be written");
     }
-    int failed = s.grounds.failed + s.blames.failed + s.others.failed + s.sentences.failed + s.unmoved.failed + s.sets.failed;
+    int failed = s.grounds.failed + s.blames.failed + s.others.failed + s.sentences.failed + s.unmoved.failed + s.sets.failed + s.answers.failed;
     return failed == 0 ? EXIT_SUCCESS : EXIT_FAILURE;
 }

@@ -47,10 +47,13 @@ typedef struct mark {
     words why;
 } mark;
 
-/* A conflict of a furnace, from one minute to another, and the readings to blame. */
+/* A conflict of a furnace from one minute to another, or a stage of it where another reading changed it, and when the conflict began; the readings to
+ * blame, the board's answer for each symbol, and whether what stands by that answer stands on a reading to blame. */
 typedef struct conflict {
-    int from, to;
+    int began, from, to;
     words blame;
+    uint8_t answers[SYMBOLS + 1];
+    bool on_blame[SYMBOLS + 1];
 } conflict;
 
 /* What settling writes. */
@@ -89,7 +92,7 @@ typedef struct screen {
     furnace furnaces[TUP_FURNACES];
     words needs[MOST_NEEDS]; /* what the shift desk was told that marks need, a line each */
     int need_count, rules_refused, readings_refused;
-    tally grounds, blames, others, sentences, unmoved, sets;
+    tally grounds, blames, others, sentences, unmoved, sets, answers;
 } screen;
 
 /* Gives up with a reason. */

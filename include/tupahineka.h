@@ -1,7 +1,11 @@
 /* Tupahineka: a proved truth-maintenance board behind a trend screen. The nine calls of document 01 for C and C++, with the places of
  * document 02's first ticket, the two calls for DIMACS text of its second, blame as its fourth has it, the three calls for formulae in plain text
  * of its fifth, the two furnaces of its sixth, without refusal 14, which its seventh took out, with the number of its rule in each row, as its
- * eighth asks, and the shift desk's smallest sets of its tenth.
+ * eighth asks, the shift desk's smallest sets of its tenth, and ask by symbol, with the old answer as a call of its own, as its eleventh asks.
+ *
+ * Changed in version 6.0: tup_ask answers TUP_CONFLICT only for a literal whose own symbol is in conflict. Before, it did so for every literal while
+ * the furnace was in conflict anywhere; a program that relies on that, to find out whether there is a conflict at all, calls tup_ask_whole instead.
+ * Nothing else moved: every struct, number and refusal is what it was.
  *
  * Two furnaces run the same rules: a board has one S and one table of rows, and for each furnace a set of premises of its own. A call that changes
  * premises, or answers by them, names its furnace, 1 or 2, right after the table and its count. What is held and withdrawn for one furnace changes
@@ -72,7 +76,7 @@ enum {
     TUP_BAD_CANDIDATES = 17   /* more than 12 candidates, or one given twice */
 };
 
-/* How a literal stands. */
+/* How a literal stands: see tup_ask. */
 enum { TUP_OPEN = 0, TUP_STANDS = 1, TUP_RULED_OUT = 2, TUP_CONFLICT = 3 };
 
 /* A board: S, the rows of the clause table in use, the rules accepted since it was opened, and for each furnace and each place a byte, 0 where the
@@ -203,8 +207,17 @@ tup_change tup_withdraw(tup_board board, const int16_t *table, size_t numbers, u
 uint8_t tup_settle(tup_board board, const int16_t *table, size_t numbers, uint8_t furnace, uint8_t *labels, size_t label_count,
                    uint16_t *ranks, size_t rank_count, uint16_t *supports, size_t support_count);
 
-/* How a literal stands. Refused: 1, 16, 2. */
+/* How a literal stands at the furnace, by its own symbol: TUP_CONFLICT where the literal and its opposite are both derived, TUP_STANDS where only the
+ * literal is, TUP_RULED_OUT where only the opposite is, TUP_OPEN where neither is. For +s that is the very number of the label of s that tup_settle
+ * writes; for -s the same with 1 and 2 exchanged. A conflict of other symbols hides nothing: whatever rules are added and premises held, a literal
+ * that stands goes on standing until its opposite is derived too, a premise is withdrawn for the furnace, or the board is opened anew. But what
+ * stands while the furnace is in conflict may stand on a premise that is in conflict itself, or that a conflict stands on: tup_ground tells which
+ * premises it stands on; tup_blame marks those of one conflict only. Refused: 1, 16, 2. */
 tup_answer tup_ask(tup_board board, const int16_t *table, size_t numbers, uint8_t furnace, int16_t literal);
+
+/* The same of the whole board: TUP_CONFLICT for every literal while the furnace is in conflict anywhere, and otherwise what tup_ask answers. Refused:
+ * 1, 16, 2. */
+tup_answer tup_ask_whole(tup_board board, const int16_t *table, size_t numbers, uint8_t furnace, int16_t literal);
 
 /* Why a derived literal that is not held stands: its rank, from 1 to 2S, its supporting row, and the number of the rule that the row is from.
  * Refused: 1, 16, 2, 12. */

@@ -57,14 +57,15 @@ static bool try_rule(Play *play, const Try *try) {
     return good || spelt_wrong(play, "a board to try, its rule as text", (const uint8_t *)try->text, strlen(try->text));
 }
 
-/* The printed journal, with text for its rules: the second premise lets 4 stand by row 1, and without the first one it is open. */
+/* The printed journal, with text for its rules: the second premise lets 4 stand by row 1, and without the first one it is open; with -3 held too it
+ * is open still, by Ticket 11, and in conflict by the old answer. */
 static bool try_journal(Play *play) {
     play_start(play, 2, true);
     bool good = spelt_open(play, 4) && add(play, "1>2", TABLE_LENDABLE, 0) && add(play, " (2 & 3) > 4", TABLE_LENDABLE, 0) && make(play, HOLD, 1) &&
                 make(play, HOLD, 3) && make(play, ASK, 4) && play->last.standing == STANDS && make(play, EXPLAIN, 4) && play->last.rank == 2 &&
                 play->last.row == 1 && play->last.rule == 2;
     good = good && make(play, WITHDRAW, 1) && make(play, ASK, 4) && play->last.standing == IS_OPEN && make(play, HOLD, -3) && make(play, ASK, 4) &&
-           play->last.standing == IN_CONFLICT;
+           play->last.standing == IS_OPEN && make(play, ASK_WHOLE, 4) && play->last.standing == IN_CONFLICT;
     return good || spelt_wrong(play, "the printed journal, its rules as text", (const uint8_t *)"1>2, (2&3)>4", 12);
 }
 

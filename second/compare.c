@@ -110,17 +110,14 @@ bool same_everywhere(Play *play, const Step *step, const Outcome *ours, const Ou
 /* Finds the round that completes the furnace's first conflict, by the library's settle: the smallest rank up to which some symbol has both its
  * literals; NONE where there is no such round, or settle is refused. False where settle tells what no call may tell. */
 static bool find_first_round(Play *play, const Step *step, tup_board board, unsigned *first) {
-    uint8_t labels[MOST_SYMBOLS];
-    uint16_t ranks[PLACES], supports[PLACES];
-    unsigned refusal = tup_settle(board, play->theirs.table + GUARD, step->numbers, (uint8_t)step->furnace, labels, MOST_SYMBOLS, ranks, PLACES,
-                                  supports, PLACES);
+    Settled said = library_settle(&board, play->theirs.table + GUARD, step->numbers, step->furnace);
     *first = NONE;
-    if (refusal != 0) return number_is_known(play, refusal);
+    if (said.refusal != 0) return number_is_known(play, said.refusal);
     for (unsigned s = 0; s < board.symbols; s++) {
-        unsigned both = ranks[2 * s] > ranks[2 * s + 1] ? ranks[2 * s] : ranks[2 * s + 1];
+        unsigned both = said.ranks[2 * s] > said.ranks[2 * s + 1] ? said.ranks[2 * s] : said.ranks[2 * s + 1];
         if (both < *first) *first = both;
     }
-    return ranks_are_bounded(play, ranks, board.symbols);
+    return ranks_are_bounded(play, said.ranks, board.symbols);
 }
 
 /* What follows of Ticket 4 after a good blame: its marks are premises of the furnace, and with only these held for it the same rows are in conflict,
@@ -135,12 +132,12 @@ bool marks_are_enough(Play *play, const Step *step) {
         if (marks[p] != 0 && premises[p] == 0) return differs(play, "blame, a mark (model: a premise)", p, marks[p], 0);
         alone.held[step->furnace - 1][p] = marks[p];
     }
-    tup_answer answer = tup_ask(alone, play->theirs.table + GUARD, step->numbers, (uint8_t)step->furnace, (int16_t)literal_at(asked));
+    tup_answer answer = tup_ask_whole(alone, play->theirs.table + GUARD, step->numbers, (uint8_t)step->furnace, (int16_t)literal_at(asked));
     unsigned round, round_alone;
     return number_is_known(play, answer.refusal) && find_first_round(play, step, *board, &round) &&
            find_first_round(play, step, alone, &round_alone) &&
-           same(play, "blame, refusal of ask with only the marks held", asked, answer.refusal, 0) &&
-           same(play, "blame, standing with only the marks held", asked, answer.standing, IN_CONFLICT) &&
+           same(play, "blame, refusal of ask whole with only the marks held", asked, answer.refusal, 0) &&
+           same(play, "blame, ask whole with only the marks held", asked, answer.standing, IN_CONFLICT) &&
            same(play, "blame, a conflict by settle", NONE, round != NONE, true) &&
            same(play, "blame, round of the conflict (library: only the marks held, model: all premises)", NONE, round_alone, round);
 }

@@ -8,7 +8,7 @@
 
 /* Cases beyond the table of refusals, each of which has to come up. */
 enum {
-    ASK_OPEN, ASK_STANDS, ASK_RULED_OUT, ASK_CONFLICT, EXPLAIN_HELD, EXPLAIN_NOT_DERIVED, EXPLAIN_ONE_LITERAL, GROUND_HELD,
+    EXPLAIN_HELD, EXPLAIN_NOT_DERIVED, EXPLAIN_ONE_LITERAL, GROUND_HELD,
     GROUND_NO_PREMISE, GROUND_MORE, SHORT_LABELS, SHORT_RANKS, SHORT_SUPPORTS, SHORT_BY_ONE, JUST_LONG_ENOUGH, CONFLICT_SETTLED,
     BOTH_SIGNS_HELD, BLAME_MORE, RULE_ALWAYS_TRUE, RULE_FILLS_TABLE, RULE_FILLS_2048, RULE_OF_7, RULE_OF_8, RULE_OF_128_ROWS, RULE_OF_200_ROWS,
     RULE_DEPTH_16, RULE_LONG, NOTHING_LENT, BEYOND_2048, LOWEST_ASKED, ODD_BYTES_DONE, ODD_BYTES_BACK, ODD_LENGTH, LENGTH_CHANGED, FEWER_SYMBOLS,
@@ -18,7 +18,7 @@ enum {
 };
 
 static const char *const case_words[CASES] = {
-    "ask: open", "ask: stands", "ask: ruled out", "ask: conflict", "explain 12, held", "explain 12, not derived",
+    "explain 12, held", "explain 12, not derived",
     "explain by a row of one literal", "ground of a premise", "ground without a premise", "ground of 2 or more premises",
     "settle 13, labels", "settle 13, ranks", "settle 13, supports", "13 with one place missing", "done with no place to spare",
     "settled in conflict", "both signs held", "blame of 2 or more premises", "rule always true, done", "rule fills the rows lent",
@@ -54,7 +54,7 @@ static const unsigned possible[CALLS][NUMBERS] = {
     [OPEN] = {2},              [RULE] = {1, 2, 3, 4, 5, 6, 7, 8, 9}, [READ] = {1, 2, 7, 8, 9, 15},  [HOLD] = {1, 16, 2, 10},
     [SETTLE] = {1, 16, 13},    [WITHDRAW] = {1, 16, 2, 11},          [GROUND] = {1, 16, 2, 13, 12}, [ASK] = {1, 16, 2},
     [BLAME] = {1, 16, 13, 12}, [EXPLAIN] = {1, 16, 2, 12},           [WRITE] = {1, 13},             [TEXT_RULE] = {1, 2, 5, 7, 8, 9, 15},
-    [TO_BYTES] = {1, 2, 5, 13, 15}, [TO_TEXT] = {1, 2, 3, 4, 5, 6, 13}, [SMALLEST] = {1, 2, 17, 13}};
+    [TO_BYTES] = {1, 2, 5, 13, 15}, [TO_TEXT] = {1, 2, 3, 4, 5, 6, 13}, [SMALLEST] = {1, 2, 17, 13}, [ASK_WHOLE] = {1, 16, 2}};
 
 static unsigned long calls[CALLS], refusals[CALLS][NUMBERS], damaged[BAD_BOARDS][CALLS], cases[CASES];
 static unsigned long broken[BREAKS][SPOTS];
@@ -233,7 +233,6 @@ static void cover_done(const Play *play, const Step *step) {
     cover_lent(play, step);
     if (step->kind == SETTLE) cover_settle(play, step), cover_rows(play, step->furnace);
     if (step->kind == RULE) cover_rule(play, step);
-    if (step->kind == ASK) cases[ASK_OPEN + play->last.standing]++;
     if (step->kind == EXPLAIN) cases[EXPLAIN_ONE_LITERAL] += play->last.literals == 1;
     if (step->kind == BLAME) {
         cases[BLAME_MORE] += marks > 1;
@@ -257,6 +256,7 @@ void cover_step(const Play *play, const Step *step) {
     if (step->kind == READ || step->kind == WRITE) cover_text(play, step);
     if (step->kind == TO_TEXT || spells(step->kind)) cover_spelt(play, step);
     if (step->kind == SMALLEST) cover_sets(play, step), cover_candidates(play, step);
+    if (step->kind == SETTLE || asks(step->kind)) cover_answers(play, step);
     cover_rules(play, step);
     cases[TWO_FAULTS] += step->faults > 1;
     if (play->last.refusal == 0) cover_done(play, step);
@@ -286,12 +286,12 @@ static bool is_given(unsigned number) {
 
 /* Prints the table of calls and refusals; a dot where a number cannot come up, and nothing for one that no call gives. */
 static void print_refusals(void) {
-    printf("%-9s%9s%9s", "call", "made", "done");
+    printf("%-10s%9s%9s", "call", "made", "done");
     for (unsigned n = 1; n < NUMBERS; n++)
         if (is_given(n)) printf("%7u", n);
     printf("\n");
     for (unsigned k = 0; k < CALLS; k++) {
-        printf("%-9s%9lu%9lu", kind_word((Kind)k), calls[k], refusals[k][0]);
+        printf("%-10s%9lu%9lu", kind_word((Kind)k), calls[k], refusals[k][0]);
         for (unsigned n = 1; n < NUMBERS; n++) {
             if (can_refuse(k, n)) printf("%7lu", refusals[k][n]);
             else if (is_given(n)) printf("%7s", ".");
@@ -303,11 +303,11 @@ static void print_refusals(void) {
 /* Prints the damage that was refused with 1, by call. */
 static void print_damage(void) {
     printf("\n%-24s", "refusal 1 for");
-    for (unsigned k = RULE; k < CALLS; k++) printf("%9s", kind_word((Kind)k));
+    for (unsigned k = RULE; k < CALLS; k++) printf("%10s", kind_word((Kind)k));
     printf("\n");
     for (unsigned d = 1; d < BAD_BOARDS; d++) {
         printf("%-24s", damage_words[d]);
-        for (unsigned k = RULE; k < CALLS; k++) printf("%9lu", damaged[d][k]);
+        for (unsigned k = RULE; k < CALLS; k++) printf("%10lu", damaged[d][k]);
         printf("\n");
     }
 }
@@ -345,6 +345,7 @@ void cover_print(void) {
         printf("%-42s%9lu%s", case_words[c], cases[c], c % 2 == 0 && c + 1 < CASES ? "    " : "\n");
     cover_rows_print();
     cover_blames_print();
+    cover_answers_print();
     cover_furnaces_print();
     cover_rules_print();
     cover_outside_print();
@@ -357,6 +358,7 @@ void cover_print(void) {
            cases[CONFLICT_SETTLED]);
     printf("rules accepted: %lu, rows they added: %lu, most of one rule: %u; the caller's own acts: %lu\n", rules_done, rows_added, most_rows, acts);
     printf("demand 3 compared: %lu boards, of them in conflict: %lu\n", demand_3, cases[DEMAND_3_CONFLICT]);
+    cover_answers_close();
     cover_furnaces_close();
     cover_rules_close();
     cover_outside_close();
@@ -387,6 +389,7 @@ bool cover_is_whole(void) {
     bool whole = breaks_are_whole();
     whole &= cover_rows_are_whole();
     whole &= cover_blames_are_whole();
+    whole &= cover_answers_are_whole();
     whole &= cover_furnaces_are_whole();
     whole &= cover_rules_are_whole();
     whole &= cover_outside_is_whole();

@@ -24,6 +24,12 @@ void cover_blame(const Play *play, unsigned furnace, unsigned marks);
 void cover_blames_print(void);
 bool cover_blames_are_whole(void);
 
+/* coveranswers.c: what was asked, by symbol and of the whole board. */
+void cover_answers(const Play *play, const Step *step);
+void cover_answers_print(void);
+void cover_answers_close(void);
+bool cover_answers_are_whole(void);
+
 /* coverfurnace.c: what was told to the two furnaces. */
 void cover_furnace(const Play *play, const Step *step);
 bool held_before(const Play *play, unsigned furnace);

@@ -10,8 +10,8 @@
 enum {
     BY_0, BY_3, BY_255, BY_ANOTHER, NOT_2, NOT_13, BOARD_NOT_16, PREMISE_NOT_16, PREMISE_OF_OTHER, PREMISE_OF_NAMED, PREMISE_OF_1, PREMISE_OF_2,
     HELD_OTHER_CAN, NOT_HELD_OTHER_CAN, HELD_BY_BOTH, OPPOSITE_HELD, WITHDRAWN_BY_ONE, WITHDRAWN_STANDS, CONFLICT_OF_ONE, LABELS_1_AND_2,
-    EXPLAINED_TO_ONE, GROUND_OF_ONE, BLAME_OF_ONE, OPENED_OVER_BOTH, NOT_OPENED_OVER_2, ODD_OF_OTHER_DONE, ODD_OF_OTHER_REFUSED, ODD_OF_1_ROWS,
-    ODD_OF_2_ROWS,
+    EXPLAINED_TO_ONE, GROUND_OF_ONE, BLAME_OF_ONE, ASKED_APART, ASKED_WHOLE_APART, OPENED_OVER_BOTH, NOT_OPENED_OVER_2, ODD_OF_OTHER_DONE,
+    ODD_OF_OTHER_REFUSED, ODD_OF_1_ROWS, ODD_OF_2_ROWS,
     CASES
 };
 
@@ -21,7 +21,8 @@ static const char *const case_words[CASES] = {
     "1 by furnace 1's premise, none named", "1 by furnace 2's premise, none named", "10, and the other could hold it",
     "11, and the other could withdraw it", "held for both", "held, the opposite by the other", "withdrawn, and still held by the other",
     "withdrawn, and stands for the other", "conflict for one, none for the other", "label 1 for one, 2 for the other",
-    "explained to one, 12 for the other", "ground for one, 12 for the other", "blame for one, 12 for the other", "opened over premises of both",
+    "explained to one, 12 for the other", "ground for one, 12 for the other", "blame for one, 12 for the other",
+    "ask: conflict for one, not for the other", "ask whole: conflict for one, not for the other", "opened over premises of both",
     "open refused over premises of 2", "hold or withdraw, bytes beyond 1 of the other", "the same, refused",
     "rows added, bytes beyond 1 of furnace 1", "rows added, bytes beyond 1 of furnace 2"};
 
@@ -30,7 +31,7 @@ typedef struct Told {
     bool called, of_conflict, conflict, settled;
     Kind kind;
     int value;
-    unsigned refusal;
+    unsigned refusal, standing;
     uint8_t labels[MOST_SYMBOLS];
 } Told;
 
@@ -112,6 +113,11 @@ static void cover_premise(const Play *play, const Step *step) {
     if (!hold) withdrawn[step->furnace - 1] = step->value;
 }
 
+/* True if the last call for a furnace was of the step's kind, and for its literal. */
+static bool was_told(const Told *it, const Step *step) {
+    return it->called && it->kind == step->kind && it->value == step->value;
+}
+
 /* Notes that a furnace was told of a conflict or of none; counts where the other was told otherwise of the same rows. */
 static void cover_conflict(Told *here, const Told *other, bool conflict) {
     here->of_conflict = true;
@@ -119,12 +125,15 @@ static void cover_conflict(Told *here, const Told *other, bool conflict) {
     cases[CONFLICT_OF_ONE] += other->of_conflict && other->conflict != conflict;
 }
 
-/* Counts an answer to ask; of a literal that the other furnace withdrew too. */
+/* Counts an answer to a call that asks, of a literal that the other furnace withdrew too, and where the same call told the other furnace otherwise of
+ * the literal. Whether there is a conflict at all only the call for the whole board tells. */
 static void cover_answer(const Play *play, const Step *step, Told *here, const Told *other) {
     unsigned place = place_of(step->value);
     bool only_here = premises_of(&play->board, step->furnace)[place] && !premises_of(&play->board, 3 - step->furnace)[place];
+    bool conflict = play->last.standing == IN_CONFLICT, both = was_told(other, step) && other->refusal == 0;
     cases[WITHDRAWN_STANDS] += play->last.standing == STANDS && only_here && withdrawn[2 - step->furnace] == step->value;
-    cover_conflict(here, other, play->last.standing == IN_CONFLICT);
+    cases[step->kind == ASK ? ASKED_APART : ASKED_WHOLE_APART] += both && conflict != (other->standing == IN_CONFLICT);
+    if (step->kind == ASK_WHOLE) cover_conflict(here, other, conflict);
 }
 
 /* Counts a good settle beside the other furnace's last one. */
@@ -143,8 +152,7 @@ static void cover_labels(const Play *play, Told *here, const Told *other) {
 /* Counts a 12 where the same call for the other furnace was done, or the other way round. */
 static void cover_12(const Play *play, const Step *step, const Told *other) {
     unsigned refusal = play->last.refusal, before = other->refusal;
-    bool both = other->called && other->kind == step->kind && other->value == step->value;
-    if (!both || !((refusal == 12 && before == 0) || (refusal == 0 && before == 12))) return;
+    if (!was_told(other, step) || !((refusal == 12 && before == 0) || (refusal == 0 && before == 12))) return;
     cases[step->kind == EXPLAIN ? EXPLAINED_TO_ONE : step->kind == GROUND ? GROUND_OF_ONE : BLAME_OF_ONE]++;
 }
 
@@ -153,13 +161,14 @@ static void cover_told(const Play *play, const Step *step) {
     Told *here = &last_told[step->furnace - 1], *other = &last_told[2 - step->furnace];
     told[step->furnace - 1][step->kind][play->last.refusal]++;
     if ((step->kind == HOLD || step->kind == WITHDRAW) && play->last.refusal != 1 && play->last.refusal != 2) cover_premise(play, step);
-    if (step->kind == ASK && play->last.refusal == 0) cover_answer(play, step, here, other);
+    if (asks(step->kind) && play->last.refusal == 0) cover_answer(play, step, here, other);
     if (step->kind == SETTLE && play->last.refusal == 0) cover_labels(play, here, other);
     cover_12(play, step, other);
     here->called = true;
     here->kind = step->kind;
     here->value = step->value;
     here->refusal = play->last.refusal;
+    here->standing = play->last.standing;
 }
 
 /* Counts a call that names no furnace, over premises of both. */

@@ -7,8 +7,8 @@
 /* Cases, each of which has to come up. All up to the furnaces are of literals that were kept; but for one, with premises withdrawn. */
 enum {
     OF_RANK_0, OF_RANK_1, OF_RANK_2, NO_GROUND, CONFLICT_STAYED, CONFLICT_ENDED, NO_CONFLICT, SEVERAL, ALL_OUTSIDE, NOTHING_OUTSIDE, ANOTHER_FELL,
-    ROW_LESS, LABEL_MOVED, OTHER_CHANGED, REFUSED_BETWEEN, TOLD_BETWEEN, FOR_1, FOR_2, OFF_ITS_GROUND, OFF_IN_CONFLICT, ON_AND_FELL, FELL,
-    ANOTHER_SUPPORT, ANOTHER_RANK, ANOTHER_GROUND, RANK_BY_HOLD, SUPPORT_BY_HOLD, RANK_BY_RULE,
+    ROW_LESS, LABEL_MOVED, OLD_ANSWER_MOVED, OTHER_CHANGED, REFUSED_BETWEEN, TOLD_BETWEEN, FOR_1, FOR_2, OFF_ITS_GROUND,
+    OFF_IN_CONFLICT, ON_AND_FELL, FELL, ANOTHER_SUPPORT, ANOTHER_RANK, ANOTHER_GROUND, RANK_BY_HOLD, SUPPORT_BY_HOLD, RANK_BY_RULE,
     CASES
 };
 
@@ -16,10 +16,10 @@ static const char *const case_words[CASES] = {
     "a premise kept", "a literal of rank 1 kept", "a literal of rank 2 or more kept", "an empty ground, premises withdrawn",
     "in conflict before and after", "in conflict before, not after", "no conflict before or after", "several premises withdrawn",
     "all outside the ground withdrawn", "nothing outside the ground to withdraw", "another literal fell", "a row fewer that leads to it",
-    "its label from 3 to its own", "changes for the other furnace between", "a refused call between", "a telling call between",
-    "kept for furnace 1", "kept for furnace 2", "literals off a premise, kept", "the same in conflict", "literals on it that fell",
-    "of its ground withdrawn: falls", "of its ground: another support", "of its ground: another rank", "of its ground: another ground only",
-    "another premise held: another rank", "another held: another support only", "a rule added: another rank"};
+    "its label from 3 to its own", "ask kept, the old answer not", "changes for the other furnace between", "a refused call between",
+    "a telling call between", "kept for furnace 1", "kept for furnace 2", "literals off a premise, kept", "the same in conflict",
+    "literals on it that fell", "of its ground withdrawn: falls", "of its ground: another support", "of its ground: another rank",
+    "of its ground: another ground only", "another premise held: another rank", "another held: another support only", "a rule added: another rank"};
 
 static unsigned long cases[CASES], literals, premises, compared;
 
@@ -63,6 +63,7 @@ static void cover_meanwhile(const Play *play, const Trial *trial) {
     cases[ANOTHER_FELL] += another_fell(trial);
     cases[ROW_LESS] += rows_to(play, trial->literal, now->ranks) < rows_to(play, trial->literal, was->ranks);
     cases[LABEL_MOVED] += was->labels[symbol] == 3 && now->labels[symbol] != 3;
+    cases[OLD_ANSWER_MOVED] += now->answer.standing == was->answer.standing && now->whole.standing != was->whole.standing;
     cases[OTHER_CHANGED] += trial->others > 0;
     cases[REFUSED_BETWEEN] += trial->refused > 0;
     cases[TOLD_BETWEEN] += trial->telling > 0;

@@ -1,5 +1,5 @@
-/* The boards to try of document 01 and the places of document 02's Ticket 1: what they say of each, held against the model and the
- * library alike. The first rule of a board has number 1, by Ticket 8. */
+/* The boards to try of document 01, with ask by symbol and its old answer as document 02's Ticket 11 has them, and the places of Ticket 1: what they
+ * say of each, held against the model and the library alike. The first rule of a board has number 1, by Ticket 8. */
 #include "document.h"
 
 #include "tries.h"
@@ -82,9 +82,14 @@ static bool add_rule(Play *play, const char *bytes, size_t length) {
     return make_rule(play, bytes, length, TABLE_LENDABLE, 0, NO_PLACE);
 }
 
-/* Plays one ask. */
+/* Plays both calls that ask; true if ask answers so, and the call for the whole board as given after it. */
+static bool ask_both(Play *play, int literal, unsigned standing, unsigned whole) {
+    return make(play, ASK, literal, 0) && play->last.standing == standing && make(play, ASK_WHOLE, literal, 0) && play->last.standing == whole;
+}
+
+/* The same where there is no conflict: both answer alike. */
 static bool ask(Play *play, int literal, unsigned standing) {
-    return make(play, ASK, literal, 0) && play->last.standing == standing;
+    return ask_both(play, literal, standing, standing);
 }
 
 /* Tries one rule: its rows, then just the rows it needs, then one number less. */
@@ -148,21 +153,34 @@ static bool try_circle(Play *play) {
     return good || wrong(play, "a circle");
 }
 
-/* Both signs held. */
+/* Both signs held: the other symbols are open, and in conflict by the old answer. */
 static bool try_both_signs(Play *play) {
     play_start(play, 4, true);
     bool good = make(play, OPEN, 3, 0) && make(play, HOLD, 3, 0) && make(play, HOLD, -3, 0) && make(play, SETTLE, 0, 0) &&
-                play->ours.labels[GUARD + 2] == 3 && ask(play, 1, IN_CONFLICT) && make(play, BLAME, 0, 0) &&
+                play->ours.labels[GUARD + 2] == 3 && ask_both(play, 3, IN_CONFLICT, IN_CONFLICT) && ask_both(play, -3, IN_CONFLICT, IN_CONFLICT) &&
+                ask_both(play, 1, IS_OPEN, IN_CONFLICT) && ask_both(play, -2, IS_OPEN, IN_CONFLICT) && make(play, BLAME, 0, 0) &&
                 try_marked(play, (int[]){3, -3}, 2);
     return good || wrong(play, "hold 3 and -3");
+}
+
+/* The printed journal, line by line, with line 11 as Ticket 11 changes it: 4 is open, and in conflict by the old answer. */
+static bool try_printed(Play *play) {
+    play_start(play, 22, true);
+    bool good = make(play, OPEN, 4, 0) && add_rule(play, BYTES("\x14\x10\x01\x10\x02")) && play->board.rows == 1 &&
+                add_rule(play, BYTES("\x14\x12\x10\x02\x10\x03\x10\x04")) && play->board.rows == 2 && make(play, HOLD, 1, 0) &&
+                make(play, HOLD, 3, 0) && ask(play, 4, STANDS) && make(play, EXPLAIN, 4, 0) && play->last.rank == 2 && play->last.row == 1 &&
+                try_has_row(play, 1, (int16_t[ROW_LITERALS]){-2, -3, 4}, 2) && make(play, WITHDRAW, 1, 0) && ask(play, 4, IS_OPEN) &&
+                make(play, HOLD, -3, 0) && ask_both(play, 4, IS_OPEN, IN_CONFLICT);
+    return good || wrong(play, "the printed journal");
 }
 
 /* The lowest number, asked and in a row in use; and the counts at the ends. */
 static bool try_counts(Play *play) {
     play_start(play, 5, true);
-    bool good = make(play, OPEN, 0, 2) && make(play, OPEN, 201, 2) && make(play, OPEN, 200, 0) && make(play, ASK, -32768, 2);
+    bool good = make(play, OPEN, 0, 2) && make(play, OPEN, 201, 2) && make(play, OPEN, 200, 0) && make(play, ASK, -32768, 2) &&
+                make(play, ASK_WHOLE, -32768, 2);
     try_row(play, (int16_t[ROW_LITERALS]){-32768});
-    good = good && make(play, ASK, 1, 1) && make(play, ASK, -32768, 1);
+    good = good && make(play, ASK, 1, 1) && make(play, ASK, -32768, 1) && make(play, ASK_WHOLE, 1, 1) && make(play, ASK_WHOLE, -32768, 1);
     return good || wrong(play, "-32768, S of 0, 200 and 201");
 }
 
@@ -175,7 +193,8 @@ static bool try_longest(Play *play) {
 
 /* True if all boards to try, and all places, come out as the documents say. */
 bool document_agrees(Play *play) {
-    bool good = try_together(play) && try_circle(play) && try_both_signs(play) && try_counts(play) && try_bad_board(play) && try_longest(play);
+    bool good = try_together(play) && try_circle(play) && try_both_signs(play) && try_printed(play) && try_counts(play) && try_bad_board(play) &&
+                try_longest(play);
     for (size_t i = 0; i < sizeof tries / sizeof tries[0]; i++) good = good && try_rule(play, &tries[i]);
     return good;
 }

@@ -1,4 +1,4 @@
-/* The boards to try of document 01 and the places of document 02's Ticket 1, on both sides. */
+/* The boards to try of document 01 and its printed journal, with the places and answers of document 02's Tickets 1 and 11, on both sides. */
 #ifndef DOCUMENT_H
 #define DOCUMENT_H
 

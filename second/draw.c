@@ -37,12 +37,12 @@ static const unsigned sort_weights[STYLES][SORTS] = {
 enum { AT_FIRST, LATER, AMONG_CAUSES, TIMES };
 
 static const unsigned call_weights[TIMES][CALLS] = {
-    {[OPEN] = 3, [RULE] = 90, [TEXT_RULE] = 40, [READ] = 30, [HOLD] = 74, [WITHDRAW] = 14, [SETTLE] = 20, [ASK] = 10, [EXPLAIN] = 10, [GROUND] = 10,
-     [BLAME] = 5, [SMALLEST] = 8, [WRITE] = 10, [TO_BYTES] = 16, [TO_TEXT] = 14},
-    {[OPEN] = 5, [RULE] = 20, [TEXT_RULE] = 14, [READ] = 20, [HOLD] = 44, [WITHDRAW] = 26, [SETTLE] = 40, [ASK] = 28, [EXPLAIN] = 26, [GROUND] = 26,
-     [BLAME] = 16, [SMALLEST] = 20, [WRITE] = 16, [TO_BYTES] = 16, [TO_TEXT] = 14},
-    {[OPEN] = 1, [RULE] = 10, [TEXT_RULE] = 6, [READ] = 4, [HOLD] = 40, [WITHDRAW] = 20, [SETTLE] = 12, [ASK] = 10, [EXPLAIN] = 8, [GROUND] = 12,
-     [BLAME] = 8, [SMALLEST] = 180, [WRITE] = 2, [TO_BYTES] = 2, [TO_TEXT] = 2}};
+    {[OPEN] = 3, [RULE] = 90, [TEXT_RULE] = 40, [READ] = 30, [HOLD] = 74, [WITHDRAW] = 14, [SETTLE] = 20, [ASK] = 10, [ASK_WHOLE] = 8,
+     [EXPLAIN] = 10, [GROUND] = 10, [BLAME] = 5, [SMALLEST] = 8, [WRITE] = 10, [TO_BYTES] = 16, [TO_TEXT] = 14},
+    {[OPEN] = 5, [RULE] = 20, [TEXT_RULE] = 14, [READ] = 20, [HOLD] = 44, [WITHDRAW] = 26, [SETTLE] = 40, [ASK] = 28, [ASK_WHOLE] = 20,
+     [EXPLAIN] = 26, [GROUND] = 26, [BLAME] = 16, [SMALLEST] = 20, [WRITE] = 16, [TO_BYTES] = 16, [TO_TEXT] = 14},
+    {[OPEN] = 1, [RULE] = 10, [TEXT_RULE] = 6, [READ] = 4, [HOLD] = 40, [WITHDRAW] = 20, [SETTLE] = 12, [ASK] = 10, [ASK_WHOLE] = 6,
+     [EXPLAIN] = 8, [GROUND] = 12, [BLAME] = 8, [SMALLEST] = 180, [WRITE] = 2, [TO_BYTES] = 2, [TO_TEXT] = 2}};
 
 /* A count of symbols that suits the style. */
 static unsigned draw_symbols(Random *random, unsigned style) {
@@ -156,6 +156,18 @@ static int draw_premise(Draft *draft, const Play *play, unsigned furnace, bool h
     return literal;
 }
 
+/* A literal for a call that asks: every other time one that stands or is ruled out for the furnace, beside a conflict or not, if there is one. */
+static int draw_asked(Draft *draft, const Play *play, unsigned furnace) {
+    Random *random = &draft->random;
+    bool good = board_is_good(&play->board, play->ours.table + GUARD, TABLE_LENDABLE);
+    if (!good || random_chance(random, 50)) return draw_literal(draft, play);
+    Findings found = propagate(&play->board, furnace, play->ours.table + GUARD);
+    unsigned count = 0, taken = 0;
+    for (unsigned s = 1; s <= play->board.symbols; s++)
+        if ((label_of(&found, s) == 1 || label_of(&found, s) == 2) && random_below(random, ++count) == 0) taken = s;
+    return count == 0 ? draw_literal(draft, play) : literal_at(2 * (taken - 1) + random_below(random, 2));
+}
+
 /* The literal that suits a call, or now and then none at all; often none where the furnace is none either. */
 static void draw_given_literal(Draft *draft, const Play *play, Step *step) {
     Random *random = &draft->random;
@@ -172,6 +184,8 @@ static void draw_given_literal(Draft *draft, const Play *play, Step *step) {
         step->value = draw_premise(draft, play, furnace, step->kind == WITHDRAW);
     } else if ((step->kind == EXPLAIN || step->kind == GROUND) && pass) {
         step->value = draw_derived(draft, play, furnace, step->kind == GROUND && random_chance(random, 20));
+    } else if (asks(step->kind)) {
+        step->value = draw_asked(draft, play, furnace);
     } else {
         step->value = draw_literal(draft, play);
     }
@@ -273,10 +287,10 @@ static int draw_opening(Draft *draft) {
     return bad[random_below(&draft->random, 6)];
 }
 
-/* Fills in all that a call is given. */
-static void draw_call(Draft *draft, const Play *play, Step *step) {
+/* Fills in all that a call is given; with this chance in a hundred it names no furnace, where it is to name one. */
+static void draw_call(Draft *draft, const Play *play, Step *step, unsigned no_furnace) {
     step->numbers = draw_numbers(draft, play);
-    if (names_furnace(step->kind)) name_furnace(draft, step);
+    if (names_furnace(step->kind)) name_furnace(draft, step, no_furnace);
     switch (step->kind) {
     case OPEN: step->value = draw_opening(draft); break;
     case RULE: case TEXT_RULE: case TO_BYTES: case TO_TEXT: draw_rule(draft, play, step); break;
@@ -293,8 +307,7 @@ static void add_damaged_call(Draft *draft, const Play *play) {
     Step call = *add_step(draft, (Kind)random_between(&draft->random, RULE, CALLS - 1)), undo[2];
     unsigned undone = 0;
     draft->count--;
-    draw_call(draft, play, &call);
-    if (names_furnace(call.kind) && random_chance(&draft->random, 12)) name_no_furnace(draft, &call);
+    draw_call(draft, play, &call, 16);
     call.damage = draw_damage(draft, play);
     call.faults++;
     add_damage(draft, play, (Damage)call.damage, &call, undo, &undone);
@@ -322,7 +335,7 @@ static void add_call(Draft *draft, const Play *play) {
         bool later = draft->style != PACKED && (draft->calls < 12 || draft->style == ROWS || draft->style == FULL || draft->style == KNOTS);
         unsigned time = draft->style == CAUSES ? AMONG_CAUSES : later ? LATER : AT_FIRST;
         Step *step = add_step(draft, (Kind)random_weighted(random, call_weights[time], CALLS));
-        draw_call(draft, play, step);
+        draw_call(draft, play, step, 5);
     }
 }
 

@@ -7,16 +7,16 @@ static unsigned draw_furnace(Draft *draft) {
 }
 
 /* Names a number that is no furnace's. */
-void name_no_furnace(Draft *draft, Step *step) {
+static void name_no_furnace(Draft *draft, Step *step) {
     static const unsigned bad[] = {0, 3, 255};
     unsigned sort = random_below(&draft->random, 4);
     step->furnace = sort < 3 ? bad[sort] : random_between(&draft->random, 4, 254);
     step->faults++;
 }
 
-/* Names a furnace in the step, or now and then neither of the two. */
-void name_furnace(Draft *draft, Step *step) {
-    if (random_chance(&draft->random, 5)) name_no_furnace(draft, step);
+/* Names a furnace in the step, or with this chance in a hundred neither of the two. */
+void name_furnace(Draft *draft, Step *step, unsigned chance) {
+    if (random_chance(&draft->random, chance)) name_no_furnace(draft, step);
     else step->furnace = draw_furnace(draft);
 }
 
@@ -51,11 +51,11 @@ void add_hold(Draft *draft, int literal) {
 /* Adds a call for the other furnace than that of the last call, with its literal if it was given one, of the same kind or another; false where the
  * last step was no call that names a furnace. */
 bool add_echo(Draft *draft) {
-    static const Kind kinds[] = {HOLD, WITHDRAW, ASK, ASK, ASK, EXPLAIN, GROUND};
+    static const Kind kinds[] = {HOLD, WITHDRAW, ASK, ASK, ASK_WHOLE, ASK_WHOLE, EXPLAIN, GROUND};
     const Step last = draft->steps[draft->count - 1];
     Kind kind = last.kind;
     if (!names_furnace(kind) || !is_furnace(last.furnace)) return false;
-    if (kind != SETTLE && kind != BLAME && random_chance(&draft->random, 60)) kind = kinds[random_below(&draft->random, 7)];
+    if (kind != SETTLE && kind != BLAME && random_chance(&draft->random, 60)) kind = kinds[random_below(&draft->random, 8)];
     Step *step = add_step(draft, kind);
     step->furnace = 3 - last.furnace;
     step->value = last.value;

@@ -4,8 +4,7 @@
 
 #include "draft.h"
 
-void name_furnace(Draft *draft, Step *step);
-void name_no_furnace(Draft *draft, Step *step);
+void name_furnace(Draft *draft, Step *step, unsigned chance);
 unsigned furnace_meant(const Step *step);
 int draw_telling(Draft *draft, const Play *play, const Step *step, bool pass);
 void add_hold(Draft *draft, int literal);

@@ -3,10 +3,10 @@
 
 #include "tries.h"
 
-enum { TRY_ROWS = 2, MOVES = 24, MARKED = 2, NUMBERS_OF_FURNACES = 256 };
+enum { TRY_ROWS = 2, MOVES = 32, MARKED = 2, NUMBERS_OF_FURNACES = 256 };
 
-/* A call: the furnace it names and its literal, or the count for open; then the refusal, the answer to an ask or the label that a settle gives symbol
- * S, and the premises that a ground or a blame marks. */
+/* A call: the furnace it names and its literal, or the count for open; then the refusal, the answer to a call that asks or the label that a settle
+ * gives symbol S, and the premises that a ground or a blame marks. */
 typedef struct Move {
     Kind kind;
     unsigned furnace;
@@ -34,15 +34,18 @@ static const Try tries[] = {
     {"the opposite held for the other furnace", 3, {{0}},
      {{HOLD, 1, 3, 0, 0, {0}}, {HOLD, 2, -3, 0, 0, {0}}, {SETTLE, 1, 0, 0, 1, {0}}, {SETTLE, 2, 0, 0, 2, {0}}, {ASK, 1, 3, 0, STANDS, {0}},
       {ASK, 2, 3, 0, RULED_OUT, {0}}, {BLAME, 1, 0, 12, 0, {0}}, {BLAME, 2, 0, 12, 0, {0}}, {HOLD, 1, -3, 0, 0, {0}}, {SETTLE, 1, 0, 0, 3, {0}},
-      {SETTLE, 2, 0, 0, 2, {0}}, {ASK, 1, 1, 0, IN_CONFLICT, {0}}, {ASK, 2, 1, 0, IS_OPEN, {0}}, {BLAME, 1, 0, 0, 0, {3, -3}},
-      {BLAME, 2, 0, 12, 0, {0}}, {WITHDRAW, 2, -3, 0, 0, {0}}, {ASK, 1, 1, 0, IN_CONFLICT, {0}}, {ASK, 2, 3, 0, IS_OPEN, {0}},
-      {HOLD, 2, -3, 0, 0, {0}}, {WITHDRAW, 1, 3, 0, 0, {0}}, {ASK, 1, -3, 0, STANDS, {0}}, {ASK, 2, -3, 0, STANDS, {0}}}},
+      {SETTLE, 2, 0, 0, 2, {0}}, {ASK, 1, 3, 0, IN_CONFLICT, {0}}, {ASK, 2, 3, 0, RULED_OUT, {0}}, {ASK, 1, 1, 0, IS_OPEN, {0}},
+      {ASK_WHOLE, 1, 1, 0, IN_CONFLICT, {0}}, {ASK_WHOLE, 2, 1, 0, IS_OPEN, {0}}, {ASK_WHOLE, 2, -3, 0, STANDS, {0}}, {BLAME, 1, 0, 0, 0, {3, -3}},
+      {BLAME, 2, 0, 12, 0, {0}}, {WITHDRAW, 2, -3, 0, 0, {0}}, {ASK, 1, -3, 0, IN_CONFLICT, {0}}, {ASK_WHOLE, 1, 1, 0, IN_CONFLICT, {0}},
+      {ASK, 2, 3, 0, IS_OPEN, {0}}, {ASK_WHOLE, 2, 3, 0, IS_OPEN, {0}}, {HOLD, 2, -3, 0, 0, {0}}, {WITHDRAW, 1, 3, 0, 0, {0}},
+      {ASK, 1, -3, 0, STANDS, {0}}, {ASK, 2, -3, 0, STANDS, {0}}, {ASK_WHOLE, 1, -3, 0, STANDS, {0}}}},
     {"premises of both furnaces that together would lead on", 3, {{-1, -2, 3}},
      {{HOLD, 1, 1, 0, 0, {0}}, {HOLD, 2, 2, 0, 0, {0}}, {ASK, 1, 3, 0, IS_OPEN, {0}}, {ASK, 2, 3, 0, IS_OPEN, {0}}, {HOLD, 2, 1, 0, 0, {0}},
       {ASK, 1, 3, 0, IS_OPEN, {0}}, {ASK, 2, 3, 0, STANDS, {0}}, {GROUND, 2, 3, 0, 0, {1, 2}}, {GROUND, 1, 3, 12, 0, {0}}}},
     {"rules that are in conflict for both furnaces", 2, {{1}, {-1}},
-     {{BLAME, 1, 0, 0, 0, {0}}, {BLAME, 2, 0, 0, 0, {0}}, {HOLD, 2, 2, 0, 0, {0}}, {ASK, 1, 2, 0, IN_CONFLICT, {0}},
-      {ASK, 2, 2, 0, IN_CONFLICT, {0}}, {BLAME, 1, 0, 0, 0, {0}}, {BLAME, 2, 0, 0, 0, {0}}}},
+     {{BLAME, 1, 0, 0, 0, {0}}, {BLAME, 2, 0, 0, 0, {0}}, {HOLD, 2, 2, 0, 0, {0}}, {ASK, 1, 2, 0, IS_OPEN, {0}}, {ASK, 2, 2, 0, STANDS, {0}},
+      {ASK, 1, 1, 0, IN_CONFLICT, {0}}, {ASK, 2, -1, 0, IN_CONFLICT, {0}}, {ASK_WHOLE, 1, 2, 0, IN_CONFLICT, {0}},
+      {ASK_WHOLE, 2, 2, 0, IN_CONFLICT, {0}}, {BLAME, 1, 0, 0, 0, {0}}, {BLAME, 2, 0, 0, 0, {0}}}},
     {"the last places of the one set and the first of the other", 200, {{0}},
      {{HOLD, 1, -200, 0, 0, {0}}, {ASK, 2, 1, 0, IS_OPEN, {0}}, {WITHDRAW, 2, 1, 11, 0, {0}}, {HOLD, 2, 1, 0, 0, {0}},
       {ASK, 1, 1, 0, IS_OPEN, {0}}, {ASK, 2, -200, 0, IS_OPEN, {0}}, {HOLD, 2, -200, 0, 0, {0}}, {HOLD, 1, 1, 0, 0, {0}},
@@ -50,12 +53,14 @@ static const Try tries[] = {
       {ASK, 1, 200, 0, IS_OPEN, {0}}}},
     {"16 ahead of 2, 10, 11 and 12", 2, {{0}},
      {{HOLD, 1, 1, 0, 0, {0}}, {HOLD, 2, 1, 0, 0, {0}}, {HOLD, 0, 1, 16, 0, {0}}, {HOLD, 3, 3, 16, 0, {0}}, {WITHDRAW, 3, 2, 16, 0, {0}},
-      {WITHDRAW, 255, 1, 16, 0, {0}}, {ASK, 0, 0, 16, 0, {0}}, {ASK, 2, 0, 2, 0, {0}}, {EXPLAIN, 3, -32768, 16, 0, {0}},
+      {WITHDRAW, 255, 1, 16, 0, {0}}, {ASK, 0, 0, 16, 0, {0}}, {ASK, 2, 0, 2, 0, {0}}, {ASK_WHOLE, 3, 0, 16, 0, {0}},
+      {ASK_WHOLE, 1, 3, 2, 0, {0}}, {EXPLAIN, 3, -32768, 16, 0, {0}},
       {EXPLAIN, 1, -32768, 2, 0, {0}}, {GROUND, 128, 2, 16, 0, {0}}, {BLAME, 254, 0, 16, 0, {0}}, {SETTLE, 129, 0, 16, 0, {0}}}},
     {"opening, done and refused, over premises of both", 2, {{0}},
      {{HOLD, 1, 1, 0, 0, {0}}, {HOLD, 2, 2, 0, 0, {0}}, {OPEN, 0, 2, 0, 0, {0}}, {WITHDRAW, 1, 1, 11, 0, {0}}, {WITHDRAW, 2, 2, 11, 0, {0}},
       {HOLD, 1, 2, 0, 0, {0}}, {HOLD, 2, 1, 0, 0, {0}}, {OPEN, 0, 201, 2, 0, {0}}, {ASK, 1, 1, 1, 0, {0}}, {ASK, 3, 1, 1, 0, {0}},
-      {OPEN, 0, 1, 0, 0, {0}}, {ASK, 1, 1, 0, IS_OPEN, {0}}, {ASK, 2, 1, 0, IS_OPEN, {0}}, {HOLD, 1, 2, 2, 0, {0}}}},
+      {ASK_WHOLE, 2, 1, 1, 0, {0}}, {ASK_WHOLE, 0, 0, 1, 0, {0}}, {OPEN, 0, 1, 0, 0, {0}}, {ASK, 1, 1, 0, IS_OPEN, {0}},
+      {ASK, 2, 1, 0, IS_OPEN, {0}}, {HOLD, 1, 2, 2, 0, {0}}}},
 };
 
 /* Makes a call with so many places of each table to write; false where the sides differ or the refusal is another. */
@@ -82,7 +87,7 @@ static void set_held(Play *play, unsigned furnace, int literal, int byte) {
 static bool move_agrees(Play *play, const Move *move) {
     if (!try_call(play, move->kind, move->furnace, move->value, move->refusal)) return false;
     if (move->refusal != 0) return true;
-    if (move->kind == ASK) return play->last.standing == move->answer;
+    if (asks(move->kind)) return play->last.standing == move->answer;
     if (move->kind == SETTLE) return play->ours.labels[GUARD + play->board.symbols - 1] == move->answer;
     return (move->kind != GROUND && move->kind != BLAME) || try_marked(play, move->marked, MARKED);
 }

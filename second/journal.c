@@ -1,5 +1,5 @@
 /* The journal program by document 01, its lines with a place by document 02's Ticket 1, over the model; and random journals for it. By Ticket 6 it
- * works furnace 1. */
+ * works furnace 1, and by Ticket 11 its `ask` answers by symbol. */
 #include "journal.h"
 
 #include <stdio.h>
@@ -17,6 +17,7 @@ enum { STOP_END, STOP_KIND, STOP_BODY, STOP_FORMULA, STOP_BOARD, STOP_LONG, STOP
 static const char *const command_words[COMMANDS] = {"", "open", "rule", "hold", "drop", "ask", "why"};
 static const char *const stop_words[STOPS] = {"end of input", "unknown command", "body cut short", "formula", "refusal 1", "input too long"};
 static unsigned long lines[COMMANDS][NUMBERS], standings[4], stops[STOPS], cut_bodies[COMMANDS];
+static unsigned long beside[4];                  /* standings told on boards in conflict */
 static unsigned long far_breaks[6], breaks_at_0; /* at places of two digits or more, by refusal; at place 0 */
 
 /* The refusals a command can give, its cut body apart. */
@@ -77,16 +78,28 @@ static void print_reason(const Reader *reader, const Outcome *outcome) {
     fprintf(reader->out, "\n");
 }
 
+/* The literal of a body, low byte first. */
+static int literal_in(const uint8_t *body) {
+    int literal = body[0] + 256 * body[1];
+    return literal > 32767 ? literal - 65536 : literal;
+}
+
 /* Makes the call of a command with a body. */
 static Outcome call(Reader *reader, unsigned command, const uint8_t *body) {
     size_t numbers = MOST_ROWS * WIDTH;
     if (command == C_OPEN) return model_open(&reader->board, body[0]);
-    int literal = body[0] + 256 * body[1];
-    if (literal > 32767) literal -= 65536;
+    int literal = literal_in(body);
     if (command == C_HOLD) return model_hold(&reader->board, reader->table, numbers, FURNACE, literal);
     if (command == C_DROP) return model_withdraw(&reader->board, reader->table, numbers, FURNACE, literal);
     if (command == C_ASK) return model_ask(&reader->board, reader->table, numbers, FURNACE, literal);
     return model_explain(&reader->board, reader->table, numbers, FURNACE, literal);
+}
+
+/* Counts an answer, and once more on a board in conflict, where document 01 had one answer for every literal. */
+static void count_answer(const Reader *reader, int literal, unsigned standing) {
+    Outcome whole = model_ask_whole(&reader->board, reader->table, MOST_ROWS * WIDTH, FURNACE, literal);
+    standings[standing]++;
+    beside[standing] += whole.standing == IN_CONFLICT;
 }
 
 /* Runs a command with a body. Says whether the program stops. */
@@ -99,9 +112,9 @@ static int run_call(Reader *reader, unsigned command) {
         return STOP_BODY;
     }
     Outcome outcome = call(reader, command, reader->bytes + reader->at);
+    if (outcome.refusal == 0 && command == C_ASK) count_answer(reader, literal_in(reader->bytes + reader->at), outcome.standing);
     reader->at += body;
     lines[command][outcome.refusal]++;
-    if (outcome.refusal == 0 && command == C_ASK) standings[outcome.standing]++;
     if (outcome.refusal != 0) fprintf(reader->out, "no %u\n", outcome.refusal);
     else if (command == C_ASK) fprintf(reader->out, "%s\n", answers[outcome.standing]);
     else if (command == C_WHY) print_reason(reader, &outcome);
@@ -248,6 +261,15 @@ static void write_full(Script *script) {
     put_command(script, C_WHY, 8);
 }
 
+/* Holds both signs of 1, 2 and -3, and asks for every literal: 1 is in conflict, 2 stands, 3 is ruled out and 4 is open. */
+static void write_answers(Script *script) {
+    static const int held[] = {1, -1, 2, -3};
+    put(script, C_OPEN);
+    put(script, 4);
+    for (unsigned i = 0; i < 4; i++) put_command(script, C_HOLD, held[i]);
+    for (unsigned p = 0; p < 8; p++) put_command(script, C_ASK, literal_at(p));
+}
+
 /* Writes asks to just so many bytes. */
 static void write_length(Script *script, size_t length) {
     put(script, C_OPEN);
@@ -282,6 +304,7 @@ static void write_script(Script *script, uint64_t seed, uint64_t n) {
     case 8: put(script, C_OPEN), put(script, 0), put(script, C_RULE), put(script, 0x10), put(script, 1); break;
     case 9: put(script, C_OPEN), put(script, 4), put(script, C_RULE); break;
     case 10: case 11: case 12: case 13: write_broken(script, (unsigned)n - 8); break;
+    case 14: write_answers(script); break;
     default: write_random(script);
     }
 }
@@ -301,7 +324,10 @@ static bool all_came_up(void) {
         if (c != C_RULE) whole &= came_up(cut_bodies[c], "body cut, 3", command_words[c], 0);
         for (unsigned i = 0; can_give[c][i] != 0; i++) whole &= came_up(lines[c][can_give[c][i]], "refusal", command_words[c], can_give[c][i]);
     }
-    for (unsigned s = 0; s < 4; s++) whole &= came_up(standings[s], "standing", "ask", s);
+    for (unsigned s = 0; s < 4; s++) {
+        whole &= came_up(standings[s], "standing", "ask", s);
+        whole &= came_up(beside[s], "on a board in conflict, standing", "ask", s);
+    }
     for (unsigned s = 0; s < STOPS; s++) whole &= came_up(stops[s], stop_words[s], "stop:", s);
     return whole;
 }
@@ -318,8 +344,21 @@ static void print_counts(void) {
     }
     printf("places of two digits or more for 2 to 5: %lu %lu %lu %lu; places 0: %lu\n", far_breaks[2], far_breaks[3], far_breaks[4],
            far_breaks[5], breaks_at_0);
-    printf("ask open %lu, stands %lu, out %lu, conflict %lu\nstopped at:", standings[0], standings[1], standings[2], standings[3]);
+    printf("ask open %lu, stands %lu, out %lu, conflict %lu; in a conflict open %lu, stands %lu, out %lu\nstopped at:", standings[IS_OPEN],
+           standings[STANDS], standings[RULED_OUT], standings[IN_CONFLICT], beside[IS_OPEN], beside[STANDS], beside[RULED_OUT]);
     for (unsigned s = 0; s < STOPS; s++) printf(" %s %lu%s", stop_words[s], stops[s], s + 1 < STOPS ? "," : "\n");
+}
+
+/* True if the lines written are just those that document 01 prints, with line 11 as Ticket 11 changes it; says where they are not. */
+static bool are_printed(FILE *out) {
+    static const char printed[] = "1 open ok\n2 rule rows 0 1\n3 rule rows 1 1\n4 hold ok\n5 hold ok\n6 ask stands\n7 why rank 2 row 1: -2 -3 4\n"
+                                  "8 drop ok\n9 ask open\n10 hold ok\n11 ask open\n";
+    char written[sizeof printed];
+    rewind(out);
+    size_t length = fread(written, 1, sizeof written, out);
+    if (length == sizeof printed - 1 && memcmp(written, printed, length) == 0) return true;
+    printf("second: the journal in document 01 has other lines by the model\n");
+    return false;
 }
 
 /* Writes the journals and their lines; from 200 on, all that can come up has to. */
@@ -331,7 +370,8 @@ int write_journals(const char *directory, uint64_t seed, uint64_t count) {
         write_script(&script, seed, n);
         fwrite(script.bytes, 1, script.length, in);
         expect(script.bytes, script.length, out);
-        if (fclose(in) != 0 || fclose(out) != 0) return 2;
+        bool printed = n != 0 || are_printed(out);
+        if (fclose(in) != 0 || fclose(out) != 0 || !printed) return 2;
     }
     print_counts();
     if (count >= WHOLE_FROM && !all_came_up()) return 2;

@@ -1,4 +1,4 @@
-/* The library's side of a step: each call with exactly what the step lends. */
+/* The library's side of a step: each call with exactly what the step lends. And settle beside a step, with ample tables of its own. */
 #include "steps.h"
 
 /* A pointer for a count; with a count of 0 it is null every other time. */
@@ -71,10 +71,22 @@ static Outcome call_settle(const Step *step, const tup_board *board, const int16
                                            LENT(tables->supports + GUARD, lent[2], step), lent[2])};
 }
 
+/* The outcome of either call that asks. */
+static Outcome answered(tup_answer answer) {
+    return (Outcome){.refusal = answer.refusal, .standing = answer.standing};
+}
+
 /* Explains. */
 static Outcome call_explain(const Step *step, const tup_board *board, const int16_t *table) {
     tup_reason reason = tup_explain(*board, table, step->numbers, (uint8_t)step->furnace, (int16_t)step->value);
     return (Outcome){.refusal = reason.refusal, .literals = reason.literals, .rank = reason.rank, .row = reason.row, .rule = reason.rule};
+}
+
+/* Settles a board for a furnace beside a step. */
+Settled library_settle(const tup_board *board, const int16_t *table, size_t numbers, unsigned furnace) {
+    Settled said;
+    said.refusal = tup_settle(*board, table, numbers, (uint8_t)furnace, said.labels, MOST_SYMBOLS, said.ranks, PLACES, said.supports, PLACES);
+    return said;
 }
 
 /* Makes the step's call on the library's board and tables. */
@@ -83,7 +95,6 @@ Outcome library_call(const Step *step, tup_board *board, Tables *tables) {
     uint8_t *marks = LENT(tables->marks + GUARD, step->lent[0], step), *formula = tables->formula + GUARD, *text = tables->text + GUARD;
     int16_t literal = (int16_t)step->value;
     uint8_t furnace = (uint8_t)step->furnace;
-    tup_answer answer;
     switch (step->kind) {
     case OPEN: return changed(tup_open((uint16_t)step->value), board);
     case RULE: return call_rule(step, board, table, formula);
@@ -96,9 +107,8 @@ Outcome library_call(const Step *step, tup_board *board, Tables *tables) {
     case HOLD: return changed(tup_hold(*board, table, step->numbers, furnace, literal), board);
     case WITHDRAW: return changed(tup_withdraw(*board, table, step->numbers, furnace, literal), board);
     case SETTLE: return call_settle(step, board, table, tables);
-    case ASK:
-        answer = tup_ask(*board, table, step->numbers, furnace, literal);
-        return (Outcome){.refusal = answer.refusal, .standing = answer.standing};
+    case ASK: return answered(tup_ask(*board, table, step->numbers, furnace, literal));
+    case ASK_WHOLE: return answered(tup_ask_whole(*board, table, step->numbers, furnace, literal));
     case EXPLAIN: return call_explain(step, board, table);
     case GROUND: return (Outcome){.refusal = tup_ground(*board, table, step->numbers, furnace, literal, marks, step->lent[0])};
     default: return (Outcome){.refusal = tup_blame(*board, table, step->numbers, furnace, marks, step->lent[0])};

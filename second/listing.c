@@ -55,13 +55,10 @@ bool list_is_bounded(Play *play, const Step *step, unsigned count, const uint16_
 
 /* Settles the copy by the library; false where that is refused. */
 static bool settle(Play *play, const Step *step, Copy *copy) {
-    uint8_t labels[MOST_SYMBOLS];
-    uint16_t ranks[PLACES], supports[PLACES];
-    unsigned refusal = tup_settle(copy->board, play->theirs.table + GUARD, step->numbers, (uint8_t)copy->furnace, labels, MOST_SYMBOLS, ranks, PLACES,
-                                  supports, PLACES);
-    if (!same(play, "sets held alone, refusal of settle", NONE, refusal, 0)) return false;
-    copy->derives = ranks[place_of(step->value)] != NONE;
-    copy->conflict = memchr(labels, 3, copy->board.symbols) != NULL;
+    Settled said = library_settle(&copy->board, play->theirs.table + GUARD, step->numbers, copy->furnace);
+    if (!same(play, "sets held alone, refusal of settle", NONE, said.refusal, 0)) return false;
+    copy->derives = said.ranks[place_of(step->value)] != NONE;
+    copy->conflict = memchr(said.labels, 3, copy->board.symbols) != NULL;
     return true;
 }
 

@@ -1,5 +1,6 @@
 /* The nine calls by document 01, a rule's places, blame's symbol and the two furnaces by document 02's Tickets 1, 4 and 6, no limit to the rounds by
- * Ticket 7, and the numbers of the rules by Ticket 8: what each tests, in its order, what it returns and what it writes. */
+ * Ticket 7, the numbers of the rules by Ticket 8, and ask by symbol, with its old answer as one call more, by Ticket 11: what each tests, in its
+ * order, what it returns and what it writes. */
 #include "model.h"
 
 #include <string.h>
@@ -168,15 +169,35 @@ Outcome model_settle(const Board *board, const int16_t *table, size_t numbers, u
     return outcome(0);
 }
 
-/* How a literal stands. */
-Outcome model_ask(const Board *board, const int16_t *table, size_t numbers, unsigned furnace, int literal) {
+/* What both calls that ask share; they differ in where they answer conflict. Both are refused by document 01's "Order: 1, then 2 for a given
+ * literal", with Ticket 6's "16 for a furnace number other than 1 or 2, just after 1" between the two; refused, the standing is IS_OPEN, by the C
+ * interface. */
+static Outcome answer_for(const Board *board, const int16_t *table, size_t numbers, unsigned furnace, int literal, bool whole) {
     unsigned refusal = literal_tests(board, table, numbers, furnace, literal);
     if (refusal != 0) return outcome(refusal);
+    /* Ticket 6: "Every call but open and adding a rule names a furnace"; "From here demands 2 and 3 read the named furnace's premises". */
     Findings found = propagate(board, furnace, table);
-    if (first_conflict(board, &found) != 0) return (Outcome){.standing = IN_CONFLICT};
-    if (derived(&found, place_of(literal))) return (Outcome){.standing = STANDS};
-    if (derived(&found, place_of(-literal))) return (Outcome){.standing = RULED_OUT};
-    return (Outcome){.standing = IS_OPEN};
+    /* Document 01: "The opposite of a literal is its negation". */
+    bool itself = derived(&found, place_of(literal)), opposite = derived(&found, place_of(-literal));
+    /* The old answer: "conflict, if the board is in conflict", and it is "if some literal and its opposite are both derived". Ticket 11: "conflict
+     * only where the literal and its opposite are both derived". */
+    bool conflict = whole ? first_conflict(board, &found) != 0 : itself && opposite;
+    if (conflict) return (Outcome){.standing = IN_CONFLICT};
+    /* "else stands, if derived; ruled out, if the opposite is derived; else open"; in Ticket 11 "otherwise stands, ruled out or open". */
+    if (itself) return (Outcome){.standing = STANDS};
+    return (Outcome){.standing = opposite ? RULED_OUT : IS_OPEN};
+}
+
+/* How a literal stands by its own symbol. Ticket 11: "By default ask shall answer conflict only where the literal and its opposite are both derived;
+ * otherwise stands, ruled out or open". */
+Outcome model_ask(const Board *board, const int16_t *table, size_t numbers, unsigned furnace, int literal) {
+    return answer_for(board, table, numbers, furnace, literal, false);
+}
+
+/* How a literal stands by the whole board. Ticket 11: "The old answer stays as a second call". Document 01: "conflict, if the board is in conflict;
+ * else stands, if derived; ruled out, if the opposite is derived; else open". */
+Outcome model_ask_whole(const Board *board, const int16_t *table, size_t numbers, unsigned furnace, int literal) {
+    return answer_for(board, table, numbers, furnace, literal, true);
 }
 
 /* Why a derived literal that is not held stands; refused, the rule's number is 0. */

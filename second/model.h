@@ -1,4 +1,4 @@
-/* Document 01 with Tickets 1, 2, 4 to 8 and 10 of document 02 by brute force, for the independent second program.
+/* Document 01 with Tickets 1, 2, 4 to 8, 10 and 11 of document 02 by brute force, for the independent second program.
  *
  * Written from these documents and include/tupahineka.h alone. No other code of the project was read for it: what this
  * program and the library share is the documents and nothing else. Slow and by definition, wherever a definition is there. */
@@ -34,7 +34,7 @@ enum {
 /* Where no byte place is told: the largest size_t, by the C interface. */
 #define NO_PLACE SIZE_MAX
 
-/* Answers to ask, by the numbers of the C interface. */
+/* Answers to both calls that ask, by the numbers of the C interface. */
 enum { IS_OPEN, STANDS, RULED_OUT, IN_CONFLICT };
 
 /* One S, one count of rows in use and one of the rules accepted since open; the premises of furnace 1, then those of furnace 2. */
@@ -115,7 +115,7 @@ unsigned larger_rank(const Findings *found, unsigned symbol);
 unsigned blamed_symbol(const Board *board, const Findings *found);
 void walk_back(const bool premises[PLACES], const int16_t *table, const Findings *found, unsigned place, bool seen[PLACES]);
 
-/* model.c: the nine calls, and what they test. */
+/* model.c: the nine calls, the old answer of ask as one call more, and what they test. */
 bool is_literal(int number, unsigned symbols);
 size_t rows_lent(size_t numbers);
 bool is_furnace(unsigned number);
@@ -131,6 +131,7 @@ Outcome model_withdraw(Board *board, const int16_t *table, size_t numbers, unsig
 Outcome model_settle(const Board *board, const int16_t *table, size_t numbers, unsigned furnace, uint8_t *labels, size_t label_count,
                      uint16_t *ranks, size_t rank_count, uint16_t *supports, size_t support_count);
 Outcome model_ask(const Board *board, const int16_t *table, size_t numbers, unsigned furnace, int literal);
+Outcome model_ask_whole(const Board *board, const int16_t *table, size_t numbers, unsigned furnace, int literal);
 Outcome model_explain(const Board *board, const int16_t *table, size_t numbers, unsigned furnace, int literal);
 Outcome model_ground(const Board *board, const int16_t *table, size_t numbers, unsigned furnace, int literal, uint8_t *marks, size_t mark_count);
 void mark_both(const Board *board, unsigned furnace, const int16_t *table, const Findings *found, unsigned symbol, uint8_t *marks);

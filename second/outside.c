@@ -47,15 +47,17 @@ static bool no_conflict_came(Play *play, const Trial *trial) {
     return same(play, "settle, a conflict that was not there at first", NONE, trial->now.conflict && !trial->was.conflict, false);
 }
 
-/* True if the literal's label is its own, or 3 where it was 3 at first, and ask says that it stands unless there is a conflict. So where a conflict
- * ended, the label may move from 3 to the literal's own, and the answer moves from conflict to stands. */
+/* True if the literal's label is its own, or 3 where it was 3 at first; ask says that it stands unless its label is 3, and the second call unless
+ * there is a conflict anywhere. So where a conflict ended, the label may move from 3 to the literal's own, and either answer from conflict to
+ * stands. */
 static bool standing_follows(Play *play, const Trial *trial) {
     const Said *was = &trial->was, *now = &trial->now;
     unsigned symbol = place_of(trial->literal) / 2, own = trial->literal > 0 ? 1 : 2;
     bool both = was->labels[symbol] == 3 && now->labels[symbol] == 3;
     return same(play, "settle, label (model: as follows)", symbol, now->labels[symbol], both ? 3 : own) &&
-           same(play, "ask, refusal", NONE, now->answer.refusal, 0) &&
-           same(play, "ask, standing (model: as follows)", NONE, now->answer.standing, now->conflict ? IN_CONFLICT : STANDS);
+           same(play, "ask, refusal", NONE, now->answer.refusal, 0) && same(play, "ask whole, refusal", NONE, now->whole.refusal, 0) &&
+           same(play, "ask, standing (model: as follows)", NONE, now->answer.standing, both ? IN_CONFLICT : STANDS) &&
+           same(play, "ask whole, standing (model: as follows)", NONE, now->whole.standing, now->conflict ? IN_CONFLICT : STANDS);
 }
 
 /* True if the library says of the literal now what it said at first; notes what it says otherwise. */

@@ -7,12 +7,12 @@
 
 enum { MOST_MADE = 200 }; /* calls of a trial that are kept, to print them */
 
-/* What the library said: of a furnace by settle, of a literal by explain, ground and ask. */
+/* What the library said: of a furnace by settle, of a literal by explain, ground and both calls that ask. */
 typedef struct Said {
     uint16_t ranks[PLACES], supports[PLACES];
     uint8_t labels[MOST_SYMBOLS];
     bool conflict;         /* some label is 3 */
-    Outcome reason, ground, answer;
+    Outcome reason, ground, answer, whole;
     int16_t part[WIDTH];   /* the row that explain named, with the number of its rule; zeros where explain was refused */
     uint8_t marks[PLACES]; /* of ground; zeros where it was refused */
 } Said;

@@ -8,8 +8,8 @@
 
 enum { MOVES = 30, MARKED = 3 };
 
-/* A call; the refusal, and for one that is done what it says: explain the rank, the row and the rule, ground the premises marked, ask the standing.
- * For settle value is a symbol, and it says that symbol's label. */
+/* A call; the refusal, and for one that is done what it says: explain the rank, the row and the rule, ground the premises marked, either call that
+ * asks the standing. For settle value is a symbol, and it says that symbol's label. */
 typedef struct Move {
     Kind kind;
     bool for_other; /* for the other furnace */
@@ -37,6 +37,7 @@ typedef struct Try {
 #define STANDS_ON(literal, ...) {.kind = GROUND, .value = literal, .marked = {__VA_ARGS__}}
 #define NO_GROUND(literal) {.kind = GROUND, .value = literal, .refusal = 12}
 #define ANSWER(literal, standing) {.kind = ASK, .value = literal, .says = {standing}}
+#define ANSWER_WHOLE(literal, standing) {.kind = ASK_WHOLE, .value = literal, .says = {standing}}
 #define LABEL(symbol, label) {.kind = SETTLE, .value = symbol, .says = {label}}
 
 static const Try tries[] = {
@@ -49,17 +50,19 @@ static const Try tries[] = {
     {"one row to 2, and its premise withdrawn",
      {OPENS(2), ADDS("1>2"), HOLDS(1), BY_RANK_ROW_RULE(2, 1, 0, 1), STANDS_ON(2, 1), DROPS(1), NOT_EXPLAINED(2), NO_GROUND(2), ANSWER(2, IS_OPEN)}},
     {"a conflict beside 2 that ends",
-     {OPENS(3), ADDS("1>2"), HOLDS(1), HOLDS(3), HOLDS(-3), BY_RANK_ROW_RULE(2, 1, 0, 1), STANDS_ON(2, 1), ANSWER(2, IN_CONFLICT), LABEL(3, 3),
-      LABEL(2, 1), DROPS(-3), BY_RANK_ROW_RULE(2, 1, 0, 1), STANDS_ON(2, 1), ANSWER(2, STANDS), LABEL(3, 1), LABEL(2, 1), DROPS(3),
-      BY_RANK_ROW_RULE(2, 1, 0, 1), STANDS_ON(2, 1), ANSWER(2, STANDS), LABEL(3, 0)}},
+     {OPENS(3), ADDS("1>2"), HOLDS(1), HOLDS(3), HOLDS(-3), BY_RANK_ROW_RULE(2, 1, 0, 1), STANDS_ON(2, 1), ANSWER(2, STANDS),
+      ANSWER_WHOLE(2, IN_CONFLICT), LABEL(3, 3), LABEL(2, 1), DROPS(-3), BY_RANK_ROW_RULE(2, 1, 0, 1), STANDS_ON(2, 1), ANSWER(2, STANDS),
+      ANSWER_WHOLE(2, STANDS), LABEL(3, 1), LABEL(2, 1), DROPS(3), BY_RANK_ROW_RULE(2, 1, 0, 1), STANDS_ON(2, 1), ANSWER(2, STANDS), LABEL(3, 0)}},
     {"a conflict of the rules alone, which stays",
      {OPENS(4), ADDS("1"), ADDS("-1"), ADDS("2>3"), HOLDS(2), HOLDS(4), HOLDS(-4), BY_RANK_ROW_RULE(3, 1, 2, 3), STANDS_ON(3, 2), DROPS(4), DROPS(-4),
-      BY_RANK_ROW_RULE(3, 1, 2, 3), STANDS_ON(3, 2), ANSWER(3, IN_CONFLICT), BY_RANK_ROW_RULE(1, 1, 0, 1), STANDS_ON(1, 0), DROPS(2),
-      BY_RANK_ROW_RULE(1, 1, 0, 1), BY_RANK_ROW_RULE(-1, 1, 1, 2), STANDS_ON(-1, 0), LABEL(1, 3), ANSWER(1, IN_CONFLICT), NO_GROUND(3)}},
+      BY_RANK_ROW_RULE(3, 1, 2, 3), STANDS_ON(3, 2), ANSWER(3, STANDS), ANSWER_WHOLE(3, IN_CONFLICT), BY_RANK_ROW_RULE(1, 1, 0, 1), STANDS_ON(1, 0),
+      DROPS(2), BY_RANK_ROW_RULE(1, 1, 0, 1), BY_RANK_ROW_RULE(-1, 1, 1, 2), STANDS_ON(-1, 0), LABEL(1, 3), ANSWER(1, IN_CONFLICT),
+      ANSWER_WHOLE(1, IN_CONFLICT), NO_GROUND(3)}},
     {"the opposite's premise withdrawn: the label from 3 to the literal's own",
      {OPENS(4), ADDS("1>2"), ADDS("3>-2"), HOLDS(1), HOLDS(3), HOLDS(4), LABEL(2, 3), LABEL(1, 3), BY_RANK_ROW_RULE(2, 1, 0, 1), STANDS_ON(2, 1),
-      STANDS_ON(-1, 3), ANSWER(2, IN_CONFLICT), DROPS(4), LABEL(2, 3), BY_RANK_ROW_RULE(2, 1, 0, 1), ANSWER(2, IN_CONFLICT), DROPS(3), LABEL(2, 1),
-      LABEL(1, 1), BY_RANK_ROW_RULE(2, 1, 0, 1), STANDS_ON(2, 1), ANSWER(2, STANDS)}},
+      STANDS_ON(-1, 3), ANSWER(2, IN_CONFLICT), ANSWER(4, STANDS), DROPS(4), LABEL(2, 3), BY_RANK_ROW_RULE(2, 1, 0, 1), ANSWER(2, IN_CONFLICT),
+      ANSWER(4, IS_OPEN), ANSWER_WHOLE(4, IN_CONFLICT), DROPS(3), LABEL(2, 1), LABEL(1, 1), BY_RANK_ROW_RULE(2, 1, 0, 1), STANDS_ON(2, 1),
+      ANSWER(2, STANDS), ANSWER_WHOLE(4, IS_OPEN)}},
     {"an empty ground, and all premises withdrawn",
      {OPENS(4), ADDS("2"), ADDS("2>3"), HOLDS(1), HOLDS(-3), BY_RANK_ROW_RULE(3, 2, 1, 2), STANDS_ON(3, 0), LABEL(2, 3), LABEL(3, 3), DROPS(1),
       BY_RANK_ROW_RULE(3, 2, 1, 2), STANDS_ON(3, 0), ANSWER(3, IN_CONFLICT), DROPS(-3), BY_RANK_ROW_RULE(3, 2, 1, 2), STANDS_ON(3, 0), LABEL(2, 1),
@@ -113,7 +116,7 @@ static bool move_agrees(Play *play, const Move *move, unsigned furnace) {
     if (!play_step(play, &step) || last->refusal != move->refusal) return false;
     if (move->refusal != 0) return true;
     if (move->kind == EXPLAIN) return last->rank == move->says[0] && last->row == move->says[1] && last->rule == move->says[2];
-    if (move->kind == ASK) return last->standing == move->says[0];
+    if (asks(move->kind)) return last->standing == move->says[0];
     if (move->kind == SETTLE) return play->ours.labels[GUARD + move->value - 1] == move->says[0];
     return move->kind != GROUND || try_marked(play, move->marked, MARKED);
 }

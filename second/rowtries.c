@@ -116,24 +116,33 @@ static bool settles(Play *play, unsigned furnace, const Try *try) {
     return good;
 }
 
+/* True if some literal and its opposite are among those worked out. */
+static bool in_conflict(const Try *try) {
+    for (unsigned i = 0; i < TRY_FOUND && try->found[i].literal != 0; i++)
+        if (found_for(try, -try->found[i].literal).rank != NONE) return true;
+    return false;
+}
+
+/* Asks for a literal by symbol and of the whole board; true if the answers are those of the ranks worked out. Not counted, so that answers in
+ * conflict still have to come up at random. */
+static bool answers(Play *play, unsigned furnace, const Try *try, int literal) {
+    bool stands = found_for(try, literal).rank != NONE, ruled_out = found_for(try, -literal).rank != NONE;
+    unsigned due = stands && ruled_out ? IN_CONFLICT : stands ? STANDS : ruled_out ? RULED_OUT : IS_OPEN;
+    return try_call(play, ASK, furnace, literal, 0) && play->last.standing == due && try_call(play, ASK_WHOLE, furnace, literal, 0) &&
+           play->last.standing == (in_conflict(try) ? IN_CONFLICT : due);
+}
+
 /* Asks, explains and grounds every literal of the board: an answer for each, a reason for those with a support, a ground for those with a rank.
  * Each row is from a rule of its own, whose number is one more than the row's; a refused explain tells 0. */
 static bool follows(Play *play, unsigned furnace, const Try *try) {
     bool good = true;
     for (unsigned p = 0; p < 2 * try->symbols && good; p++) {
         Found found = found_for(try, literal_at(p));
-        good = make(play, ASK, furnace, found.literal, 0) && make(play, EXPLAIN, furnace, found.literal, found.support == NONE ? 12 : 0) &&
+        good = answers(play, furnace, try, found.literal) && make(play, EXPLAIN, furnace, found.literal, found.support == NONE ? 12 : 0) &&
                play->last.rule == (found.support == NONE ? 0 : found.support + 1) &&
                make(play, GROUND, furnace, found.literal, found.rank == NONE ? 12 : 0);
     }
     return good;
-}
-
-/* True if some literal and its opposite are among those worked out. */
-static bool in_conflict(const Try *try) {
-    for (unsigned i = 0; i < TRY_FOUND && try->found[i].literal != 0; i++)
-        if (found_for(try, -try->found[i].literal).rank != NONE) return true;
-    return false;
 }
 
 /* True if blame is refused where there is no conflict, and otherwise marks the premises that were worked out. */

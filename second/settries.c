@@ -117,17 +117,7 @@ static bool lists_in_rooms(Play *play, int literal, const int16_t *candidates, u
 /* Opens the board, with its rules and premises. */
 static bool set_up(Play *play, const Try *try) {
     play_start(play, 18, true);
-    bool good = try_call(play, OPEN, 0, (int)try->symbols, 0);
-    for (unsigned r = 0; r < RULES && try->rules[r] != NULL; r++) {
-        Step step = {.kind = TEXT_RULE, .numbers = TABLE_LENDABLE, .text = (const uint8_t *)try->rules[r]};
-        step.bytes = step.standing = strlen(try->rules[r]);
-        good = good && play_step(play, &step) && play->last.refusal == 0;
-    }
-    for (unsigned i = 0; i < FURNACES * HELD; i++) {
-        int literal = try->held[i / HELD][i % HELD];
-        if (literal != 0) good = good && try_call(play, HOLD, 1 + i / HELD, literal, 0);
-    }
-    return good;
+    return try_open(play, try->symbols, try->rules, RULES) && try_hold(play, 1, try->held[0], HELD) && try_hold(play, 2, try->held[1], HELD);
 }
 
 /* Which of two sets comes first: the smaller one, and of equal size the one with the smaller number. */

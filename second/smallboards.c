@@ -1,6 +1,7 @@
 /* All boards of few symbols: of 1 and 2 with every set of sound rows and every set of premises, of 3 with every set of up to four rows and nothing
- * held. Each is settled for each furnace, while the other one holds just the literals that this one does not. Over the same rows the smallest sets of
- * all literals are listed: of 1 and 2 symbols for every literal, of 3 with up to three rows for one of them, by turns.
+ * held. Each is settled for each furnace, while the other one holds just the literals that this one does not, and every literal is asked by symbol
+ * and of the whole board beside it. Over the same rows the smallest sets of all literals are listed: of 1 and 2 symbols for every literal, of 3 with
+ * up to three rows for one of them, by turns.
  *
  * The highest rank of all has to be 2S - 1. None is 2S: that takes 2S rounds of one literal each and nothing held, but then the round that completes
  * the first conflict, or the one before it, gives two. */
@@ -49,7 +50,7 @@ static void set_premises(Play *play, unsigned furnace, unsigned set) {
 /* Settles the rows in use from a set of premises; false where the sides differ. Keeps the library's highest rank. */
 static bool board_agrees(Play *play, Size *size, unsigned furnace, unsigned set) {
     set_premises(play, furnace, set);
-    if (!try_call(play, SETTLE, furnace, 0, 0)) return false;
+    if (!try_call(play, SETTLE, furnace, 0, 0) || play->asked != 2 * size->symbols) return false;
     size->boards += furnace == 1;
     for (unsigned p = 0; p < 2 * size->symbols; p++) {
         uint16_t rank = play->theirs.ranks[GUARD + p];

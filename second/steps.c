@@ -16,6 +16,11 @@ bool names_furnace(Kind kind) {
     return kind >= HOLD && kind <= BLAME;
 }
 
+/* True if the call is asked how a literal stands, by its symbol or of the whole board. */
+bool asks(Kind kind) {
+    return kind == ASK || kind == ASK_WHOLE;
+}
+
 /* True if the call is given formula bytes. */
 bool gives_formula(Kind kind) {
     return kind == RULE || kind == TO_TEXT;
@@ -115,6 +120,7 @@ static Outcome model_call(const Step *step, Board *board, Tables *tables) {
         return model_settle(board, table, step->numbers, step->furnace, tables->labels + GUARD, step->lent[0], tables->ranks + GUARD,
                             step->lent[1], tables->supports + GUARD, step->lent[2]);
     case ASK: return model_ask(board, table, step->numbers, step->furnace, step->value);
+    case ASK_WHOLE: return model_ask_whole(board, table, step->numbers, step->furnace, step->value);
     case EXPLAIN: return model_explain(board, table, step->numbers, step->furnace, step->value);
     case GROUND: return model_ground(board, table, step->numbers, step->furnace, step->value, marks, step->lent[0]);
     default: return model_blame(board, table, step->numbers, step->furnace, marks, step->lent[0]);
@@ -166,6 +172,7 @@ static bool library_agrees(Play *play, const Step *step) {
     if (step->kind == SMALLEST && play->library_last.refusal == 0 && !list_carries(play, step)) return false;
     if (!same_everywhere(play, step, &play->last, &play->library_last)) return false;
     if (step->kind == BLAME && play->last.refusal == 0 && !marks_are_enough(play, step)) return false;
+    if ((step->kind == SETTLE || asks(step->kind)) && !answers_follow(play, step)) return false;
     play->renumbered = can_renumber(step->kind) && play->last.refusal == 0 && (step->noise >> 8) % 3 == 0;
     return !play->renumbered || numbers_change_nothing(play, step);
 }
@@ -173,7 +180,7 @@ static bool library_agrees(Play *play, const Step *step) {
 /* Plays one step on both sides; false if they differ, with the difference in words. */
 bool play_step(Play *play, const Step *step) {
     play->demand_3 = play->booked = play->renumbered = false;
-    play->carried = play->grounds = play->own_grounds = 0;
+    play->carried = play->grounds = play->own_grounds = play->asked = play->hidden = 0;
     if (step->kind >= CALLS) {
         model_caller_acts(step, &play->board, &play->ours);
         caller_acts(step, &play->library_board, &play->theirs);

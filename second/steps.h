@@ -18,10 +18,11 @@ enum {
     PLACE_WORD = 24                            /* bytes for a place in words */
 };
 
-/* The fifteen calls, those that hand a board back first; then what the caller may do between them. READ and WRITE are of DIMACS text; TEXT_RULE,
- * TO_BYTES and TO_TEXT of formula text: a rule added from it, it read to bytes, and bytes written as it. SMALLEST lists sets of candidates. */
+/* The sixteen calls, those that hand a board back first; then what the caller may do between them. READ and WRITE are of DIMACS text; TEXT_RULE,
+ * TO_BYTES and TO_TEXT of formula text: a rule added from it, it read to bytes, and bytes written as it. ASK answers by symbol, ASK_WHOLE with the
+ * old answer, conflict for every literal while the furnace is in conflict. SMALLEST lists sets of candidates. */
 typedef enum Kind {
-    OPEN, RULE, TEXT_RULE, READ, HOLD, WITHDRAW, SETTLE, ASK, EXPLAIN, GROUND, BLAME, SMALLEST, WRITE, TO_BYTES, TO_TEXT,
+    OPEN, RULE, TEXT_RULE, READ, HOLD, WITHDRAW, SETTLE, ASK, ASK_WHOLE, EXPLAIN, GROUND, BLAME, SMALLEST, WRITE, TO_BYTES, TO_TEXT,
     CALLS,
     SET_SYMBOLS = CALLS, /* the caller writes S = value into the board */
     SET_ROWS,            /* the caller writes rows in use = value */
@@ -72,6 +73,13 @@ typedef struct Book {
     int16_t written[MOST_ROWS * WIDTH];
 } Book;
 
+/* What the library's settle said beside a step: the refusal, and where that is 0 its three tables. */
+typedef struct Settled {
+    unsigned refusal;
+    uint8_t labels[MOST_SYMBOLS];
+    uint16_t ranks[PLACES], supports[PLACES];
+} Settled;
+
 /* A sequence in play: the model's side, the library's side, and the book of rules. */
 typedef struct Play {
     bool with_library;
@@ -83,11 +91,13 @@ typedef struct Play {
     Outcome last, library_last;
     bool demand_3, booked, renumbered; /* compared at the last step: demand 3, the book of rules, the call with other rule numbers */
     unsigned carried, grounds, own_grounds; /* sets of the last list held alone; grounds with one of them inside; those of the board's own premises */
+    unsigned asked, hidden;  /* literals that both calls were asked for beside settle; those whose answer a conflict hides from the second call */
     char difference[240];    /* empty, or the first difference in words */
 } Play;
 
 /* steps.c */
 bool names_furnace(Kind kind);
+bool asks(Kind kind);
 bool gives_formula(Kind kind);
 bool gives_text(Kind kind);
 bool spells(Kind kind);
@@ -113,6 +123,7 @@ bool numbers_change_nothing(Play *play, const Step *step);
 
 /* library.c */
 Outcome library_call(const Step *step, tup_board *board, Tables *tables);
+Settled library_settle(const tup_board *board, const int16_t *table, size_t numbers, unsigned furnace);
 
 /* bounds.c */
 bool number_is_known(Play *play, unsigned number);
@@ -122,6 +133,9 @@ bool answer_is_bounded(Play *play, const Step *step, const Outcome *told, unsign
 /* listing.c */
 bool list_is_bounded(Play *play, const Step *step, unsigned count, const uint16_t *sets);
 bool list_carries(Play *play, const Step *step);
+
+/* answers.c */
+bool answers_follow(Play *play, const Step *step);
 
 /* compare.c */
 bool same(Play *play, const char *what, long place, unsigned theirs, unsigned ours);

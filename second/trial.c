@@ -116,13 +116,19 @@ static bool tell_ground(Play *play, Trial *trial, Said *said) {
     return alike;
 }
 
-/* Notes all that the library says of the literal and its furnace: settle, explain, ground, ask; false where the model finds other ranks, supports or
- * marks. */
-bool trial_tell(Play *play, Trial *trial, Said *said) {
-    if (!trial_settle(play, trial, said) || !tell_reason(play, trial, said) || !tell_ground(play, trial, said)) return false;
-    bool good = call_about(play, trial, ASK);
+/* Asks for the literal by symbol and of the whole board, and notes both answers. */
+static bool tell_answers(Play *play, Trial *trial, Said *said) {
+    if (!call_about(play, trial, ASK)) return false;
     said->answer = trial->last;
-    return good;
+    if (!call_about(play, trial, ASK_WHOLE)) return false;
+    said->whole = trial->last;
+    return true;
+}
+
+/* Notes all that the library says of the literal and its furnace: settle, explain, ground, both asks; false where the model finds other ranks,
+ * supports or marks. */
+bool trial_tell(Play *play, Trial *trial, Said *said) {
+    return trial_settle(play, trial, said) && tell_reason(play, trial, said) && tell_ground(play, trial, said) && tell_answers(play, trial, said);
 }
 
 /* Chooses one of the places noted; false where there is none. */

@@ -25,6 +25,24 @@ bool try_call(Play *play, Kind kind, unsigned furnace, int value, unsigned refus
     return play_step(play, &step) && play->last.refusal == refusal;
 }
 
+/* Opens a board and adds rules from their texts, so many or up to the first that is none; false where the sides differ or one is refused. */
+bool try_open(Play *play, unsigned symbols, const char *const *rules, unsigned most) {
+    bool good = try_call(play, OPEN, 0, (int)symbols, 0);
+    for (unsigned r = 0; r < most && rules[r] != NULL; r++) {
+        Step step = {.kind = TEXT_RULE, .numbers = TABLE_LENDABLE, .text = (const uint8_t *)rules[r]};
+        step.bytes = step.standing = strlen(rules[r]);
+        good = good && play_step(play, &step) && play->last.refusal == 0;
+    }
+    return good;
+}
+
+/* Holds literals for a furnace, so many or up to the first that is 0; false where the sides differ or one is refused. */
+bool try_hold(Play *play, unsigned furnace, const int *literals, unsigned most) {
+    bool good = true;
+    for (unsigned i = 0; i < most && literals[i] != 0; i++) good = good && try_call(play, HOLD, furnace, literals[i], 0);
+    return good;
+}
+
 /* A call with so many places of each table to write; where it is given a formula, a text or candidates, that is symbol 1 alone. */
 Step try_lent(Kind kind, unsigned furnace, int value, size_t places) {
     static const uint8_t formula[] = {0x10, 1}, clause[] = "p cnf 1 1\n1 0\n", symbol[] = "1";

@@ -8,6 +8,8 @@
 Step try_step(Kind kind, unsigned furnace, int value);
 bool try_counted(Play *play, const Step *step);
 bool try_call(Play *play, Kind kind, unsigned furnace, int value, unsigned refusal);
+bool try_open(Play *play, unsigned symbols, const char *const *rules, unsigned most);
+bool try_hold(Play *play, unsigned furnace, const int *literals, unsigned most);
 Step try_lent(Kind kind, unsigned furnace, int value, size_t places);
 void try_act(Play *play, Kind kind, unsigned place, int value);
 void try_row(Play *play, const int16_t row[ROW_LITERALS]);

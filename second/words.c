@@ -4,8 +4,8 @@
 #include "steps.h"
 
 static const char *const words[KINDS] = {
-    "open", "rule", "add text", "read", "hold", "withdraw", "settle", "ask", "explain", "ground", "blame", "smallest", "write", "to bytes", "to text",
-    "set S", "set rows used", "set rules", "set a held byte", "set a number", "append a row"};
+    "open", "rule", "add text", "read", "hold", "withdraw", "settle", "ask", "ask whole", "explain", "ground", "blame", "smallest", "write",
+    "to bytes", "to text", "set S", "set rows used", "set rules", "set a held byte", "set a number", "append a row"};
 
 /* The word for a kind of step. */
 const char *kind_word(Kind kind) {
@@ -118,7 +118,7 @@ void print_outcome(const char *who, Kind kind, const Outcome *outcome) {
     if (outcome->refusal != 0) printf("refusal %u", outcome->refusal);
     else if (kind == RULE || kind == TEXT_RULE || kind == READ) printf("%u rows added", outcome->added);
     else if (kind == WRITE || kind == TO_BYTES || kind == TO_TEXT) printf("%zu bytes written", outcome->written);
-    else if (kind == ASK) printf("%s", outcome->standing < 4 ? standings[outcome->standing] : "no standing");
+    else if (asks(kind)) printf("%s", outcome->standing < 4 ? standings[outcome->standing] : "no standing");
     else if (kind == SMALLEST) printf("%u sets listed", outcome->listed);
     else if (kind == EXPLAIN) printf("rank %u, row %u of %u literals, rule %u", outcome->rank, outcome->row, outcome->literals, outcome->rule);
     else printf("done");

@@ -13,12 +13,15 @@ make -s target/trend target/second
 room=$(mktemp -d)
 trap 'rm -rf "$room"' EXIT
 
-# the demo's text is stored; its picture is written and looked at for what both furnaces have to show and what a mark needs
+# the demo's text is stored; its picture is written and looked at for what both furnaces have to show, what a mark needs and what a conflict leaves
 run_c target/trend "$room/trend.svg" >"$room/trend.txt"
 diff "$room/trend.txt" examples/trend.expected
 grep -q 'TC-3 struck off 03:10' "$room/trend.svg"
 grep -q 'TC-3 of furnace 1 struck off: nothing moves here' "$room/trend.svg"
 grep -q 'trim gas needs one of' "$room/trend.svg"
+grep -q '00:42 to 00:51: 3 in conflict, 13 standing' "$room/trend.svg"
+grep -q 'stands on a reading to blame' "$room/trend.svg"
+[ "$(grep -c 'class="on-blame"' "$room/trend.svg")" -eq 7 ] # under three marks of each furnace, and in the legend
 echo "demo: it printed what examples/trend.expected has, and drew the shift"
 
 run_c target/second "${SEED:-1}" "${COUNT:-20000}"

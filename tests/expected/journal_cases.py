@@ -186,7 +186,7 @@ def journal(data):
                 else:
                     ranks = board.propagate()
                     if kind == 5:
-                        if any(-m in ranks for m in ranks):
+                        if l in ranks and -l in ranks:
                             said = "conflict"
                         elif l in ranks:
                             said = "stands"
@@ -281,7 +281,7 @@ def case(name, about, *commands):
     CASES[name] = (about, commands)
 
 
-case("printed", "The case that document 01 prints.",
+case("printed", "The case that document 01 prints, with line 11 as 02's Ticket 11 has it.",
      opens(4), rule(("imp", 1, 2)), rule(("imp", ("and", 2, 3), 4)), hold(1), hold(3), ask(4), why(4), drop(1), ask(4), hold(-3), ask(4))
 
 case("nothing", "Empty input: nothing is printed.")
@@ -375,7 +375,11 @@ case("explain", "Refusal 12: not derived, or held. The lowest row that gave the 
      opens(5), rule(("imp", 1, 2)), rule(("imp", 3, 2)), rule(("imp", 2, 4)), why(2), hold(3), why(3), why(2), hold(1), why(2), why(4), why(-4), hold(2), why(2), why(4), drop(2), why(5))
 
 case("answers", "stands, out, open and conflict.",
-     opens(4), rule(("imp", 1, 2)), ask(2), hold(1), ask(2), ask(-2), ask(3), hold(-2), ask(3), drop(1), ask(1), ask(-1))
+     opens(4), rule(("imp", 1, 2)), ask(2), hold(1), ask(2), ask(-2), ask(3), hold(-2), ask(2), ask(3), drop(1), ask(1), ask(-1))
+
+case("by-symbol", "In a conflict, of every literal: conflict only for the symbols of which both literals are derived, here 3 and then 1 and 2 too.",
+     opens(5), rule(("imp", 1, 2)), rule(("imp", 2, -4)), hold(1), hold(3), hold(-3), *[ask(l) for s in range(1, 6) for l in (s, -s)],
+     hold(-2), *[ask(l) for s in range(1, 6) for l in (s, -s)], drop(-3), drop(-2), *[ask(l) for s in range(1, 6) for l in (s, -s)])
 
 case("rules-boards", "The boards to try, one after the other on one table.",
      opens(9), rule(("and", 1, -1)), rule(("or", 1, -1)), rule(("and", ("imp", 1, 2), ("or", 1, 2))), rule(("same", 1, 2)),

@@ -10,6 +10,9 @@ use Rattle.board.proofs as board
 one-ask : One board.asking.ask.ended board.asking.ask.Reads.Post
 one-ask κs a x y = (cc, refl)
 
+one-ask-whole : One board.asking.ask_whole.ended board.asking.ask_whole.Reads.Post
+one-ask-whole κs a x y = (cc, refl)
+
 one-explain-numbers : One board.asking.explain_numbers.ended board.asking.explain_numbers.Reads.Post
 one-explain-numbers κs a x y = (cc, refl)
 

@@ -1,7 +1,7 @@
 -- Ask and explain.
 use Prim.Native.Nat.{ℕ, _+_, _-_, _*_}
 use mathlib.Core.Path.{_≡_}
-use mathlib.Core.Bool.{Bool, cond, not, _||_}
+use mathlib.Core.Bool.{Bool, cond, not, _&&_, _||_}
 use mathlib.Core.List.{List, [], _∷_}
 use lib.IntN.{ℤ}
 use lib.ListN.{length, take, drop}
@@ -19,9 +19,9 @@ use Rattle.board.specs.declared.asking.Standing.{Standing}
 use Rattle.board.specs.declared.asking.Standing.the-variants.{Conflict, Stands, RuledOut, Open, Refused}
 use Rattle.board.specs.declared.asking.Reason.{Reason}
 
--- ---- "Ask answers for one literal: conflict, if the board is in conflict; else stands, if derived; ruled out, if the opposite is
--- derived; else open." Here and in what follows, what is derived is so for the furnace that is named (02, Ticket 6).
+-- ---- Ask. Here and in what follows, what is derived is so for the furnace that is named (02, Ticket 6).
 
+-- the refusals of both calls that ask
 unfoldable pub askFaults : List ℤ → Board → (furnace : ℕ) → ℤ → List Fault
 askFaults table b furnace l =
     record { given = not (goodBoard table b); refusal = BadBoard }
@@ -29,11 +29,24 @@ askFaults table b furnace l =
     ∷ record { given = not (inRange (b .symbols) l); refusal = BadLiteral }
     ∷ []
 
+-- where there is a conflict that counts (clash), "conflict"; "else stands, if derived; ruled out, if the opposite is derived; else open"
+abbrev pub standingIf : (clash derived opposed : Bool) → Standing
+standingIf clash derived opposed = cond clash Conflict (cond derived Stands (cond opposed RuledOut Open))
+
+-- 02, Ticket 11: "By default ask shall answer conflict only where the literal and its opposite are both derived; otherwise stands, ruled out or
+-- open."
 abbrev pub standing : List Bool → ℕ → Standing
-standing known p = cond (conflict known) Conflict (cond (has known p) Stands (cond (has known (opp p)) RuledOut Open))
+standing known p = standingIf (has known p && has known (opp p)) (has known p) (has known (opp p))
 
 unfoldable pub asked : List ℤ → Board → (furnace : ℕ) → ℤ → Standing
 asked table b furnace l = ifDone (firstFault (askFaults table b furnace l)) (standing (derivedOn table b furnace) (placeOf l)) Refused
+
+-- "The old answer stays as a second call": 01, "conflict, if the board is in conflict; else .."
+abbrev pub standingWhole : List Bool → ℕ → Standing
+standingWhole known p = standingIf (conflict known) (has known p) (has known (opp p))
+
+unfoldable pub askedWhole : List ℤ → Board → (furnace : ℕ) → ℤ → Standing
+askedWhole table b furnace l = ifDone (firstFault (askFaults table b furnace l)) (standingWhole (derivedOn table b furnace) (placeOf l)) Refused
 
 -- ---- "Explain returns the supporting row as that part of the caller's table, its literals without the zeros, with rank and row number."
 -- 02, Ticket 8: it "returns the rule's number besides the literals, 0 when refused"

@@ -1,4 +1,4 @@
--- The nine calls: the tests that refuse each, in the documents' order, and what a good one answers and writes.
+-- The nine calls and the second ask: the tests that refuse each, in the documents' order, and what a good one answers and writes.
 pub mod Furnaces
 pub mod Faults
 pub mod Placing

@@ -1,13 +1,15 @@
 // Ask and explain: one literal at a time, nothing written.
 
 ghost use mathlib.Core.Path.{_≡_};
+ghost use mathlib.Core.Bool.{cond};
 ghost use Prim.Native.Nat.{_*_, _≤_};
 ghost use lib.IntN.{natAbs};
 ghost use lib.ListN.{length};
 ghost use Rattle.meaning.specs.Tests.{none};
+ghost use Rattle.meaning.specs.Literals.{has};
 ghost use Rattle.literals.specs.Literal.{placeOf};
 ghost use Rattle.findings.specs.Ranks.{below};
-ghost use Rattle.board.specs.Asking.{standing, asked, reasoned, explained, IsPart};
+ghost use Rattle.board.specs.Asking.{standingIf, standing, asked, standingWhole, askedWhole, reasoned, explained, IsPart};
 use crate::Board;
 use crate::Outcome;
 use crate::furnaces::premises;
@@ -35,26 +37,48 @@ pub struct Reason {
     pub rule: u16,
 }
 
-// How a literal that was tested stands by the ranks.
-fn standing_by(ranks: &[u16], l: i16) -> Standing
+// Whether a literal that was tested has a rank.
+fn is_ranked(ranks: &[u16], l: i16) -> bool
     requires { ⌜ (1 ≤ natAbs l) × (2 * natAbs l ≤ length (now ranks)) × (length (now ranks) ≤ 400) ⌝ }
-    ensures { λ r. ⌜ r ≡ standing (below none (now (ranks .entry))) (placeOf l) ⌝ }
+    ensures { λ r. ⌜ r ≡ has (below none (now (ranks .entry))) (placeOf l) ⌝ }
 {
-    if findings::labels::first_clash(ranks) != NONE as usize {
+    ranks[literals::place(l)] < NONE
+}
+
+// How a literal stands: by whether there is a conflict that counts for it, whether it is derived, and whether its opposite is.
+fn standing_if(clash: bool, derived: bool, opposed: bool) -> Standing
+    ensures { λ r. ⌜ r ≡ standingIf clash derived opposed ⌝ }
+{
+    if clash {
         return Standing::Conflict;
     }
-    if ranks[literals::place(l)] < NONE {
+    if derived {
         return Standing::Stands;
     }
-    if ranks[literals::place(literals::opposite(l))] < NONE {
+    if opposed {
         return Standing::RuledOut;
     }
     Standing::Open
 }
 
-// Answers for one literal, by a furnace's premises.
-pub fn ask(board: Board, table: &[i16], furnace: u8, l: i16) -> Standing
-    ensures { λ r. ⌜ r ≡ asked (now (table .entry)) board furnace l ⌝ }
+// How a literal that was tested stands by the ranks: by its own symbol, or of the whole board.
+fn standing_by(ranks: &[u16], l: i16, whole: bool) -> Standing
+    requires { ⌜ (1 ≤ natAbs l) × (2 * natAbs l ≤ length (now ranks)) × (length (now ranks) ≤ 400) ⌝ }
+    ensures { λ r. ⌜ r ≡ cond whole (standingWhole (below none (now (ranks .entry))) (placeOf l)) (standing (below none (now (ranks .entry))) (placeOf l)) ⌝ }
+{
+    let derived = is_ranked(ranks, l);
+    let opposed = is_ranked(ranks, literals::opposite(l));
+    let clash = if whole {
+        findings::labels::first_clash(ranks) != NONE as usize
+    } else {
+        derived & opposed
+    };
+    standing_if(clash, derived, opposed)
+}
+
+// The code behind both calls that ask: they differ in what is a conflict for the literal.
+fn answer(board: Board, table: &[i16], furnace: u8, l: i16, whole: bool) -> Standing
+    ensures { λ r. ⌜ r ≡ cond whole (askedWhole (now (table .entry)) board furnace l) (asked (now (table .entry)) board furnace l) ⌝ }
 {
     match place_on(board, table, furnace, l) {
         Placed::Refused(why) => Standing::Refused(why),
@@ -71,9 +95,23 @@ pub fn ask(board: Board, table: &[i16], furnace: u8, l: i16) -> Standing
                 0,
                 &mut none[..0],
             );
-            standing_by(&ranks[..places], l)
+            standing_by(&ranks[..places], l, whole)
         }
     }
+}
+
+// Answers for one literal, by a furnace's premises: conflict only where the literal and its opposite are both derived.
+pub fn ask(board: Board, table: &[i16], furnace: u8, l: i16) -> Standing
+    ensures { λ r. ⌜ r ≡ asked (now (table .entry)) board furnace l ⌝ }
+{
+    answer(board, table, furnace, l, false)
+}
+
+// The answer of the whole board: conflict for every literal where the furnace is in conflict anywhere.
+pub fn ask_whole(board: Board, table: &[i16], furnace: u8, l: i16) -> Standing
+    ensures { λ r. ⌜ r ≡ askedWhole (now (table .entry)) board furnace l ⌝ }
+{
+    answer(board, table, furnace, l, true)
 }
 
 fn unexplained(why: Refusal) -> Reason

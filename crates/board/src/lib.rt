@@ -1,4 +1,4 @@
-// The board: nine calls, each total. A call tests its own input, refuses in the documents' order and then leaves everything as it
+// The board: nine calls and the second ask, each total. A call tests its own input, refuses in the documents' order and then leaves everything as it
 // was, or is done and writes only the places named for it.
 
 pub mod asking;

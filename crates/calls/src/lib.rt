@@ -204,10 +204,13 @@ fn standing(s: Standing) {
     }
 }
 
+// Both of the calls that ask.
 pub fn ask(before: Board, table: &[i16], furnace: u8, l: i16) {
     named(b"; ask", l);
     for_furnace(furnace);
     standing(board::asking::ask(before, table, furnace, l));
+    text(b", whole");
+    standing(board::asking::ask_whole(before, table, furnace, l));
 }
 
 fn reason(r: Reason) {

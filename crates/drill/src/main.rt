@@ -1,6 +1,7 @@
-// Runs the calls of `board` over the boards that document 01 lists and over every refusal, for furnace 1, in `furnaces` for both and in `grounds` for
-// furnace 2, and prints what each call answers.
+// Runs the calls of `board` over the boards that document 01 lists and over every refusal, for furnace 1, in `furnaces` and `asking` for both and in
+// `grounds` for furnace 2, and prints what each call answers.
 
+mod asking;
 mod faults;
 mod furnaces;
 mod grounds;
@@ -19,6 +20,7 @@ fn main() {
     faults::run();
     literals_given::run();
     furnaces::run();
+    asking::run();
     grounds::run();
     lengths::run();
     journal::run();

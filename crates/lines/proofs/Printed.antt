@@ -1,4 +1,5 @@
--- From an input's bytes to its lines, by computing the definition: the case that document 01 prints, and 02's Ticket 1, where a formula breaks.
+-- From an input's bytes to its lines, by computing the definition: the case that document 01 prints, with line 11 as 02's
+-- Ticket 11 has it, and 02's Ticket 1, where a formula breaks.
 use mathlib.Core.Path.{_≡_, refl}
 use mathlib.Core.Bool.{false}
 use mathlib.Core.List.{List, [], _∷_, _++_, map}
@@ -47,7 +48,7 @@ cases =
       input = document;
       lines =
           ascii "1 open ok\n2 rule rows 0 1\n3 rule rows 1 1\n4 hold ok\n5 hold ok\n6 ask stands\n"
-          ++ ascii "7 why rank 2 row 1: -2 -3 4\n8 drop ok\n9 ask open\n10 hold ok\n11 ask conflict\n";
+          ++ ascii "7 why rank 2 row 1: -2 -3 4\n8 drop ok\n9 ask open\n10 hold ok\n11 ask open\n";
     }
     ∷ record { input = 0x01 ∷ 0x04 ∷ 0x02 ∷ 0x13 ∷ 0x10 ∷ 0x04 ∷ 0x10 ∷ 0x05 ∷ []; lines = ascii "1 open ok\n2 rule no 2 at 4\n" }
     ∷ record { input = 0x01 ∷ 0x04 ∷ 0x02 ∷ []; lines = ascii "1 open ok\n2 rule no 3 at 0\n" }

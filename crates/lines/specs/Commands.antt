@@ -144,7 +144,7 @@ abbrev pub ruleSaid : (before used : ℕ) → Addition → Said
 ruleSaid before used a =
     ifDone (a .outcome) (accepted (a .board) used (rowsText before (a .added))) (refusedAt (a .board) used (a .place))
 
--- each command, its own body whole
+-- each command, its own body whole; 02, Ticket 11: "The journal's `ask` takes the new default"
 abbrev pub bodySaid : Board → List ℤ → List ℕ → Command → Said
 bodySaid b table body Open = changeSaid 2 (opened (getD body 0 0))
 bodySaid b table body Rule = ruleSaid (b .rows) (1 + formulaLength (b .symbols) body) (ruled table b (formulaBytes b body))

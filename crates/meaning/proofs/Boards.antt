@@ -204,7 +204,7 @@ boards =
     ∷ (grounded (journal (hold (plus 1) ∷ hold (plus 3) ∷ [])) (plus 4), marks (plus 1 ∷ plus 3 ∷ []))
     -- "8 drop ok", "9 ask open"
     ∷ (settled (journal (hold (plus 1) ∷ hold (plus 3) ∷ withdraw (plus 1) ∷ [])), labels (0 ∷ 0 ∷ 1 ∷ 0 ∷ []))
-    -- "10 hold ok", "11 ask conflict"
+    -- "10 hold ok", and 02's "11 ask open": 3 is in conflict, 4 is open
     ∷ (settled (journal (hold (plus 1) ∷ hold (plus 3) ∷ withdraw (plus 1) ∷ hold (minus 3) ∷ [])), conflict-with-labels (0 ∷ 0 ∷ 3 ∷ 0 ∷ []))
     ∷ (second-way (journal (hold (plus 1) ∷ hold (plus 3) ∷ withdraw (plus 1) ∷ hold (minus 3) ∷ [])), conflict-with-labels (3 ∷ 3 ∷ 3 ∷ 3 ∷ []))
     ∷ []

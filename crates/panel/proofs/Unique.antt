@@ -21,6 +21,9 @@ one-settle κs a x y = (cc, refl & refl & refl & (cc) & (cc) & (cc) & refl)
 one-ask : One panel.tup_ask.ended panel.tup_ask.Reads.Post
 one-ask κs a x y = (cc, refl)
 
+one-ask-whole : One panel.tup_ask_whole.ended panel.tup_ask_whole.Reads.Post
+one-ask-whole κs a x y = (cc, refl)
+
 one-explain : One panel.tup_explain.ended panel.tup_explain.Reads.Post
 one-explain κs a x y = (cc, refl)
 

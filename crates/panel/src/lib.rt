@@ -8,7 +8,7 @@ ghost use Rattle.board.specs.Faults.{numberIn};
 ghost use Rattle.board.specs.Changes.{opened, held, withdrawn};
 ghost use Rattle.board.specs.Rules.{ruled, ruledTable};
 ghost use Rattle.board.specs.Settling.{settleOutcome, settledLabels, settledRanks, settledSupports, RanksBounded};
-ghost use Rattle.board.specs.Asking.{asked, reasoned, explained};
+ghost use Rattle.board.specs.Asking.{asked, askedWhole, reasoned, explained};
 ghost use Rattle.board.specs.Grounds.{groundOutcome, groundMarks, blameOutcome, blameMarks};
 ghost use Rattle.smallest.specs.Listing.{smallestAnswer, smallestSets};
 ghost use Rattle.dimacs.specs.Reading.{readAnswer, readTable};
@@ -228,6 +228,19 @@ pub extern "C" fn tup_ask(given: PanelBoard, table: &[i16], furnace: u8, l: i16)
     ensures { λ r. ⌜ r ≡ answerOut (asked (now (table .entry)) (boardIn given) furnace l) ⌝ }
 {
     let answer = board::asking::ask(board_in(given), table, furnace, l);
+    answer_out(answer)
+}
+
+#[no_mangle]
+pub extern "C" fn tup_ask_whole(
+    given: PanelBoard,
+    table: &[i16],
+    furnace: u8,
+    l: i16,
+) -> PanelAnswer
+    ensures { λ r. ⌜ r ≡ answerOut (askedWhole (now (table .entry)) (boardIn given) furnace l) ⌝ }
+{
+    let answer = board::asking::ask_whole(board_in(given), table, furnace, l);
     answer_out(answer)
 }
 

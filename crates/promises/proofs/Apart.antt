@@ -20,7 +20,7 @@ use Rattle.board.specs.Faults.{premisesFit, goodBoard, firstFault, ifDone}
 use Rattle.board.specs.Changes.{withFlag, flagFaults, flagChanged}
 use Rattle.board.specs.Rules.{breaksAt, placeTold, rowsOfBytes, ruleFaults, ruled}
 use Rattle.board.specs.Settling.{settleFaults, settleOutcome, settledLabels, settledRanks, settledSupports}
-use Rattle.board.specs.Asking.{askFaults, asked, explainFaults, reasoned, explained}
+use Rattle.board.specs.Asking.{askFaults, asked, askedWhole, explainFaults, reasoned, explained}
 use Rattle.board.specs.Grounds.{groundFaults, groundOutcome, groundMarks, blameFaults, blameOutcome, blameMarks}
 use Rattle.board.specs.declared.Board.{Board}
 use Rattle.board.specs.declared.Outcome.{Outcome}
@@ -36,7 +36,7 @@ use Rattle.chains.specs.Form.{wholeText}
 use Rattle.text.specs.Reading.{bytesIn, readTextFaults, readTextOutcome, readTextAnswer, readTextBytes}
 use Rattle.text.specs.Adding.{textRefused, ruledText}
 use Rattle.text.specs.Writing.{writeTextFaults, writeTextOutcome, writeTextAnswer, writeTextBytes}
-use Rattle.promises.specs.Calls.{Call, opens, adds, holds, withdraws, asks, explains, settles, grounds, blames, lists, reads, writes, readsText, addsText, writesText}
+use Rattle.promises.specs.Calls.{Call, opens, adds, holds, withdraws, asks, asksWhole, explains, settles, grounds, blames, lists, reads, writes, readsText, addsText, writesText}
 use Rattle.promises.specs.Calls.{ofAddition, ofReading, World, front, answer, outcomeOf, outcome, after, run, formulaIn, notOpen, names, changes, without}
 use Rattle.promises.specs.Demands.{Alike, FurnacesApart}
 use Rattle.promises.proofs.Refusals.{done-or-refused, refused-untouched, so-after}
@@ -111,12 +111,13 @@ module _ {f : ℕ} {v u : World} (s : Same f v u) where
 
   -- the same answer to every call that does not name the furnace
   same-answer : (c : Call) → names f c ≡ false → answer v c ≡ answer u c
-  unfolding answer flagChanged flagFaults asked askFaults reasoned explained explainFaults settleOutcome settledLabels settledRanks settledSupports settleFaults groundOutcome groundMarks groundFaults blameOutcome blameMarks blameFaults smallestAnswer smallestSets smallestOutcome smallestFaults smallestAt readFaults writeAnswer writeBytes writeOutcome writeFaults textOn readTextAnswer readTextBytes readTextOutcome readTextFaults writeTextAnswer writeTextBytes writeTextOutcome writeTextFaults
+  unfolding answer flagChanged flagFaults asked askedWhole askFaults reasoned explained explainFaults settleOutcome settledLabels settledRanks settledSupports settleFaults groundOutcome groundMarks groundFaults blameOutcome blameMarks blameFaults smallestAnswer smallestSets smallestOutcome smallestFaults smallestAt readFaults writeAnswer writeBytes writeOutcome writeFaults textOn readTextAnswer readTextBytes readTextOutcome readTextFaults writeTextAnswer writeTextBytes writeTextOutcome writeTextFaults
   same-answer (opens S) n = refl
   same-answer (adds lent bytes) n = rule-same lent bytes
   same-answer (holds lent g l) n = rw (good lent, a .premises g (eqb-false g f n), a .symbols)
   same-answer (withdraws lent g l) n = rw (good lent, a .premises g (eqb-false g f n), a .symbols)
   same-answer (asks lent g l) n = rw (good lent, a .premises g (eqb-false g f n), a .symbols, a .rows, a .table)
+  same-answer (asksWhole lent g l) n = rw (good lent, a .premises g (eqb-false g f n), a .symbols, a .rows, a .table)
   same-answer (explains lent g l) n = rw (good lent, a .premises g (eqb-false g f n), a .symbols, a .rows, a .table)
   same-answer (settles lent g labels ranks supports) n = rw (good lent, a .premises g (eqb-false g f n), a .symbols, a .rows, a .table)
   same-answer (grounds lent g l marks) n = rw (good lent, a .premises g (eqb-false g f n), a .symbols, a .rows, a .table)
@@ -200,6 +201,7 @@ module _ {f : ℕ} {v u : World} (s : Same f v u) where
   same-after (withdraws lent g l) n =
       so-both (withdraws lent g l) refl n (λ e d. same-flagged (eqb-false g f n) (withdraw-flagged v lent g l e) (withdraw-flagged u lent g l d))
   same-after (asks lent g l) n = s
+  same-after (asksWhole lent g l) n = s
   same-after (explains lent g l) n = s
   same-after (settles lent g labels ranks supports) n = s
   same-after (grounds lent g l marks) n = s
@@ -240,6 +242,7 @@ module _ {f : ℕ} {v u : World} (s : Same f v u) where
   after-apart (withdraws lent g l) n =
       so-after (Same f v) u (withdraws lent g l) refl s (λ e. flagged-apart (eqb-true g f n) (withdraw-flagged u lent g l e))
   after-apart (asks lent g l) n = clash n refl
+  after-apart (asksWhole lent g l) n = clash n refl
   after-apart (explains lent g l) n = clash n refl
   after-apart (settles lent g labels ranks supports) n = clash n refl
   after-apart (grounds lent g l marks) n = clash n refl

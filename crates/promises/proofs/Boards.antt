@@ -181,10 +181,12 @@ boards =
       opens 2 ∷ forth ∷ back ∷ hold (pos 1) ∷ withdraw (pos 1) ∷ [],
       (labels, bytes (0 ∷ 0 ∷ [])) ∷ (ask (pos 1), standing Open) ∷ (ask (pos 2), standing Open) ∷ [],
     )
-    -- "hold 3 and −3: label 3, conflict, blame marks both."
+    -- "hold 3 and −3: label 3, conflict, blame marks both." 02, Ticket 11: conflict is what ask answers of 3, and not of 1
     ∷ (
       opens 3 ∷ hold (pos 3) ∷ hold (negsuc 2) ∷ [],
-      (labels, bytes (0 ∷ 0 ∷ 3 ∷ [])) ∷ (ask (pos 1), standing Conflict) ∷ (marks, bytes (0 ∷ 0 ∷ 0 ∷ 0 ∷ 1 ∷ 1 ∷ [])) ∷ [],
+      (labels, bytes (0 ∷ 0 ∷ 3 ∷ [])) ∷ (ask (pos 3), standing Conflict) ∷ (ask (pos 1), standing Open)
+          ∷ (marks, bytes (0 ∷ 0 ∷ 0 ∷ 0 ∷ 1 ∷ 1 ∷ []))
+          ∷ [],
     )
     -- "Blame shall take, among symbols with label 3, the one whose larger rank of its two literals is smallest": 6, with rank 1 twice, and not the
     -- lowest, 1, with rank 3 and 2. So 3 and 4 are marked, and 2 is not. Held alone they are in conflict; without 3 there is none.

@@ -13,7 +13,7 @@ use Rattle.board.specs.declared.rules.Addition.{Addition}
 use Rattle.dimacs.specs.Reading.{readAnswer, readTable}
 use Rattle.dimacs.specs.declared.reading.Reading.{Reading}
 use Rattle.text.specs.Adding.{ruledText, ruledTextTable}
-use Rattle.promises.specs.Calls.{opens, adds, holds, withdraws, asks, explains, settles, grounds, blames, lists, reads, writes}
+use Rattle.promises.specs.Calls.{opens, adds, holds, withdraws, asks, asksWhole, explains, settles, grounds, blames, lists, reads, writes}
 use Rattle.promises.specs.Calls.{readsText, addsText, writesText, World, front, after}
 
 module _ (w : World) where
@@ -58,6 +58,10 @@ module _ (w : World) where
     ask-changes-nothing : (furnace : ℕ) (l : ℤ) → after w (asks lent furnace l) ≡ w
     unfolding after
     ask-changes-nothing furnace l = refl
+
+    ask-whole-changes-nothing : (furnace : ℕ) (l : ℤ) → after w (asksWhole lent furnace l) ≡ w
+    unfolding after
+    ask-whole-changes-nothing furnace l = refl
 
     explain-changes-nothing : (furnace : ℕ) (l : ℤ) → after w (explains lent furnace l) ≡ w
     unfolding after

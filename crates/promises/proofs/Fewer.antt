@@ -17,7 +17,7 @@ use Rattle.board.specs.Faults.{premisesFit}
 use Rattle.board.specs.Changes.{withFlag}
 use Rattle.board.proofs.TwoSets.{held-own, held-other}
 use Rattle.board.proofs.Goodness.{flag-fits}
-use Rattle.promises.specs.Calls.{Call, opens, adds, holds, withdraws, asks, explains, settles, grounds, blames, lists, reads, writes}
+use Rattle.promises.specs.Calls.{Call, opens, adds, holds, withdraws, asks, asksWhole, explains, settles, grounds, blames, lists, reads, writes}
 use Rattle.promises.specs.Calls.{readsText, addsText, writesText, World, after, run, Each, notOpen}
 use Rattle.promises.specs.Demands.{premisesOf, Spares, BringsNothing}
 use Rattle.promises.proofs.Refusals.{so-after}
@@ -69,6 +69,7 @@ module _ (furnace : ℕ) (w : World) (is-furnace : isFurnace furnace ≡ true) w
     step (withdraws lent named l) n nothing =
         so-after (Fewer furnace w) v (withdraws lent named l) refl f (λ d. flagged (withdraw-flagged v lent named l d) (λ is. refl))
     step (asks lent named l) n nothing = f
+    step (asksWhole lent named l) n nothing = f
     step (explains lent named l) n nothing = f
     step (settles lent named labels ranks supports) n nothing = f
     step (grounds lent named l marks) n nothing = f

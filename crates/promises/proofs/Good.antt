@@ -26,7 +26,7 @@ use Rattle.board.specs.Faults.{premisesFit, goodBoard}
 use Rattle.board.specs.Changes.{openFaults, opened}
 use Rattle.board.specs.Rules.{withRules}
 use Rattle.board.proofs.Goodness.{by-rows, empty-good, flag-good}
-use Rattle.promises.specs.Calls.{Call, opens, adds, holds, withdraws, asks, explains, settles, grounds, blames, lists, reads, writes}
+use Rattle.promises.specs.Calls.{Call, opens, adds, holds, withdraws, asks, asksWhole, explains, settles, grounds, blames, lists, reads, writes}
 use Rattle.promises.specs.Calls.{readsText, addsText, writesText, World, front, after, run, notOpen}
 use Rattle.promises.specs.Demands.{StaysGood}
 use Rattle.promises.proofs.Refusals.{so-after}
@@ -187,6 +187,7 @@ module _ (w : World) (g : Whole w) where
   step (holds lent furnace l) n = so-after Whole w (holds lent furnace l) refl g (λ e. flagged-good (hold-flagged w lent furnace l e))
   step (withdraws lent furnace l) n = so-after Whole w (withdraws lent furnace l) refl g (λ e. flagged-good (withdraw-flagged w lent furnace l e))
   step (asks lent furnace l) n = g
+  step (asksWhole lent furnace l) n = g
   step (explains lent furnace l) n = g
   step (settles lent furnace labels ranks supports) n = g
   step (grounds lent furnace l marks) n = g

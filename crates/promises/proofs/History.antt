@@ -18,7 +18,7 @@ use Rattle.board.specs.Furnaces.{withHeld}
 use Rattle.board.specs.Faults.{firstFault, ifDone}
 use Rattle.board.specs.Changes.{emptyBoard, openFaults, opened, withFlag}
 use Rattle.board.specs.declared.Outcome.the-variants.{Done}
-use Rattle.promises.specs.Calls.{Call, opens, adds, holds, withdraws, asks, explains, settles, grounds, blames, lists, reads, writes}
+use Rattle.promises.specs.Calls.{Call, opens, adds, holds, withdraws, asks, asksWhole, explains, settles, grounds, blames, lists, reads, writes}
 use Rattle.promises.specs.Calls.{readsText, addsText, writesText, World, outcome, after, run, rulesAfter, rulesAfterAll, notOpen}
 use Rattle.promises.specs.Demands.{rowsOfWorld, ruledRows, since, acceptedSince}
 use Rattle.promises.proofs.Refusals.{done-or-refused, so-refused, so-after}
@@ -83,6 +83,7 @@ module _ (w : World) (fs : List Formula) (k : Keeps w fs) where
   step (withdraws lent furnace l) =
       so-after Same w (withdraws lent furnace l) refl k (λ e. rw (withdraw-takes w lent furnace l e) (flagged furnace l false))
   step (asks lent furnace l) = k
+  step (asksWhole lent furnace l) = k
   step (explains lent furnace l) = k
   step (settles lent furnace labels ranks supports) = k
   step (grounds lent furnace l marks) = k

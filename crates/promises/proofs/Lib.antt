@@ -13,6 +13,7 @@ mod Spared
 mod Fewer
 pub mod Blamed
 pub mod Unmoved
+pub mod Asked
 pub mod Listed
 pub mod Texts
 pub mod FormulaTexts
@@ -27,5 +28,6 @@ mod Boards
 mod TwoFurnaces
 mod NumberedBoards
 mod GroundBoards
+mod AskedBoards
 mod ListedBoards
 mod Carried

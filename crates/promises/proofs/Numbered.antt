@@ -19,7 +19,7 @@ use Rattle.literals.proofs.RuledRows.{length-ruled, ruled-at, of-rules-in, with
 use Rattle.board.specs.Faults.{goodBoard, firstFault}
 use Rattle.board.specs.Ranking.{rowsOn}
 use Rattle.board.specs.Settling.{settleFaults, settleOutcome, settledLabels, settledRanks, settledSupports}
-use Rattle.board.specs.Asking.{askFaults, asked, explainFaults, reasoned, explained}
+use Rattle.board.specs.Asking.{askFaults, asked, askedWhole, explainFaults, reasoned, explained}
 use Rattle.board.specs.Grounds.{groundFaults, groundOutcome, groundMarks, blameFaults, blameOutcome, blameMarks}
 use Rattle.board.specs.declared.Outcome.{Outcome}
 use Rattle.board.specs.declared.Outcome.the-variants.{Done, Refused}
@@ -146,11 +146,12 @@ module _ (v w : World) (lent furnace : ℕ) (s : SameLiterals v w) (good-v : goo
       go (Refused why) e = rw (same-faults l, e) (refl, refl, refl, refl)
 
   told : SameTold v w lent furnace
-  unfolding answer settleOutcome settledLabels settledRanks settledSupports settleFaults asked askFaults groundOutcome groundMarks groundFaults blameOutcome blameMarks blameFaults smallestAnswer smallestSets smallestOutcome smallestFaults smallestAt writeAnswer writeBytes writeOutcome writeFaults
+  unfolding answer settleOutcome settledLabels settledRanks settledSupports settleFaults asked askedWhole askFaults groundOutcome groundMarks groundFaults blameOutcome blameMarks blameFaults smallestAnswer smallestSets smallestOutcome smallestFaults smallestAt writeAnswer writeBytes writeOutcome writeFaults
   told =
       record {
         settle = λ labels ranks supports. rw (good-v, good-w, s .premises furnace, same-rows, s .symbols);
         ask = λ l. rw (good-v, good-w, s .premises furnace, same-rows, s .symbols);
+        ask-whole = λ l. rw (good-v, good-w, s .premises furnace, same-rows, s .symbols);
         ground = λ l marks. rw (good-v, good-w, s .premises furnace, same-rows, s .symbols);
         blame = λ marks. rw (good-v, good-w, s .premises furnace, same-rows, s .symbols);
         smallest = λ cands l sets. rw (good-v, good-w, same-rows, s .symbols);

@@ -1,6 +1,6 @@
 -- Demand 1: what each call answers is the first of its cases that is given; a refused call leaves board and tables as they were.
 use mathlib.Core.Path.{_≡_, refl, sym, ap, _∙_}
-use mathlib.Core.Bool.{Bool, true, false, cond}
+use mathlib.Core.Bool.{Bool, true, false, cond, _&&_}
 use mathlib.Core.List.{List, [], _∷_, List·Memᴰ as In, List·Memᴰ·head as head, List·Memᴰ·tail as tail}
 use mathlib.Core.List.{List·Memᴰ·cases-cons as in-cons, List·Memᴰ·not-nil as in-nil}
 use mathlib.Core.Logic.{_⊎_, inl, inr, ⊎-elim}
@@ -15,7 +15,7 @@ use Rattle.board.specs.Changes.{opened, flagChanged}
 use Rattle.board.specs.Rules.{ruled, ruledTable}
 use Rattle.board.specs.Settling.{settleOutcome, settledLabels, settledRanks, settledSupports}
 use Rattle.board.specs.Ranking.{derivedOn}
-use Rattle.board.specs.Asking.{askFaults, asked, standing, explainFaults, reasoned, explained}
+use Rattle.board.specs.Asking.{askFaults, standingIf, asked, askedWhole, explainFaults, reasoned, explained}
 use Rattle.board.specs.Grounds.{groundOutcome, groundMarks, blameOutcome, blameMarks}
 use Rattle.board.specs.declared.Outcome.{Outcome}
 use Rattle.board.specs.declared.asking.Reason.{Reason}
@@ -28,7 +28,7 @@ use Rattle.dimacs.specs.declared.reading.Reading.{Reading}
 use Rattle.text.specs.Reading.{bytesIn, readTextOutcome, readTextAnswer, readTextBytes}
 use Rattle.text.specs.Adding.{textRefused, ruledText, ruledTextTable}
 use Rattle.text.specs.Writing.{writeTextOutcome, writeTextAnswer, writeTextBytes}
-use Rattle.promises.specs.Calls.{Call, opens, adds, holds, withdraws, asks, explains, settles, grounds, blames, lists, reads, writes}
+use Rattle.promises.specs.Calls.{Call, opens, adds, holds, withdraws, asks, asksWhole, explains, settles, grounds, blames, lists, reads, writes}
 use Rattle.promises.specs.Calls.{readsText, addsText, writesText, World, front, faults, askOutcome, answer, outcome, after, notOpen}
 use Rattle.promises.specs.Demands.{FirstGiven, here, later, RefusedExactly, DoneExactly, RefusedUntouched, RefusedUnwritten, RefusedHandsBack}
 use Rattle.promises.proofs.RuleTexts.{rule-text-told}
@@ -36,24 +36,28 @@ use Rattle.promises.proofs.RuleTexts.{rule-text-told}
 -- ---- what a call answers
 
 -- how a literal stands is of a call that is done
-stands-done : (known : List Bool) (p : ℕ) → askOutcome (standing known p) ≡ Done
-stands-done known p = go (conflict known) (has known p) (has known (opp p)) refl refl refl
-  where
-    go : (a b c : Bool) → conflict known ≡ a → has known p ≡ b → has known (opp p) ≡ c → askOutcome (standing known p) ≡ Done
-    go true b c ea eb ec = rw ea
-    go false true c ea eb ec = rw (ea, eb)
-    go false false true ea eb ec = rw (ea, eb, ec)
-    go false false false ea eb ec = rw (ea, eb, ec)
+stands-done : (clash derived opposed : Bool) → askOutcome (standingIf clash derived opposed) ≡ Done
+stands-done true derived opposed = refl
+stands-done false true opposed = refl
+stands-done false false true = refl
+stands-done false false false = refl
 
 pub first-case : (w : World) (c : Call) → outcome w c ≡ firstFault (faults w c)
-unfolding answer outcome faults opened flagChanged asked reasoned settleOutcome groundOutcome blameOutcome smallestAnswer smallestOutcome readAnswer writeAnswer writeOutcome readTextAnswer readTextOutcome writeTextAnswer writeTextOutcome
+unfolding answer outcome faults opened flagChanged asked askedWhole reasoned settleOutcome groundOutcome blameOutcome smallestAnswer smallestOutcome readAnswer writeAnswer writeOutcome readTextAnswer readTextOutcome writeTextAnswer writeTextOutcome
 first-case w (opens S) = refl
 first-case w (adds lent bytes) = rule-told (front w lent) (w .board) bytes
 first-case w (holds lent furnace l) = refl
 first-case w (withdraws lent furnace l) = refl
 first-case w (asks lent furnace l) =
     told-by askOutcome _ _ (firstFault (askFaults (front w lent) (w .board) furnace l))
-    (λ e. stands-done (derivedOn (front w lent) (w .board) furnace) (placeOf l) ∙ sym e) (λ why e. sym e)
+    (λ e. (let known = derivedOn (front w lent) (w .board) furnace in let p = placeOf l in
+    stands-done (has known p && has known (opp p)) (has known p) (has known (opp p)) ∙ sym e))
+    (λ why e. sym e)
+first-case w (asksWhole lent furnace l) =
+    told-by askOutcome _ _ (firstFault (askFaults (front w lent) (w .board) furnace l))
+    (λ e. (let known = derivedOn (front w lent) (w .board) furnace in let p = placeOf l in
+    stands-done (conflict known) (has known p) (has known (opp p)) ∙ sym e))
+    (λ why e. sym e)
 first-case w (explains lent furnace l) =
     told-by (λ (r : Reason). r .outcome) _ _ (firstFault (explainFaults (front w lent) (w .board) furnace l)) (λ e. refl) (λ why e. refl)
 first-case w (settles lent furnace labels ranks supports) = refl
@@ -136,6 +140,7 @@ refused-untouched w (adds lent bytes) why e = rule-refused w lent bytes why e .1
 refused-untouched w (holds lent furnace l) why e = rw (cases w (holds lent furnace l) e)
 refused-untouched w (withdraws lent furnace l) why e = rw (cases w (withdraws lent furnace l) e)
 refused-untouched w (asks lent furnace l) why e = refl
+refused-untouched w (asksWhole lent furnace l) why e = refl
 refused-untouched w (explains lent furnace l) why e = refl
 refused-untouched w (settles lent furnace labels ranks supports) why e = refl
 refused-untouched w (grounds lent furnace l marks) why e = refl

@@ -17,7 +17,7 @@ use Rattle.board.specs.Furnaces.{isFurnace, heldBy, withHeld}
 use Rattle.board.specs.Changes.{withFlag}
 use Rattle.board.specs.declared.Outcome.the-variants.{Done}
 use Rattle.board.proofs.TwoSets.{held-own, held-other}
-use Rattle.promises.specs.Calls.{Call, opens, adds, holds, withdraws, asks, explains, settles, grounds, blames, lists, reads, writes}
+use Rattle.promises.specs.Calls.{Call, opens, adds, holds, withdraws, asks, asksWhole, explains, settles, grounds, blames, lists, reads, writes}
 use Rattle.promises.specs.Calls.{readsText, addsText, writesText, World, outcome, after, run, Each, notOpen, takes}
 use Rattle.promises.specs.Demands.{rowsOfWorld, premisesOf, Appends, Spares}
 use Rattle.promises.proofs.Refusals.{so-after}
@@ -90,6 +90,7 @@ module _ (w : World) (furnace : ℕ) (marked : List Bool) (premises : ℕ → Ty
         rw (withdraw-takes v lent named l d)
         (flagged named l false (λ is. less-held l (λ h x. rw (eq-eqb named furnace is) at (out h x d)))))
     step (asks lent named l) n out = k
+    step (asksWhole lent named l) n out = k
     step (explains lent named l) n out = k
     step (settles lent named labels ranks supports) n out = k
     step (grounds lent named l marks) n out = k

@@ -16,15 +16,15 @@ use Rattle.meaning.proofs.Derived.{derived-is}
 use Rattle.board.specs.Faults.{goodBoard}
 use Rattle.board.specs.Ranking.{rowsOn}
 use Rattle.board.specs.Settling.{settleFaults, settleOutcome, settledLabels, settledRanks, settledSupports}
-use Rattle.board.specs.Asking.{askFaults, asked}
+use Rattle.board.specs.Asking.{askFaults, asked, askedWhole}
 use Rattle.board.specs.Grounds.{byteOf, groundFaults, groundOutcome, groundMarks, blameFaults, blameOutcome, blameMarks}
 use Rattle.board.specs.declared.Outcome.the-variants.{Done}
 use Rattle.board.proofs.Goodness.{good-is}
 use Rattle.board.proofs.Answered.{none-given}
 use Rattle.dimacs.specs.Writing.{literalsOf, clauseAt, clausesAt, textOf, textOn, writeFaults, writeOutcome, writeAnswer, writeBytes}
-use Rattle.promises.specs.Calls.{asks, settles, World, front, faults, answer, outcome, run}
+use Rattle.promises.specs.Calls.{asks, asksWhole, settles, World, front, faults, answer, outcome, run}
 use Rattle.promises.specs.Demands.{rowsOfWorld, premisesOf, derivedSet, rankIn, supportIn, Tells, SettleTells, SettleSpares}
-use Rattle.promises.specs.Demands.{AskTells, GroundTells, BlameTells, WriteTells}
+use Rattle.promises.specs.Demands.{AskTells, AskWholeTells, GroundTells, BlameTells, WriteTells}
 use Rattle.promises.proofs.Refusals.{cases}
 use Rattle.promises.proofs.Lent.{rows-lent, numbers-lent}
 
@@ -95,6 +95,12 @@ pub ask-tells : AskTells
 unfolding faults asked askFaults
 ask-tells w lent furnace l e =
     let f = cases w (asks lent furnace l) e in
+    rw (f, rows-read w lent (none-given (askFaults (front w lent) (w .board) furnace l) f 0))
+
+pub ask-whole-tells : AskWholeTells
+unfolding faults askedWhole askFaults
+ask-whole-tells w lent furnace l e =
+    let f = cases w (asksWhole lent furnace l) e in
     rw (f, rows-read w lent (none-given (askFaults (front w lent) (w .board) furnace l) f 0))
 
 -- as many marks are written as there are

@@ -21,7 +21,7 @@ use Rattle.board.specs.Faults.{premisesFit, goodBoard, numberIn}
 use Rattle.board.specs.Changes.{openFaults, opened, emptyBoard, withFlag, flagFaults, flagChanged}
 use Rattle.board.specs.Rules.{ruleFaults, ruled, ruledTable}
 use Rattle.board.specs.Settling.{settleFaults, settleOutcome, settledLabels, settledRanks, settledSupports}
-use Rattle.board.specs.Asking.{askFaults, asked, explainFaults, reasoned}
+use Rattle.board.specs.Asking.{askFaults, asked, askedWhole, explainFaults, reasoned}
 use Rattle.board.specs.Grounds.{groundFaults, groundOutcome, blameFaults, blameOutcome}
 use Rattle.board.specs.declared.Outcome.the-variants.{Done}
 use Rattle.board.specs.declared.asking.Standing.{Standing}
@@ -38,7 +38,7 @@ use Rattle.chains.specs.Spelling.{unitText, spelled}
 use Rattle.text.specs.Reading.{readTextFaults, readTextOutcome, readTextAnswer}
 use Rattle.text.specs.Adding.{ruledText}
 use Rattle.text.specs.Writing.{writeTextFaults, writeTextOutcome, writeTextAnswer}
-use Rattle.promises.specs.Calls.{Call, opens, holds, withdraws, asks, explains, settles, grounds, blames, reads, writes, readsText}
+use Rattle.promises.specs.Calls.{Call, opens, holds, withdraws, asks, asksWhole, explains, settles, grounds, blames, reads, writes, readsText}
 use Rattle.promises.specs.Calls.{addsText, writesText, World, Answer, ofSettle, ofAsk, answer, outcome, after, run}
 use Rattle.promises.proofs.Boards.{lent, fresh, blank, forth, answers}
 
@@ -98,6 +98,7 @@ named furnace l places =
     ∷ withdraw furnace l
     ∷ settles lent furnace (blank places) (blank places) (blank places)
     ∷ asks lent furnace l
+    ∷ asksWhole lent furnace l
     ∷ explain furnace l
     ∷ grounds lent furnace l (blank places)
     ∷ blame furnace places
@@ -151,31 +152,31 @@ boards =
     ∷ (
       fresh,
       opens 2 ∷ forth ∷ hold 1 (pos 1) ∷ [],
-      (numbers (misnamed (pos 1) 4), these (replicate 21 16))
-          ∷ (numbers (misnamed (pos 0) 4), these (replicate 21 16))
-          ∷ (numbers (misnamed (pos 3) 4), these (replicate 21 16))
-          ∷ (numbers (misnamed (pos 1) 1), these (replicate 21 16))
-          ∷ (numbers (misnamed (pos 0) 1), these (replicate 21 16))
-          ∷ (numbers (misnamed (pos 3) 1), these (replicate 21 16))
-          ∷ (numbers (named 1 (pos 3) 1), these (2 ∷ 2 ∷ 13 ∷ 2 ∷ 2 ∷ 2 ∷ 13 ∷ []))
+      (numbers (misnamed (pos 1) 4), these (replicate 24 16))
+          ∷ (numbers (misnamed (pos 0) 4), these (replicate 24 16))
+          ∷ (numbers (misnamed (pos 3) 4), these (replicate 24 16))
+          ∷ (numbers (misnamed (pos 1) 1), these (replicate 24 16))
+          ∷ (numbers (misnamed (pos 0) 1), these (replicate 24 16))
+          ∷ (numbers (misnamed (pos 3) 1), these (replicate 24 16))
+          ∷ (numbers (named 1 (pos 3) 1), these (2 ∷ 2 ∷ 13 ∷ 2 ∷ 2 ∷ 2 ∷ 2 ∷ 13 ∷ []))
           ∷ [],
     )
     -- "just after 1": on a board that is not opened
-    ∷ (fresh, [], (numbers (named 1 (pos 1) 4), these (replicate 7 1)) ∷ (numbers (misnamed (pos 0) 1), these (replicate 21 1)) ∷ [])
+    ∷ (fresh, [], (numbers (named 1 (pos 1) 4), these (replicate 8 1)) ∷ (numbers (misnamed (pos 0) 1), these (replicate 24 1)) ∷ [])
     -- and where "a held premise is of a symbol beyond S", also the other furnace's, and for calls that name none; 2 itself is not beyond
-    ∷ (holding 2 (pos 3), [], (numbers (named 1 (pos 1) 4), these (replicate 7 1)) ∷ (numbers unnamed, these (replicate 6 1)) ∷ [])
-    ∷ (holding 1 (pos 3), [], (numbers (named 2 (pos 1) 4), these (replicate 7 1)) ∷ (numbers unnamed, these (replicate 6 1)) ∷ [])
+    ∷ (holding 2 (pos 3), [], (numbers (named 1 (pos 1) 4), these (replicate 8 1)) ∷ (numbers unnamed, these (replicate 6 1)) ∷ [])
+    ∷ (holding 1 (pos 3), [], (numbers (named 2 (pos 1) 4), these (replicate 8 1)) ∷ (numbers unnamed, these (replicate 6 1)) ∷ [])
     ∷ (
       holding 2 (pos 2),
       [],
-      (numbers (named 1 (pos 1) 4), these (0 ∷ 11 ∷ 0 ∷ 0 ∷ 12 ∷ 12 ∷ 12 ∷ [])) ∷ (numbers unnamed, these (replicate 6 0)) ∷ [],
+      (numbers (named 1 (pos 1) 4), these (0 ∷ 11 ∷ 0 ∷ 0 ∷ 0 ∷ 12 ∷ 12 ∷ 12 ∷ [])) ∷ (numbers unnamed, these (replicate 6 0)) ∷ [],
     )
     -- furnace 1 is in conflict, furnace 2 is not
     ∷ (
       fresh,
       opens 3 ∷ hold 1 (pos 3) ∷ hold 1 (negsuc 2) ∷ [],
-      (ask 1 (pos 1), standing Conflict)
-          ∷ (ask 2 (pos 1), standing Open)
+      (ask 1 (pos 3), standing Conflict)
+          ∷ (ask 2 (pos 3), standing Open)
           ∷ (numbers (blame 1 6 ∷ blame 2 6 ∷ []), these (0 ∷ 12 ∷ []))
           ∷ [],
     )
@@ -199,5 +200,5 @@ abbrev due : World × List Call × List (Question × Found) → List ℕ × List
 due b = (map (λ c. 0) (b .1), map (λ q. q .1) (b .2))
 
 two-furnaces-hold : map found boards ≡ map due boards
-unfolding tell outcome answer after opp value occurs symbolsOf hit implicate prime ofSize gives next reached rankBy firstGiver supportAt supportOf ranksOf supportsOf labelsOf placeOf literalAt numbersAt ruleAt zeros rising rowSound ruleBefore ruleSound rowsSound decode rowsIn encode symbolAt secondOf bodyOf parse wholeOf appended isFurnace heldBy withHeld premisesFit goodBoard openFaults opened flagFaults flagChanged ruleFaults ruled ruledTable settleFaults settleOutcome settledLabels settledRanks settledSupports askFaults asked explainFaults reasoned groundFaults groundOutcome blameFaults blameOutcome digitsOf upTo since wordsIn decimal numberOf literalOf pastComments startsWith countsIn headerIn clausesIn parseText oneOf clauseFaults clausesFaults passed textFaults readFaults readAnswer spaced clauseLines textOf literalsOf clausesAt textOn writeFaults writeOutcome writeAnswer bytesOf lead unitOf fromMark goOn more atClose closed bracketAt wholeText unitText spelled readTextFaults readTextOutcome readTextAnswer ruledText writeTextFaults writeTextOutcome writeTextAnswer
+unfolding tell outcome answer after opp value occurs symbolsOf hit implicate prime ofSize gives next reached rankBy firstGiver supportAt supportOf ranksOf supportsOf labelsOf placeOf literalAt numbersAt ruleAt zeros rising rowSound ruleBefore ruleSound rowsSound decode rowsIn encode symbolAt secondOf bodyOf parse wholeOf appended isFurnace heldBy withHeld premisesFit goodBoard openFaults opened flagFaults flagChanged ruleFaults ruled ruledTable settleFaults settleOutcome settledLabels settledRanks settledSupports askFaults asked askedWhole explainFaults reasoned groundFaults groundOutcome blameFaults blameOutcome digitsOf upTo since wordsIn decimal numberOf literalOf pastComments startsWith countsIn headerIn clausesIn parseText oneOf clauseFaults clausesFaults passed textFaults readFaults readAnswer spaced clauseLines textOf literalsOf clausesAt textOn writeFaults writeOutcome writeAnswer bytesOf lead unitOf fromMark goOn more atClose closed bracketAt wholeText unitText spelled readTextFaults readTextOutcome readTextAnswer ruledText writeTextFaults writeTextOutcome writeTextAnswer
 two-furnaces-hold = refl

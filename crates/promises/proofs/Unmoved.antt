@@ -1,7 +1,7 @@
 -- 02, Ticket 9, over calls: the marks that can't move.
 use mathlib.Core.Path.{_≡_, refl, sym, ap, _∙_}
-use mathlib.Core.Logic.{⊎-elim}
-use mathlib.Core.Bool.{Bool, true, false, not, _&&_, and-false}
+use mathlib.Core.Logic.{inl, inr, ⊎-elim}
+use mathlib.Core.Bool.{Bool, true, false, cond, not, _&&_, and-false}
 use mathlib.Core.List.{List, [], _∷_, map}
 use Prim.Native.Nat.{ℕ, _*_, _<_}
 use native.Mathlib.Omega.{arith}
@@ -10,7 +10,7 @@ use lib.Dec.{eqb}
 use lib.IntN.{ℤ}
 use lib.ListN.{length, drop, getD}
 use Rattle.meaning.specs.Tests.{none}
-use Rattle.meaning.specs.Literals.{has, Within, conflict}
+use Rattle.meaning.specs.Literals.{opp, has, Within, conflict}
 use Rattle.meaning.specs.Rounds.{derived}
 use Rattle.meaning.specs.Ground.{ground}
 use Rattle.meaning.specs.Promises.{Unmoved}
@@ -19,28 +19,36 @@ use Rattle.meaning.proofs.Tables.{length-tabulate}
 use Rattle.meaning.proofs.Literals.{has-below}
 use Rattle.meaning.proofs.Ranks.{rank-zero}
 use Rattle.meaning.proofs.Derived.{derived-is}
-use Rattle.meaning.proofs.Growth.{no-conflict-more}
+use Rattle.meaning.proofs.Growth.{known-before, no-conflict-more}
 use Rattle.meaning.proofs.Unmoved.{ground-held, ground-enough}
 use Rattle.literals.specs.Literal.{inRange, placeOf}
 use Rattle.literals.proofs.Decoding.{length-rows}
 use Rattle.board.specs.Furnaces.{isFurnace, heldBy}
-use Rattle.board.specs.Faults.{goodBoard, Fault}
+use Rattle.board.specs.Faults.{goodBoard, Fault, firstFault, ifDone}
 use Rattle.board.specs.Ranking.{rowsOn, derivedOn}
 use Rattle.board.specs.Settling.{settleFaults, settleOutcome, settledRanks, settledSupports}
-use Rattle.board.specs.Asking.{askFaults, asked, explainFaults, reasoned, explained}
+use Rattle.board.specs.Asking.{askFaults, standing, asked, standingWhole, askedWhole, explainFaults, reasoned, explained}
 use Rattle.board.specs.Grounds.{byteOf, groundFaults, groundOutcome, groundMarks}
 use Rattle.board.specs.declared.Outcome.the-variants.{Done, Refused}
-use Rattle.board.specs.declared.asking.Standing.the-variants.{Stands}
+use Rattle.board.specs.declared.asking.Standing.{Standing}
+use Rattle.board.specs.declared.asking.Standing.the-variants.{Conflict, Stands, Refused as Unasked}
 use Rattle.board.proofs.Arguments.{place-fits}
 use Rattle.board.proofs.Goodness.{Good, good-is}
 use Rattle.board.proofs.Answered.{none-given}
-use Rattle.promises.specs.Calls.{Call, withdraws, asks, explains, settles, grounds, World, ofAsk, front, faults, answer, outcome, run}
+use Rattle.promises.specs.Calls.{Call, withdraws, asks, asksWhole, explains, settles, grounds, World, ofAsk, front, faults, answer, outcome, run}
 use Rattle.promises.specs.Demands.{rowsOfWorld, premisesOf, derivedSet, rankIn, supportIn}
-use Rattle.promises.specs.Demands.{InGround, GroundAlone, CannotMove, MarkStays, StrikesOff}
+use Rattle.promises.specs.Demands.{InGround, GroundAlone, KeptBut, CannotMove, MarkStays, StrikesOff}
 use Rattle.promises.proofs.Refusals.{cases, done-or-refused, refused-unwritten}
 use Rattle.promises.proofs.Told.{rows-read, settle-tells, ground-tells, mark-at, byte-one}
 use Rattle.promises.proofs.Fewer.{Fewer, fewer}
 use Rattle.promises.proofs.Spared.{spared}
+
+-- how a literal stands that was derived and still is, where what is a conflict for it now was one before
+kept-but : (before now : Bool) → (now ≡ true → before ≡ true) → KeptBut (ofAsk (cond before Conflict Stands)) (ofAsk (cond now Conflict Stands))
+kept-but true true more = inl refl
+kept-but true false more = inr (refl, refl)
+kept-but false true more = clash (more refl) refl
+kept-but false false more = inl refl
 
 -- ---- a literal whose ground is told
 
@@ -158,31 +166,73 @@ module _ (w : World) (lent furnace : ℕ) (l : ℤ) (marks : List ℕ) (e : outc
         by-part some (grounds some furnace l bytes) (λ g. rw (good-same some, g))
         (λ g read. rw (good-same some, g, f .symbols, f .rows, f .table, read, u .derived, is-derived, u .ground))
 
-    ask-same : (some : ℕ) → conflict (derivedSet v furnace) ≡ conflict (derivedSet w furnace)
-        → answer v (asks some furnace l) ≡ answer w (asks some furnace l)
-    unfolding answer asked askFaults heldBy
-    ask-same some same =
-        let both : conflict (derived (2 * S) rows (premisesOf v furnace)) ≡ conflict (derivedSet w furnace) =
-        rw (f .symbols, f .rows, f .table) at same in
-        by-part some (asks some furnace l) (λ g. rw (good-same some, g))
-        (λ g read. rw (good-same some, g, f .symbols, f .rows, f .table, read, both, u .derived, is-derived))
+    -- both calls that ask are refused as before; where they are done, they answer by the rows of the table
+    told-kept : (some : ℕ) (before now : Standing) → (rowsOn (front w some) (w .board) ≡ rows → KeptBut (ofAsk before) (ofAsk now))
+        → KeptBut (ofAsk (ifDone (firstFault (askFaults (front w some) (w .board) furnace l)) before Unasked))
+        (ofAsk (ifDone (firstFault (askFaults (front v some) (v .board) furnace l)) now Unasked))
+    unfolding askFaults
+    told-kept some before now kept =
+        ⊎-elim
+        (λ (g : goodBoard (front w some) (w .board) ≡ true).
+        rw (good-same some, g, named, f .symbols, range) (kept (rows-read w some (ap not g))))
+        (λ (g : goodBoard (front w some) (w .board) ≡ false). inl (rw (good-same some, g)))
+        (true-or-false (goodBoard (front w some) (w .board)))
 
-    stands-now : (some : ℕ) → conflict (derivedSet v furnace) ≡ false → outcome w (asks some furnace l) ≡ Done
+    -- what is derived now was derived before, so the opposite of the literal is not derived anew,
+    ask-kept : (some : ℕ) → KeptBut (answer w (asks some furnace l)) (answer v (asks some furnace l))
+    unfolding answer asked heldBy
+    ask-kept some =
+        told-kept some (standing (derivedOn (front w some) (w .board) furnace) p) (standing (derivedOn (front v some) (v .board) furnace) p)
+        (λ read. rw (f .symbols, f .rows, f .table, read, is-derived, u .derived)
+        (kept-but _ _ (known-before (2 * S) rows (premisesOf v furnace) held (f .premises) (2 * S) (opp p))))
+
+    -- and no conflict comes up
+    conflict-before : conflict (derived (2 * S) rows (premisesOf v furnace)) ≡ true → conflict (derived (2 * S) rows held) ≡ true
+    conflict-before = no-conflict-more (2 * S) rows (premisesOf v furnace) held (f .premises)
+
+    ask-whole-kept : (some : ℕ) → KeptBut (answer w (asksWhole some furnace l)) (answer v (asksWhole some furnace l))
+    unfolding answer askedWhole heldBy
+    ask-whole-kept some =
+        told-kept some (standingWhole (derivedOn (front w some) (w .board) furnace) p)
+        (standingWhole (derivedOn (front v some) (v .board) furnace) p)
+        (λ read. rw (f .symbols, f .rows, f .table, read, is-derived, u .derived) (kept-but _ _ conflict-before))
+
+    -- where the board was good, what either call tells now is how the literal stands
+    told-now : (some : ℕ) (now : Standing) → goodBoard (front w some) (w .board) ≡ true
+        → ofAsk (ifDone (firstFault (askFaults (front v some) (v .board) furnace l)) now Unasked) ≡ ofAsk now
+    unfolding askFaults
+    told-now some now g = rw (good-same some, g, named, f .symbols, range)
+
+    was-good : (some : ℕ) (c : Call) → faults w c ≡ askFaults (front w some) (w .board) furnace l → outcome w c ≡ Done
+        → goodBoard (front w some) (w .board) ≡ true
+    unfolding askFaults
+    was-good some c e d = not-false (goodBoard (front w some) (w .board))
+        (none-given (askFaults (front w some) (w .board) furnace l) (sym (ap firstFault e) ∙ cases w c d) 0)
+
+    stands-now : (some : ℕ) → has (derivedSet v furnace) (opp p) ≡ false → outcome w (asks some furnace l) ≡ Done
         → answer v (asks some furnace l) ≡ ofAsk Stands
-    unfolding answer outcome asked askFaults faults heldBy
-    stands-now some quiet d =
-        let given = none-given (askFaults (front w some) (w .board) furnace l) (cases w (asks some furnace l) d) in
-        let g = not-false (goodBoard (front w some) (w .board)) (given 0) in
-        let read = rows-read w some (given 0) in
+    unfolding answer asked faults heldBy
+    stands-now some alone d =
+        let g = was-good some (asks some furnace l) refl d in
+        let still : has (derived (2 * S) rows (premisesOf v furnace)) (opp p) ≡ false = rw (f .symbols, f .rows, f .table) at alone in
+        told-now some (standing (derivedOn (front v some) (v .board) furnace) p) g
+        ∙ rw (f .symbols, f .rows, f .table, rows-read w some (ap not g), u .derived, still)
+
+    stands-whole-now : (some : ℕ) → conflict (derivedSet v furnace) ≡ false → outcome w (asksWhole some furnace l) ≡ Done
+        → answer v (asksWhole some furnace l) ≡ ofAsk Stands
+    unfolding answer askedWhole faults heldBy
+    stands-whole-now some quiet d =
+        let g = was-good some (asksWhole some furnace l) refl d in
         let still : conflict (derived (2 * S) rows (premisesOf v furnace)) ≡ false = rw (f .symbols, f .rows, f .table) at quiet in
-        rw (good-same some, g, f .symbols, f .rows, f .table, read, named, range, still, u .derived)
+        told-now some (standingWhole (derivedOn (front v some) (v .board) furnace) p) g
+        ∙ rw (f .symbols, f .rows, f .table, rows-read w some (ap not g), still, u .derived)
 
     no-conflict : conflict (derivedSet w furnace) ≡ false → conflict (derivedSet v furnace) ≡ false
     unfolding heldBy
     no-conflict quiet =
         rw (f .symbols, f .rows, f .table)
         (false-of (conflict (derived (2 * S) rows (premisesOf v furnace)))
-        (λ c. clash (no-conflict-more (2 * S) rows (premisesOf v furnace) held (f .premises) c) quiet))
+        (λ c. clash (conflict-before c) quiet))
 
     module _ (some : ℕ) (labels ranks supports : List ℕ) where
       outcome-same : outcome v (settles some furnace labels ranks supports) ≡ outcome w (settles some furnace labels ranks supports)
@@ -220,8 +270,10 @@ module _ (w : World) (lent furnace : ℕ) (l : ℤ) (marks : List ℕ) (e : outc
               λ some labels ranks supports.
               let same = settled-same some labels ranks supports in (outcome-same some labels ranks supports, same .0, same .1);
           ground = ground-same;
-          ask = ask-same;
+          ask = ask-kept;
           stands = stands-now;
+          ask-whole = ask-whole-kept;
+          stands-whole = stands-whole-now;
           no-conflict = no-conflict;
         }
 

@@ -15,7 +15,7 @@ use Rattle.board.specs.Faults.{Fault, ifDone}
 use Rattle.board.specs.Changes.{openFaults, opened, holdFaults, held, withdrawFaults, withdrawn}
 use Rattle.board.specs.Rules.{ruleFaults, ruled, ruledTable}
 use Rattle.board.specs.Settling.{settleFaults, settleOutcome, settledLabels, settledRanks, settledSupports}
-use Rattle.board.specs.Asking.{askFaults, asked, explainFaults, reasoned, Span, explained}
+use Rattle.board.specs.Asking.{askFaults, asked, askedWhole, explainFaults, reasoned, Span, explained}
 use Rattle.board.specs.Grounds.{groundFaults, groundOutcome, groundMarks, blameFaults, blameOutcome, blameMarks}
 use Rattle.smallest.specs.Listing.{smallestFaults, smallestAnswer, smallestSets}
 use Rattle.dimacs.specs.Form.{parseText}
@@ -40,7 +40,7 @@ use Rattle.text.specs.declared.Spelling.{Spelling}
 pub data Call : Type 0 where
   opens : (symbols : ℕ) → Call
   adds : (lent : ℕ) (bytes : List ℕ) → Call
-  holds withdraws asks explains : (lent furnace : ℕ) (l : ℤ) → Call
+  holds withdraws asks asksWhole explains : (lent furnace : ℕ) (l : ℤ) → Call
   settles : (lent furnace : ℕ) (labels ranks supports : List ℕ) → Call
   grounds : (lent furnace : ℕ) (l : ℤ) (marks : List ℕ) → Call
   blames : (lent furnace : ℕ) (marks : List ℕ) → Call
@@ -67,6 +67,7 @@ faults w (adds lent bytes) = ruleFaults (front w lent) (w .board) bytes
 faults w (holds lent furnace l) = holdFaults (front w lent) (w .board) furnace l
 faults w (withdraws lent furnace l) = withdrawFaults (front w lent) (w .board) furnace l
 faults w (asks lent furnace l) = askFaults (front w lent) (w .board) furnace l
+faults w (asksWhole lent furnace l) = askFaults (front w lent) (w .board) furnace l
 faults w (explains lent furnace l) = explainFaults (front w lent) (w .board) furnace l
 faults w (settles lent furnace labels ranks supports) =
     settleFaults (front w lent) (w .board) furnace (length labels) (length ranks) (length supports)
@@ -79,7 +80,7 @@ faults w (readsText lent text out) = readTextFaults (front w lent) (w .board) te
 faults w (addsText lent text) = ruleTextFaults (front w lent) (w .board) text
 faults w (writesText lent bytes out) = writeTextFaults (front w lent) (w .board) bytes (length out)
 
--- ask has one answer for both: how the literal stands, which is of a call that is done, or why it is refused
+-- the two calls that ask answer by a standing alone: how the literal stands, which is of a call that is done, or why it is refused
 abbrev pub askOutcome : Standing → Outcome
 askOutcome Conflict = Done
 askOutcome Stands = Done
@@ -107,6 +108,7 @@ answer w (adds lent bytes) = let a = ruled (front w lent) (w .board) bytes in of
 answer w (holds lent furnace l) = ofChange (held (front w lent) (w .board) furnace l .outcome)
 answer w (withdraws lent furnace l) = ofChange (withdrawn (front w lent) (w .board) furnace l .outcome)
 answer w (asks lent furnace l) = ofAsk (asked (front w lent) (w .board) furnace l)
+answer w (asksWhole lent furnace l) = ofAsk (askedWhole (front w lent) (w .board) furnace l)
 answer w (explains lent furnace l) = ofExplain (reasoned (front w lent) (w .board) furnace l) (explained (front w lent) (w .board) furnace l)
 answer w (settles lent furnace labels ranks supports) =
     ofSettle (settleOutcome (front w lent) (w .board) furnace labels ranks supports)
@@ -154,6 +156,7 @@ after w (adds lent bytes) =
 after w (holds lent furnace l) = record { board = held (front w lent) (w .board) furnace l .board; table = w .table }
 after w (withdraws lent furnace l) = record { board = withdrawn (front w lent) (w .board) furnace l .board; table = w .table }
 after w (asks lent furnace l) = w
+after w (asksWhole lent furnace l) = w
 after w (explains lent furnace l) = w
 after w (settles lent furnace labels ranks supports) = w
 after w (grounds lent furnace l marks) = w
@@ -196,6 +199,7 @@ rulesAfter w fs (adds lent bytes) = ifDone (outcome w (adds lent bytes)) (fs ++ 
 rulesAfter w fs (holds lent furnace l) = fs
 rulesAfter w fs (withdraws lent furnace l) = fs
 rulesAfter w fs (asks lent furnace l) = fs
+rulesAfter w fs (asksWhole lent furnace l) = fs
 rulesAfter w fs (explains lent furnace l) = fs
 rulesAfter w fs (settles lent furnace labels ranks supports) = fs
 rulesAfter w fs (grounds lent furnace l marks) = fs
@@ -219,6 +223,7 @@ notOpen (adds lent bytes) = true
 notOpen (holds lent furnace l) = true
 notOpen (withdraws lent furnace l) = true
 notOpen (asks lent furnace l) = true
+notOpen (asksWhole lent furnace l) = true
 notOpen (explains lent furnace l) = true
 notOpen (settles lent furnace labels ranks supports) = true
 notOpen (grounds lent furnace l marks) = true
@@ -239,6 +244,7 @@ names f (adds lent bytes) = false
 names f (holds lent furnace l) = eqb furnace f
 names f (withdraws lent furnace l) = eqb furnace f
 names f (asks lent furnace l) = eqb furnace f
+names f (asksWhole lent furnace l) = eqb furnace f
 names f (explains lent furnace l) = eqb furnace f
 names f (settles lent furnace labels ranks supports) = eqb furnace f
 names f (grounds lent furnace l marks) = eqb furnace f
@@ -257,6 +263,7 @@ changes (adds lent bytes) = false
 changes (holds lent furnace l) = true
 changes (withdraws lent furnace l) = true
 changes (asks lent furnace l) = false
+changes (asksWhole lent furnace l) = false
 changes (explains lent furnace l) = false
 changes (settles lent furnace labels ranks supports) = false
 changes (grounds lent furnace l marks) = false
@@ -275,6 +282,7 @@ brings f (adds lent bytes) = true
 brings f (holds lent furnace l) = eqb furnace f
 brings f (withdraws lent furnace l) = false
 brings f (asks lent furnace l) = false
+brings f (asksWhole lent furnace l) = false
 brings f (explains lent furnace l) = false
 brings f (settles lent furnace labels ranks supports) = false
 brings f (grounds lent furnace l marks) = false
@@ -293,6 +301,7 @@ takes f h (adds lent bytes) = false
 takes f h (holds lent furnace l) = false
 takes f h (withdraws lent furnace l) = eqb furnace f && eqb (placeOf l) h
 takes f h (asks lent furnace l) = false
+takes f h (asksWhole lent furnace l) = false
 takes f h (explains lent furnace l) = false
 takes f h (settles lent furnace labels ranks supports) = false
 takes f h (grounds lent furnace l marks) = false

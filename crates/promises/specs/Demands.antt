@@ -5,11 +5,11 @@ use mathlib.Core.Bool.{Bool, true, false, cond, _&&_, _||_}
 use mathlib.Core.List.{List, [], _∷_, _++_, map, List·Memᴰ as In}
 use Prim.Native.Nat.{ℕ, suc, _+_, _-_, _*_, _^_, _≤_, _<_}
 use lib.Dec.{leb}
-use lib.IntN.{ℤ}
+use lib.IntN.{ℤ, pos, negsuc, natAbs}
 use lib.ListN.{length, take, drop, getD}
 use Rattle.meaning.specs.Tests.{all}
 use Rattle.meaning.specs.BySize.{BySize, EachBefore}
-use Rattle.meaning.specs.Literals.{place, has, conflict}
+use Rattle.meaning.specs.Literals.{place, opp, has, conflict}
 use Rattle.meaning.specs.Formulae.{Formula, symbol, ruleOf}
 use Rattle.meaning.specs.Clauses.{rowsOf, allRows}
 use Rattle.meaning.specs.Rounds.{label}
@@ -30,10 +30,11 @@ use Rattle.board.specs.Changes.{emptyBoard, withFlag}
 use Rattle.board.specs.Rules.{noPlace, ruled}
 use Rattle.board.specs.Settling.{settledLabels, settledRanks, settledSupports, RanksBounded}
 use Rattle.board.specs.Ranking.{rowsOn, derivedOn, rankOn, supportOn}
-use Rattle.board.specs.Asking.{asked, standing, reasoned, explained}
+use Rattle.board.specs.Asking.{asked, standing, askedWhole, standingWhole, reasoned, explained}
 use Rattle.board.specs.Grounds.{byteOf, groundMarks, blameMarks}
 use Rattle.board.specs.declared.Outcome.the-variants.{Done, Refused}
-use Rattle.board.specs.declared.asking.Standing.the-variants.{Stands}
+use Rattle.board.specs.declared.asking.Standing.{Standing}
+use Rattle.board.specs.declared.asking.Standing.the-variants.{Conflict, Stands, RuledOut, Open}
 use Rattle.smallest.specs.Listing.{placesOf, smallestOn, smallestAnswer, smallestSets}
 use Rattle.dimacs.specs.Form.{isGood, clausesOf, parseText}
 use Rattle.dimacs.specs.Clauses.{oneOf, clauseFaults, clausesFaults}
@@ -44,8 +45,8 @@ use Rattle.chains.specs.Promises.{Says, Offends}
 use Rattle.text.specs.Reading.{bytesIn, readTextAnswer, readTextBytes}
 use Rattle.text.specs.Adding.{ruledText}
 use Rattle.text.specs.Writing.{textIn, writeTextAnswer, writeTextBytes}
-use Rattle.promises.specs.Calls.{Call, opens, adds, holds, withdraws, asks, explains, settles, grounds, blames, lists, reads, writes, readsText, addsText, writesText}
-use Rattle.promises.specs.Calls.{World, front, faults, outcome, after, run, Each, formulaIn, rulesAfterAll, notOpen, names, brings, takes, without, ofAsk, answer}
+use Rattle.promises.specs.Calls.{Call, opens, adds, holds, withdraws, asks, asksWhole, explains, settles, grounds, blames, lists, reads, writes, readsText, addsText, writesText}
+use Rattle.promises.specs.Calls.{World, front, faults, outcome, after, run, Each, formulaIn, rulesAfterAll, notOpen, names, brings, takes, without, Answer, ofAsk, answer}
 
 -- ---- demand 1: "Each refusal is given exactly in the case document 01 names, and leaves each table untouched."
 
@@ -308,6 +309,11 @@ AskTells =
     (w : World) (lent furnace : ℕ) (l : ℤ) → outcome w (asks lent furnace l) ≡ Done
     → asked (front w lent) (w .board) furnace l ≡ standing (derivedSet w furnace) (placeOf l)
 
+abbrev pub AskWholeTells : Type 0
+AskWholeTells =
+    (w : World) (lent furnace : ℕ) (l : ℤ) → outcome w (asksWhole lent furnace l) ≡ Done
+    → askedWhole (front w lent) (w .board) furnace l ≡ standingWhole (derivedSet w furnace) (placeOf l)
+
 -- the rank, the row number, the number of that row's rule, and the literals of that row
 pub record Explains (w : World) (lent furnace : ℕ) (l : ℤ) : Type 0 where
   pub rank : reasoned (front w lent) (w .board) furnace l .rank ≡ rankIn w furnace (placeOf l)
@@ -525,6 +531,7 @@ pub record SameLiterals (v w : World) : Type 0 where
 pub record SameTold (v w : World) (lent furnace : ℕ) : Type 0 where
   pub settle : (labels ranks supports : List ℕ) → let c = settles lent furnace labels ranks supports in answer v c ≡ answer w c
   pub ask : (l : ℤ) → answer v (asks lent furnace l) ≡ answer w (asks lent furnace l)
+  pub ask-whole : (l : ℤ) → answer v (asksWhole lent furnace l) ≡ answer w (asksWhole lent furnace l)
   pub ground : (l : ℤ) (marks : List ℕ) → answer v (grounds lent furnace l marks) ≡ answer w (grounds lent furnace l marks)
   pub blame : (marks : List ℕ) → answer v (blames lent furnace marks) ≡ answer w (blames lent furnace marks)
   pub smallest : (cands : List ℤ) (l : ℤ) (sets : List ℕ) → answer v (lists lent cands l sets) ≡ answer w (lists lent cands l sets)
@@ -556,6 +563,10 @@ GroundAlone =
     → DerivedOn v furnace (placeOf l) × (rankIn v furnace (placeOf l) ≡ rankIn w furnace (placeOf l))
     × (supportIn v furnace (placeOf l) ≡ supportIn w furnace (placeOf l))
 
+-- how a literal stands is what it was, refusals included, or it was in conflict and stands now
+abbrev pub KeptBut : (before now : Answer) → Type 0
+KeptBut before now = (now ≡ before) ⊎ ((before ≡ ofAsk Conflict) × (now ≡ ofAsk Stands))
+
 -- a mark that can't move: what the furnace is told of the literal in v is what it was told in w, refusals included, but for a conflict that was ended
 pub record CannotMove (w v : World) (furnace : ℕ) (l : ℤ) : Type 0 where
   -- its rank, row and rule, and the row's part of the table
@@ -569,11 +580,14 @@ pub record CannotMove (w v : World) (furnace : ℕ) (l : ℤ) : Type 0 where
       ≡ getD (settledSupports (front w lent) (w .board) furnace labels ranks supports) p 0)
   -- its ground
   pub ground : (lent : ℕ) (marks : List ℕ) → answer v (grounds lent furnace l marks) ≡ answer w (grounds lent furnace l marks)
-  -- how it stands, unless a conflict was ended, and then it stands; none comes up
-  pub ask : (lent : ℕ) → conflict (derivedSet v furnace) ≡ conflict (derivedSet w furnace)
-      → answer v (asks lent furnace l) ≡ answer w (asks lent furnace l)
-  pub stands : (lent : ℕ) → conflict (derivedSet v furnace) ≡ false → outcome w (asks lent furnace l) ≡ Done
+  -- how it stands, by its symbol: where it stood it stands, and it stands wherever its opposite is not derived now
+  pub ask : (lent : ℕ) → KeptBut (answer w (asks lent furnace l)) (answer v (asks lent furnace l))
+  pub stands : (lent : ℕ) → has (derivedSet v furnace) (opp (placeOf l)) ≡ false → outcome w (asks lent furnace l) ≡ Done
       → answer v (asks lent furnace l) ≡ ofAsk Stands
+  -- the same of the whole board, where no conflict is left; none comes up
+  pub ask-whole : (lent : ℕ) → KeptBut (answer w (asksWhole lent furnace l)) (answer v (asksWhole lent furnace l))
+  pub stands-whole : (lent : ℕ) → conflict (derivedSet v furnace) ≡ false → outcome w (asksWhole lent furnace l) ≡ Done
+      → answer v (asksWhole lent furnace l) ≡ ofAsk Stands
   pub no-conflict : conflict (derivedSet w furnace) ≡ false → conflict (derivedSet v furnace) ≡ false
 
 -- the call, if it is done, brings this furnace no rule and no premise
@@ -654,6 +668,56 @@ ListedInGround =
 abbrev pub ListRoom : Type 0
 ListRoom =
     (w : World) (lent : ℕ) (cands : List ℤ) (l : ℤ) (sets : List ℕ) → 4096 ≤ length sets → numberIn (outcome w (lists lent cands l sets)) ≢ 13
+
+-- ---- 02, Ticket 11: "Ask by symbol when the board is in conflict."
+
+-- the label of a symbol of which only this literal is derived, and of which only the opposite is: 01, "1 only +s, 2 only −s"
+abbrev pub onlyThis : ℤ → ℕ
+onlyThis (pos s) = 1
+onlyThis (negsuc k) = 2
+
+abbrev pub onlyOpposite : ℤ → ℕ
+onlyOpposite (pos s) = 2
+onlyOpposite (negsuc k) = 1
+
+-- how a literal stands is what its symbol's label says
+pub record ByLabel (how : Standing) (l : ℤ) (label : ℕ) : Type 0 where
+  pub conflict : (how ≡ Conflict) ↔ (label ≡ 3)
+  pub stands : (how ≡ Stands) ↔ (label ≡ onlyThis l)
+  pub ruled-out : (how ≡ RuledOut) ↔ (label ≡ onlyOpposite l)
+  pub is-open : (how ≡ Open) ↔ (label ≡ 0)
+
+-- "By default ask shall answer conflict only where the literal and its opposite are both derived; otherwise stands, ruled out or open": on every
+-- board, in conflict or not, by the label that settle writes for the symbol
+abbrev pub AskByLabel : Type 0
+AskByLabel =
+    (w : World) (lent some furnace : ℕ) (l : ℤ) (labels ranks supports : List ℕ) → outcome w (asks lent furnace l) ≡ Done
+    → outcome w (settles some furnace labels ranks supports) ≡ Done
+    → ByLabel (asked (front w lent) (w .board) furnace l) l
+    (getD (settledLabels (front w some) (w .board) furnace labels ranks supports) (natAbs l - 1) 0)
+
+-- "One bad flue reading .. blanks the screen" no more. As long as the board is not opened anew and a furnace keeps the premises that it held, whatever
+-- else is called, a literal that stands for it stands on, until its opposite is derived too; then it is in conflict
+abbrev pub StandsOn : Type 0
+StandsOn =
+    (w : World) (lent some furnace : ℕ) (l : ℤ) (calls : List Call) → asked (front w lent) (w .board) furnace l ≡ Stands
+    → Each (Spares furnace (λ h. has (premisesOf w furnace) h ≡ true)) w calls
+    → let v = run w calls in
+    outcome v (asks some furnace l) ≡ Done
+    → asked (front v some) (v .board) furnace l ≡ cond (has (derivedSet v furnace) (opp (placeOf l))) Conflict Stands
+
+-- "The old answer stays as a second call."
+pub record SecondCall (w : World) (lent furnace : ℕ) (l : ℤ) : Type 0 where
+  -- it is done and refused as ask is;
+  pub outcomes : outcome w (asksWhole lent furnace l) ≡ outcome w (asks lent furnace l)
+  -- outside a conflict it answers as ask does, refusals included;
+  pub alike : conflict (derivedSet w furnace) ≡ false → answer w (asksWhole lent furnace l) ≡ answer w (asks lent furnace l)
+  -- in one it answers conflict for every literal for which it is not refused
+  pub hides : conflict (derivedSet w furnace) ≡ true → outcome w (asksWhole lent furnace l) ≡ Done
+      → answer w (asksWhole lent furnace l) ≡ ofAsk Conflict
+
+abbrev pub OldAnswer : Type 0
+OldAnswer = (w : World) (lent furnace : ℕ) (l : ℤ) → SecondCall w lent furnace l
 
 -- ---- demand 1: a board that the calls made is a good one
 

@@ -26,7 +26,7 @@ use Rattle.literals.specs.Row.{mostRules, rowsLent, rowsSound}
 use Rattle.board.specs.Furnaces.{isFurnace, heldBy}
 use Rattle.board.specs.Faults.{premisesFit, goodBoard}
 use Rattle.board.specs.Ranking.{rowsOn}
-use Rattle.board.specs.Asking.{askFaults, standing, asked}
+use Rattle.board.specs.Asking.{askFaults, standingWhole, askedWhole}
 use Rattle.board.specs.declared.Board.{Board}
 use Rattle.board.proofs.Goodness.{good-is}
 use Rattle.smallest.specs.Search.{holding, aloneOn}
@@ -110,7 +110,8 @@ module _ (table : List ℤ) (b : Board) (cands : List ℕ) (m : ℕ) (low : all 
       (2 * b .symbols)
 
   pub asked-alone : goodBoard table b ≡ true → (l : ℤ) → inRange (b .symbols) l ≡ true
-      → asked table (aloneOn b cands m) 1 l ≡ standing (byAlone (2 * b .symbols) (rowsOn table b) cands m) (placeOf l)
-  unfolding asked askFaults isFurnace heldBy
+      → askedWhole table (aloneOn b cands m) 1 l ≡ standingWhole (byAlone (2 * b .symbols) (rowsOn table b) cands m) (placeOf l)
+  unfolding askedWhole askFaults isFurnace heldBy
   asked-alone g l r =
-      rw (alone-good g, r) (ap (λ (known : List Bool). standing known (placeOf l)) (derived-alone (omega (arith, good-is table b g .sound .symbols))))
+      rw (alone-good g, r)
+      (ap (λ (known : List Bool). standingWhole known (placeOf l)) (derived-alone (omega (arith, good-is table b g .sound .symbols))))

@@ -18,7 +18,7 @@ use Rattle.meaning.proofs.Tables.{length-tabulate, getD-tabulate}
 use Rattle.meaning.proofs.BySize.{belowSize-same, all-count}
 use Rattle.meaning.proofs.Sets.{fewer-inside, fewer-below, size-le}
 use Rattle.meaning.proofs.Smallest.{derives-more, clashes-more, one-fewer, of-carries}
-use Rattle.board.specs.Asking.{standing}
+use Rattle.board.specs.Asking.{standingWhole}
 use Rattle.board.specs.declared.asking.Standing.the-variants.{Conflict, Stands, RuledOut, Open}
 use Rattle.smallest.specs.Search.{stops, noteOf, notesOf, stopsFewer, standingNote, listedIn, listedBelow}
 
@@ -102,7 +102,7 @@ module _ (places : ℕ) (rows : List (List ℕ)) (cands : List ℕ) (p : ℕ) wh
 
   -- ---- the note
 
-  standing-noted : (m : ℕ) → smaller m ≡ false → standingNote (standing (byAlone places rows cands m) p) ≡ note m
+  standing-noted : (m : ℕ) → smaller m ≡ false → standingNote (standingWhole (byAlone places rows cands m) p) ≡ note m
   unfolding noteOf carries derives clashes
   standing-noted m s =
       rw s (go (conflict (byAlone places rows cands m)) (has (byAlone places rows cands m) p) (has (byAlone places rows cands m) (opp p)))
@@ -125,15 +125,16 @@ module _ (places : ℕ) (rows : List (List ℕ)) (cands : List ℕ) (p : ℕ) wh
         each i (inl e) = rw e (ap (λ (k : ℕ). not (eqb k 0)) (before (m - 2 ^ i) (fewer-below i m e)) ∙ stop-noted (m - 2 ^ i))
         each i (inr e) = rw e
 
-    pub note-is : cond (stopsFewer notes (length cands) m) 1 (standingNote (standing (byAlone places rows cands m) p)) ≡ noteOf places rows cands p m
+    pub note-is : cond (stopsFewer notes (length cands) m) 1 (standingNote (standingWhole (byAlone places rows cands m) p))
+        ≡ noteOf places rows cands p m
     note-is = ⊎-elim halted free (true-or-false (any (fewer m) (from 0 n)))
       where
         halted : any (fewer m) (from 0 n) ≡ true
-            → cond (stopsFewer notes n m) 1 (standingNote (standing (byAlone places rows cands m) p)) ≡ note m
+            → cond (stopsFewer notes n m) 1 (standingNote (standingWhole (byAlone places rows cands m) p)) ≡ note m
         halted e = let r = stopped m l e in rw (fewer-noted, e) (sym (unfold noteOf in rw (r .1, r .0)))
 
         free : any (fewer m) (from 0 n) ≡ false
-            → cond (stopsFewer notes n m) 1 (standingNote (standing (byAlone places rows cands m) p)) ≡ note m
+            → cond (stopsFewer notes n m) 1 (standingNote (standingWhole (byAlone places rows cands m) p)) ≡ note m
         free e = rw (fewer-noted, e) (standing-noted m (gone-on m l e))
 
   -- ---- the list

@@ -53,7 +53,7 @@ notesOf places rows cands p = tabulate (2 ^ length cands) (noteOf places rows ca
 unfoldable pub stopsFewer : List ℕ → (n m : ℕ) → Bool
 stopsFewer notes n m = any (λ i. bit i m && not (eqb (getD notes (m - 2 ^ i) 0) 0)) (from 0 n)
 
--- and by how the literal stands with the set held alone
+-- and by how the literal stands, of the whole board, with the set held alone
 abbrev pub standingNote : Standing → ℕ
 standingNote Conflict = 1
 standingNote Stands = 2

@@ -10,12 +10,12 @@ ghost use Rattle.meaning.specs.Sets.{bit};
 ghost use Rattle.literals.specs.Literal.{inRange, placeOf};
 ghost use Rattle.board.specs.Faults.{goodBoard};
 ghost use Rattle.board.specs.Ranking.{rowsOn};
-ghost use Rattle.board.specs.Asking.{asked};
+ghost use Rattle.board.specs.Asking.{askedWhole};
 ghost use Rattle.smallest.specs.Listing.{mostCandidates};
 ghost use Rattle.smallest.specs.Search.{aloneOn, notesOf, stopsFewer, standingNote};
 use board::Board;
 use board::asking::Standing;
-use board::asking::ask;
+use board::asking::ask_whole;
 
 // The notes: the search goes on beyond the set, or stops at it, or stops at it and the set is listed.
 pub const GOES_ON: u8 = 0;
@@ -81,15 +81,16 @@ fn stops_fewer(notes: &[u8], n: usize, set: usize) -> bool
     false
 }
 
-// The note of a set, by those of the sets before it. Where none of these stops it, it is held alone, and the literal is asked for.
+// The note of a set, by those of the sets before it. Where none of these stops it, it is held alone, and the literal is asked for, of the whole
+// board: a set in conflict is not listed, whichever symbol is in conflict.
 fn note(board: Board, table: &[i16], places: &[usize], l: i16, notes: &[u8], set: usize) -> u8
     requires { ⌜ (length (now places) ≤ mostCandidates) × (all (λ p. ltb p 400) (now places) ≡ true) × (set < length (now notes)) ⌝ }
-    ensures { λ r. ⌜ r ≡ cond (stopsFewer (now (notes .entry)) (length (now (places .entry))) set) 1 (standingNote (asked (now (table .entry)) (aloneOn board (now (places .entry)) set) 1 l)) ⌝ }
+    ensures { λ r. ⌜ r ≡ cond (stopsFewer (now (notes .entry)) (length (now (places .entry))) set) 1 (standingNote (askedWhole (now (table .entry)) (aloneOn board (now (places .entry)) set) 1 l)) ⌝ }
 {
     if stops_fewer(notes, places.len(), set) {
         return STOPS;
     }
-    match ask(alone(board, places, set), table, 1, l) {
+    match ask_whole(alone(board, places, set), table, 1, l) {
         Standing::Conflict => STOPS,
         Standing::Stands => LISTED,
         Standing::RuledOut => GOES_ON,

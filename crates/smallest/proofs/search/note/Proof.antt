@@ -6,7 +6,7 @@ use borrow.Author.Needs.{needs}
 use mir.Facts.{toZ-ofZ}
 use lib.ListN.{length}
 use Rattle.literals.proofs.Signed.{back}
-use Rattle.board.specs.Asking.{asked}
+use Rattle.board.specs.Asking.{askedWhole}
 use Rattle.board.specs.declared.Board.{Board}
 use Rattle.smallest.specs.Search.{aloneOn, stopsFewer, standingNote}
 use Rattle.smallest.proofs.search.note.Statement.{statement}
@@ -22,16 +22,17 @@ returns : tie.Need-returns
 returns c = halted _ _ (sym (c .before .stops-fewer .ensures) ∙ c .if1 .taken)
 
 -- where no set with one candidate fewer stops it: how the literal stands tells the note
-told : (c : tie.After-ask) → let s = c .before .before .before .before .before .before in let a = s .args in
-    standingNote (c .ask .result)
-    ≡ cond (stopsFewer (a .notes .now) (length (a .places .now)) (a .set)) 1 (standingNote (asked (a .table .now) (aloneOn (a .board) (a .places .now) (a .set)) 1 (a .l)))
+told : (c : tie.After-ask-whole) → let s = c .before .before .before .before .before .before in let a = s .args in
+    standingNote (c .ask-whole .result)
+    ≡ cond (stopsFewer (a .notes .now) (length (a .places .now)) (a .set)) 1
+    (standingNote (askedWhole (a .table .now) (aloneOn (a .board) (a .places .now) (a .set)) 1 (a .l)))
 told c =
     let e = c .before .before in
     let s = e .before .before .before .before in
     let a = s .args in
-    let board = ap (λ (b : Board). asked (a .table .now) b 1 (back (a .l))) (c .before .alone .ensures) in
-    let literal = ap (asked (a .table .now) (aloneOn (a .board) (a .places .now) (a .set)) 1) (toZ-ofZ (s .fits .l)) in
-    free _ _ _ (sym (e .before .stops-fewer .ensures) ∙ e .if1 .left) (ap standingNote (c .ask .ensures ∙ board ∙ literal))
+    let board = ap (λ (b : Board). askedWhole (a .table .now) b 1 (back (a .l))) (c .before .alone .ensures) in
+    let literal = ap (askedWhole (a .table .now) (aloneOn (a .board) (a .places .now) (a .set)) 1) (toZ-ofZ (s .fits .l)) in
+    free _ _ _ (sym (e .before .stops-fewer .ensures) ∙ e .if1 .left) (ap standingNote (c .ask-whole .ensures ∙ board ∙ literal))
 
 returns-2 : tie.Need-returns-2
 returns-2 c = sym (ap standingNote (c .enum-told .given .1)) ∙ told (c .before .before)
