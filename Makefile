@@ -39,7 +39,7 @@ install: $(ARCHIVE)
 	install -d $(DEST)/include $(DEST)/lib/pkgconfig
 	install -m 644 include/tupahineka.h $(DEST)/include/
 	install -m 644 $(ARCHIVE) $(DEST)/lib/
-	printf '%s\n' 'prefix=$(PREFIX)' 'Name: tupahineka' 'Description: A proved truth-maintenance board' 'Version: 6.0' \
+	printf '%s\n' 'prefix=$(PREFIX)' 'Name: tupahineka' 'Description: A proved truth-maintenance board' 'Version: 6.1' \
 	    'Cflags: -I$${prefix}/include' 'Libs: -L$${prefix}/lib -lpanel' >$(DEST)/lib/pkgconfig/tupahineka.pc
 
 target/trend: examples/trend.c examples/chart.c examples/trend.h

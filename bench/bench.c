@@ -1,12 +1,13 @@
 /* The measure: open, rule, every call that names a furnace, and DIMACS text in and out through the library, against the same by hand in plain C
  * (bench/plain.c and bench/dimacs.c), and settle, both asks and ground against plain C with an index of the rows by literal (bench/indexed.c);
- * "whole" is ask_whole. Then the smallest sets against the same search over the indexed ask_whole (bench/sets.c), and rules from formula text against
- * the same rules from their bytes (bench/spelt.c).
+ * "whole" is ask_whole. Then the smallest sets against the same search over the indexed ask_whole (bench/sets.c), the least to withdraw against the
+ * same search over the indexed blame (bench/least.c), and rules from formula text against the same rules from their bytes (bench/spelt.c).
  *
  * All sides in one program, one process, same inputs, same outputs (compared first), calls by the same kind of pointer.
  * A figure is the best of several runs, the sides taking turns within each run; times are the processor's, not the wall's.
- * "other" is another way in plain C: settle by the index with the exclusive or of the places left of each row, where "indexed" looks at the row; reading in
- * one pass with the rows kept aside, where "plain" tests the text in a pass of its own. */
+ * "other" is another way in plain C: settle by the index with the exclusive or of the places left of each row, where "indexed" looks at the row;
+ * reading in one pass with the rows kept aside, where "plain" tests the text in a pass of its own; the least by trying set after set by size, where
+ * "indexed" passes over those that leave a conflict already found. */
 #include <math.h>
 #include <stdbool.h>
 #include <stdio.h>
@@ -15,12 +16,13 @@
 
 #include "boards.h"
 #include "indexed.h"
+#include "least.h"
 #include "plain.h"
 #include "sets.h"
 #include "spelt.h"
 #include "timing.h"
 
-enum { OPEN, SETTLE, ASK, ASK_WHOLE, EXPLAIN, GROUND, BLAME, HOLD, WITHDRAW, RULE, READ, WRITE, SMALLEST, CALLS };
+enum { OPEN, SETTLE, ASK, ASK_WHOLE, EXPLAIN, GROUND, BLAME, HOLD, WITHDRAW, RULE, READ, WRITE, SMALLEST, LEAST, CALLS };
 enum { LIBRARY, PLAIN, INDEXED, OTHER, SIDES };
 
 typedef struct side {
@@ -37,19 +39,23 @@ typedef struct side {
     tup_reading (*read)(tup_board, int16_t *, size_t numbers, const uint8_t *, size_t);
     tup_writing (*write)(tup_board, const int16_t *, size_t numbers, uint8_t *, size_t);
     tup_listing (*smallest)(tup_board, const int16_t *, size_t numbers, const int16_t *, size_t, int16_t, uint16_t *, size_t);
+    tup_withdrawal (*least)(tup_board, const int16_t *, size_t numbers, uint8_t furnace, const int16_t *, size_t);
 } side;
 
 static const side sides[SIDES] = {
     {tup_open, tup_settle, tup_ask, tup_ask_whole, tup_explain, tup_ground, tup_blame, tup_hold, tup_withdraw, tup_rule, tup_read_dimacs,
-     tup_write_dimacs, tup_smallest},
+     tup_write_dimacs, tup_smallest, tup_least},
     {plain_open, plain_settle, plain_ask, plain_ask_whole, plain_explain, plain_ground, plain_blame, plain_hold, plain_withdraw, plain_rule,
-     plain_read_dimacs, plain_write_dimacs, NULL},
-    {.settle = indexed_settle, .ask = indexed_ask, .ask_whole = indexed_ask_whole, .ground = indexed_ground, .smallest = indexed_smallest},
-    {.settle = indexed_settle_summing, .read = plain_read_dimacs_once},
+     plain_read_dimacs, plain_write_dimacs, NULL, NULL},
+    {.settle = indexed_settle, .ask = indexed_ask, .ask_whole = indexed_ask_whole, .ground = indexed_ground, .smallest = indexed_smallest,
+     .least = indexed_least},
+    {.settle = indexed_settle_summing, .read = plain_read_dimacs_once, .least = indexed_least_in_turn},
 };
 static const char *const side_words[SIDES] = {"library", "plain", "indexed", "other"};
 static const char *const call_words[CALLS] = {"open", "settle", "ask", "whole", "explain", "ground", "blame", "hold", "withdraw", "rule", "read",
-                                              "write", "smallest"};
+                                              "write", "smallest", "least"};
+static const char *const conflict_words[CONFLICTS] = {"one conflict", "three conflicts", "six of opposites", "many cores", "no conflict",
+                                                      "one that stays"};
 
 /* All that calls write, and what is compared of what they return. */
 typedef struct outputs {
@@ -77,6 +83,10 @@ static const char *worst_board, *worst_call;
 static const double typical_goal_ms = 100;
 static double worst_sets_ratio, typical_sets_ms;
 static const char *worst_sets_board;
+
+/* The same goals for the least to withdraw. */
+static double worst_least_ratio, typical_least_ms;
+static const char *worst_least_board, *worst_least_conflict;
 
 /* ---- Measuring ---- */
 
@@ -126,6 +136,12 @@ static unsigned made_listing(tup_listing listing, outputs *out) {
     return (unsigned)listing.count;
 }
 
+/* Notes the refusal of a withdrawal; its set. */
+static unsigned made_withdrawal(tup_withdrawal withdrawal, outputs *out) {
+    out->refusal = withdrawal.refusal;
+    return withdrawal.set;
+}
+
 /* Makes one call on one side. */
 static unsigned make(const side *with, unsigned call, outputs *out, int16_t *table) {
     switch (call) {
@@ -142,9 +158,10 @@ static unsigned make(const side *with, unsigned call, outputs *out, int16_t *tab
     case RULE: return made_rule(with->rule(now.board, table, NUMBERS, now.formula, now.bytes), out);
     case READ: return made_reading(with->read(now.board, table, NUMBERS, now.text, now.text_bytes), out);
     case WRITE: return made_writing(with->write(now.board, table, NUMBERS, out->text, sizeof out->text), out);
-    default:
+    case SMALLEST:
         return made_listing(with->smallest(now.board, table, NUMBERS, now.candidates, TUP_MOST_CANDIDATES, now.literal, out->sets, TUP_MOST_SETS),
                             out);
+    default: return made_withdrawal(with->least(now.board, table, NUMBERS, FURNACE, now.candidates, TUP_MOST_CANDIDATES), out);
     }
 }
 
@@ -163,7 +180,8 @@ static bool has(const side *with, unsigned call) {
     case RULE: return with->rule != NULL;
     case READ: return with->read != NULL;
     case WRITE: return with->write != NULL;
-    default: return with->smallest != NULL;
+    case SMALLEST: return with->smallest != NULL;
+    default: return with->least != NULL;
     }
 }
 
@@ -299,6 +317,50 @@ static void print_sets(void) {
     full_board(false), no_sets(), print_smallest("full, 2,048 rows of 2 to 4, no set");
 }
 
+/* The set of the least on the setting, TUP_NONE where it is refused; how many sets each way in plain C propagated. Ends the program where the
+ * conflict is not as its kind says. */
+static unsigned least_found(unsigned kind, unsigned propagated[SIDES]) {
+    static outputs out;
+    unsigned set = TUP_NONE;
+    for (unsigned s = INDEXED; s <= OTHER; s++) {
+        set = make(&sides[s], LEAST, &out, now.table);
+        propagated[s] = least_propagated();
+    }
+    if (out.refusal == (kind == LASTING_CONFLICT ? TUP_CONFLICT_STAYS : TUP_DONE) && (set == 0) == (kind == NO_CONFLICT)) return set;
+    fprintf(stderr, "bench: least, %s: refusal %u, set %u\n", conflict_words[kind], out.refusal, set);
+    exit(1);
+}
+
+/* Measures the least on the setting, prints a line, and returns the library's time in milliseconds. */
+static double print_least(const char *board, unsigned kind) {
+    double best[SIDES];
+    unsigned propagated[SIDES];
+    char size[16] = "refused";
+    measure(LEAST, best);
+    unsigned set = least_found(kind, propagated);
+    if (set != TUP_NONE) snprintf(size, sizeof size, "%u", set_size(set));
+    double ratio = best[LIBRARY] / best[INDEXED];
+    printf("%-28s%-18s%14.1f%14.1f%9.2f%14.1f%9.2f%9s%12u%9u\n", board, conflict_words[kind], best[LIBRARY], best[INDEXED], ratio, best[OTHER],
+           best[LIBRARY] / best[OTHER], size, propagated[INDEXED], propagated[OTHER]);
+    if (ratio > worst_least_ratio) {
+        worst_least_ratio = ratio;
+        worst_least_board = board;
+        worst_least_conflict = conflict_words[kind];
+    }
+    return best[LIBRARY] / 1e6;
+}
+
+/* The table of the least to withdraw. */
+static void print_leasts(void) {
+    printf("\nthe least of 12 candidates to withdraw: ns per call, candidates in the answer, and sets withdrawn and propagated, by indexed and by\n");
+    printf("other; the library's are those of indexed\n");
+    printf("%-46s%14s%14s%9s%14s%9s%9s%12s%9s\n", "", side_words[LIBRARY], side_words[INDEXED], "ratio", side_words[OTHER], "ratio", "least",
+           "propagated", "other");
+    for (unsigned kind = 0; kind < CONFLICTS; kind++)
+        typical_conflicts(kind), typical_least_ms = fmax(typical_least_ms, print_least("typical, 150 rows", kind));
+    for (unsigned kind = 0; kind < CONFLICTS; kind++) full_conflicts(kind), print_least("full, 2,048 rows of 2 to 4", kind);
+}
+
 /* Prints the head of a table of sizes: the sides that have the call. */
 static void print_sizes_head(const char *size, unsigned call) {
     printf("%8s", size);
@@ -361,6 +423,10 @@ static void print_goals(void) {
            worst_sets_ratio <= ratio_goal ? "met" : "not met", worst_sets_ratio, worst_sets_board);
     printf("and on the typical board in less than %.0f ms: %s (at most %.1f);\n", typical_goal_ms,
            typical_sets_ms < typical_goal_ms ? "met" : "not met", typical_sets_ms);
+    printf("the least of 12 candidates to withdraw at most %.1f times indexed on every board: %s (at most %.2f, %s on %s);\n", ratio_goal,
+           worst_least_ratio <= ratio_goal ? "met" : "not met", worst_least_ratio, worst_least_conflict, worst_least_board);
+    printf("and on the typical board in less than %.0f ms: %s (at most %.1f);\n", typical_goal_ms,
+           typical_least_ms < typical_goal_ms ? "met" : "not met", typical_least_ms);
     print_spelt_goal();
 }
 
@@ -370,6 +436,7 @@ int main(void) {
     print_growths();
     print_bytes();
     print_sets();
+    print_leasts();
     print_spelt();
     print_goals();
     return 0;

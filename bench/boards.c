@@ -180,3 +180,40 @@ void no_sets(void) {
     static const int16_t candidates[TUP_MOST_CANDIDATES] = {1, 2, 3, 4, 5, 6, 7, 8, 9, 10, 11, 12};
     choose(opposite(now.literal), candidates);
 }
+
+/* Has the furnace hold candidates to withdraw, and nothing else. The conflict that is to last is one of its premises, beside which they are held. */
+static void hold_candidates(const int16_t candidates[TUP_MOST_CANDIDATES], bool lasting) {
+    if (lasting) in_conflict();
+    else memset(now.board.held[FURNACE - 1], 0, sizeof now.board.held[FURNACE - 1]);
+    memcpy(now.candidates, candidates, sizeof now.candidates);
+    for (unsigned i = 0; i < TUP_MOST_CANDIDATES; i++) hold(place(candidates[i]));
+}
+
+/* Candidates for both boards, since both have implications only. Six literals and their opposites: one of each has to go, and the rest is in no
+ * conflict where the positive ones go, as negative literals derive only such. Twelve positive literals, which derive only such: no conflict. Twelve
+ * literals that are premises of neither board. */
+static const int16_t opposites[TUP_MOST_CANDIDATES] = {1, -1, 2, -2, 3, -3, 4, -4, 5, -5, 6, -6};
+static const int16_t positives[TUP_MOST_CANDIDATES] = {1, 2, 3, 4, 5, 6, 7, 8, 9, 10, 11, 12};
+static const int16_t bystanders[TUP_MOST_CANDIDATES] = {13, 14, 15, 16, 17, 18, 19, 20, 21, 22, 23, 24};
+
+/* The typical board with candidates to withdraw. Found by trying: one conflict, which stands on four of them; three conflicts, no two of which stand
+ * on the same one; and, of some 600,000 tried, those of which a search by number, with the best so far kept, propagates most sets, 639. */
+void typical_conflicts(unsigned kind) {
+    static const int16_t one[TUP_MOST_CANDIDATES] = {7, 9, 12, 21, 22, 31, -32, 38, 40, 42, 43, 44};
+    static const int16_t three[TUP_MOST_CANDIDATES] = {1, 7, 10, -12, 18, -20, 29, -35, 38, 39, 42, 43};
+    static const int16_t many[TUP_MOST_CANDIDATES] = {1, 10, -13, 17, 19, 20, 24, 27, 28, 31, 37, -44};
+    static const int16_t *const candidates[CONFLICTS] = {one, three, opposites, many, positives, bystanders};
+    typical();
+    hold_candidates(candidates[kind], kind == LASTING_CONFLICT);
+}
+
+/* The full board with candidates to withdraw, in the same way; one conflict is that of the literals that derive nothing alone, and of some 8,000
+ * tried the most sets so propagated are 43, as nearly every literal derives nearly all of its sign. */
+void full_conflicts(unsigned kind) {
+    static const int16_t one[TUP_MOST_CANDIDATES] = {-9, 12, -57, 67, -71, 72, 100, -119, 128, -151, 161, 167};
+    static const int16_t three[TUP_MOST_CANDIDATES] = {4, 5, -102, -105, 108, 132, -133, 139, 146, 191, 196, 200};
+    static const int16_t many[TUP_MOST_CANDIDATES] = {5, 22, 51, 56, -67, 86, 98, 132, 156, 168, 172, -189};
+    static const int16_t *const candidates[CONFLICTS] = {one, three, opposites, many, positives, bystanders};
+    full_board(false);
+    hold_candidates(candidates[kind], kind == LASTING_CONFLICT);
+}

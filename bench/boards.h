@@ -12,8 +12,11 @@ extern "C" {
 
 enum { NUMBERS = TUP_MOST_ROWS * TUP_ROW_WIDTH, FURNACE = 1 };
 
+/* What there is to withdraw: see typical_conflicts. */
+enum { ONE_CONFLICT, THREE_CONFLICTS, SIX_CONFLICTS, MANY_CORES, NO_CONFLICT, LASTING_CONFLICT, CONFLICTS };
+
 /* What a call is given: a board, its table, a literal to ask of, one to withdraw, which FURNACE holds on all boards with rows, a formula, a text, and
- * candidates to explain the literal by. */
+ * candidates to explain the literal by, or to withdraw. */
 typedef struct setting {
     tup_board board;
     int16_t table[NUMBERS];
@@ -40,6 +43,8 @@ void text_of(unsigned rows);
 void typical_sets(void);
 void full_sets(void);
 void no_sets(void);
+void typical_conflicts(unsigned kind);
+void full_conflicts(unsigned kind);
 
 #ifdef __cplusplus
 }

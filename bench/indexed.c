@@ -1,7 +1,7 @@
-/* Settle, both asks and ground as a C programmer would write them with the rows found by literal: in the call, one list for each place of the cells
- * of the table that have its literal, made from the last row on so that each list rises; a queue of the places that got a rank; and a count for each
- * row of its literals that are not ruled out yet. A row is looked at when its count falls to 1 or 0. Each support is searched for, as its definition
- * says, over the rows that have the literal. The same tests, the same outputs, no proof. */
+/* Settle, both asks, ground and blame as a C programmer would write them with the rows found by literal: in the call, one list for each place of the
+ * cells of the table that have its literal, made from the last row on so that each list rises; a queue of the places that got a rank; and a count for
+ * each row of its literals that are not ruled out yet. A row is looked at when its count falls to 1 or 0. Each support is searched for, as its
+ * definition says, over the rows that have the literal. The same tests, the same outputs, no proof. */
 #include "indexed.h"
 
 #include <string.h>
@@ -164,33 +164,61 @@ tup_answer indexed_ask_whole(tup_board board, const int16_t *table, size_t numbe
     return answer(&board, table, numbers, furnace, literal, true);
 }
 
+/* Marks the premises that the literals of two places reach, each of which has a rank. */
+static void mark_grounds(const work *w, const int16_t *table, const uint16_t *ranks, unsigned places, unsigned p, unsigned q, uint8_t *marks) {
+    uint16_t waiting[TUP_PLACES];
+    bool seen[TUP_PLACES] = {false};
+    unsigned count = 0;
+    memset(marks, 0, places);
+    seen[waiting[count++] = (uint16_t)p] = true;
+    if (q != p) seen[waiting[count++] = (uint16_t)q] = true;
+    while (count > 0) {
+        unsigned of = waiting[--count];
+        if (ranks[of] == 0) {
+            marks[of] = 1;
+            continue;
+        }
+        const int16_t *row = table + WIDTH * support(w, table, ranks, of);
+        for (int i = 0; i < LITERALS && row[i] != 0; i++) {
+            unsigned next = place(-row[i]);
+            if (place(row[i]) == of || seen[next]) continue;
+            seen[next] = true;
+            waiting[count++] = (uint16_t)next;
+        }
+    }
+}
+
 uint8_t indexed_ground(tup_board board, const int16_t *table, size_t numbers, uint8_t furnace, int16_t literal, uint8_t *marks,
                        size_t mark_count) {
     work w;
-    uint16_t ranks[TUP_PLACES], waiting[TUP_PLACES];
-    bool seen[TUP_PLACES] = {false};
-    unsigned count = 0;
+    uint16_t ranks[TUP_PLACES];
+    unsigned places = 2u * board.symbols;
     uint8_t refusal = plain_tests(&board, table, numbers, furnace);
     if (refusal != 0) return refusal;
     if (!plain_fits(literal, &board)) return 2;
-    if (mark_count < 2u * board.symbols) return 13;
+    if (mark_count < places) return 13;
     rank_all(&w, &board, board.held[furnace - 1], table, ranks, false);
-    if (ranks[place(literal)] == NONE) return 12;
-    memset(marks, 0, 2u * board.symbols);
-    seen[waiting[count++] = (uint16_t)place(literal)] = true;
-    while (count > 0) {
-        unsigned p = waiting[--count];
-        if (ranks[p] == 0) {
-            marks[p] = 1;
-            continue;
-        }
-        const int16_t *row = table + WIDTH * support(&w, table, ranks, p);
-        for (int i = 0; i < LITERALS && row[i] != 0; i++) {
-            unsigned q = place(-row[i]);
-            if (place(row[i]) == p || seen[q]) continue;
-            seen[q] = true;
-            waiting[count++] = (uint16_t)q;
-        }
+    unsigned p = place(literal);
+    if (ranks[p] == NONE) return 12;
+    mark_grounds(&w, table, ranks, places, p, p, marks);
+    return 0;
+}
+
+uint8_t indexed_blame(tup_board board, const int16_t *table, size_t numbers, uint8_t furnace, uint8_t *marks, size_t mark_count) {
+    work w;
+    uint16_t ranks[TUP_PLACES], least = NONE;
+    unsigned places = 2u * board.symbols, first = 0;
+    uint8_t refusal = plain_tests(&board, table, numbers, furnace);
+    if (refusal != 0) return refusal;
+    if (mark_count < places) return 13;
+    rank_all(&w, &board, board.held[furnace - 1], table, ranks, false);
+    for (unsigned p = 0; p < places; p += 2) {
+        uint16_t larger = ranks[p] > ranks[p + 1] ? ranks[p] : ranks[p + 1]; /* NONE is above every rank */
+        if (larger >= least) continue;
+        least = larger;
+        first = p;
     }
+    if (least == NONE) return 12;
+    mark_grounds(&w, table, ranks, places, first, first + 1, marks);
     return 0;
 }

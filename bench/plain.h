@@ -1,4 +1,5 @@
-/* The measure's other side: all calls but those for formula text and the smallest sets, by hand in plain C, with the contract of tupahineka.h. */
+/* The measure's other side: all calls but those for formula text, the smallest sets and the least to withdraw, by hand in plain C, with the contract
+ * of tupahineka.h. */
 #ifndef PLAIN_H
 #define PLAIN_H
 

@@ -19,10 +19,7 @@ unsigned sets_propagated(void) {
     return propagated;
 }
 
-/* The tests ahead of the search; 13 is known after it. */
-static uint8_t tests(const tup_board *board, const int16_t *table, size_t numbers, const int16_t *candidates, size_t count, int16_t literal) {
-    if (!plain_good(board, table, numbers)) return 1;
-    if (!plain_fits(literal, board)) return 2;
+uint8_t candidate_tests(const tup_board *board, const int16_t *candidates, size_t count) {
     for (size_t i = 0; i < count; i++)
         if (!plain_fits(candidates[i], board)) return 2;
     if (count > TUP_MOST_CANDIDATES) return 17;
@@ -30,6 +27,13 @@ static uint8_t tests(const tup_board *board, const int16_t *table, size_t number
         for (size_t j = 0; j < i; j++)
             if (candidates[i] == candidates[j]) return 17;
     return 0;
+}
+
+/* The tests ahead of the search; 13 is known after it. */
+static uint8_t tests(const tup_board *board, const int16_t *table, size_t numbers, const int16_t *candidates, size_t count, int16_t literal) {
+    if (!plain_good(board, table, numbers)) return 1;
+    if (!plain_fits(literal, board)) return 2;
+    return candidate_tests(board, candidates, count);
 }
 
 /* True if the search stops at a set of one candidate fewer. */
@@ -52,18 +56,11 @@ static uint8_t ask_alone(tup_board board, const int16_t *table, size_t numbers, 
     }
 }
 
-/* How many candidates a set has. */
-static unsigned size_of(unsigned set) {
-    unsigned size = 0;
-    for (; set != 0; set &= set - 1) size++;
-    return size;
-}
-
 /* Writes the listed of so many sets by size, then by number. */
 static void write_listed(const uint8_t *notes, unsigned all, uint16_t *sets) {
     for (unsigned size = 0; size <= TUP_MOST_CANDIDATES; size++)
         for (unsigned set = 0; set < all; set++)
-            if (notes[set] == LISTED && size_of(set) == size) *sets++ = (uint16_t)set;
+            if (notes[set] == LISTED && set_size(set) == size) *sets++ = (uint16_t)set;
 }
 
 tup_listing indexed_smallest(tup_board board, const int16_t *table, size_t numbers, const int16_t *candidates, size_t candidate_count,

@@ -6,7 +6,7 @@
 
 enum {
     WIDTH = 1240, LEFT = 172, PER_MINUTE = 2, RIGHT = LEFT + PER_MINUTE * SHIFT_ENDS,
-    TOP = 134, LANE = 21, BAR = 13, GROUP_GAP = 26, FURNACE_GAP = 92, FOOT = 150,
+    TOP = 148, LANE = 21, BAR = 13, GROUP_GAP = 26, FURNACE_GAP = 106, FOOT = 150,
     TOLD = 76, SHOWN = 84, LINE = 16, LINE_LENGTH = 170 /* of the text at the foot: what marks need, and what a click shows */
 };
 
@@ -82,8 +82,8 @@ static const char styles[] =
     ".furnace { font-size: 15px; font-weight: bold }\n"
     ".small, .hour { fill: #566573 }\n"
     ".group { font-size: 11px; font-weight: bold; fill: #566573; letter-spacing: 1px }\n"
-    ".name, .group, .stay-note { text-anchor: end }\n"
-    ".hour, .strike-note, .conflict-note { text-anchor: middle }\n"
+    ".name, .group, .strike-note, .stay-note { text-anchor: end }\n"
+    ".hour, .conflict-note { text-anchor: middle }\n"
     ".strike-note { font-weight: bold; fill: #b45309 }\n"
     ".stay-note { fill: #b45309 }\n"
     ".conflict-note { font-weight: bold; fill: #c62828 }\n"
@@ -181,9 +181,9 @@ static void put_band(FILE *out, const panel *p, const conflict *c) {
     }
 }
 
-/* Notes over the band of a conflict how many marks are in conflict, how many stand, and the readings to blame. */
+/* Notes over the band of a conflict how many marks are in conflict, how many stand, the readings to blame, and the least to withdraw. */
 static void put_conflict_note(FILE *out, const panel *p, const conflict *c) {
-    words note = {0}, blame = {0};
+    words note = {0}, blame = {0}, least = {0};
     int middle = (x_at(c->began) + x_at(c->to)) / 2, count[TUP_CONFLICT + 1] = {0};
     for (int symbol = 1; symbol <= SYMBOLS; symbol++) {
         count[c->answers[symbol]]++;
@@ -191,8 +191,10 @@ static void put_conflict_note(FILE *out, const panel *p, const conflict *c) {
     say(&note, "%s to %s: %d in conflict, %d standing", clock_at(c->began).text, clock_at(c->to).text, count[TUP_CONFLICT],
         count[TUP_STANDS] + count[TUP_RULED_OUT]);
     say(&blame, "to blame: %s", c->blame.text);
-    put_text(out, "conflict-note", middle, p->top - 34, note.text);
-    put_text(out, "conflict-note", middle, p->top - 20, blame.text);
+    say(&least, "least to withdraw: %s", c->least.text);
+    put_text(out, "conflict-note", middle, p->top - 48, note.text);
+    put_text(out, "conflict-note", middle, p->top - 34, blame.text);
+    put_text(out, "conflict-note", middle, p->top - 20, least.text);
 }
 
 /* Draws each conflict of the furnace. One that other readings changed has several stages, and a note on the last. */
@@ -275,7 +277,7 @@ static void put_strike(FILE *out, const panel *p) {
     say(&note, "TC-3 struck off %s", clock_at(STRUCK_OFF).text);
     say(&gone, "down %s", clock_at(STRUCK_OFF).text);
     put_line(out, "strike", x_at(STRUCK_OFF), p->top - 14, x_at(STRUCK_OFF), p->bottom);
-    put_text(out, "strike-note", x_at(STRUCK_OFF), p->top - 20, note.text);
+    put_text(out, "strike-note", x_at(STRUCK_OFF) + 4, p->top - 20, note.text);
     for (int i = 0; i < p->of->bar_count; i++) {
         const mark *bar = &p->of->bars[i];
         if (went_down_at(p->of, bar, STRUCK_OFF)) {

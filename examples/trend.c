@@ -5,7 +5,8 @@
  * The screen owner's rule is that nothing stands on a chart without its ground. "crown hot" and "overfired" lean on each
  * other here; when furnace 1's TC-3, the thermocouple that first brought them up, is struck off at 03:10, both have to go.
  * Furnace 2 runs the same rules in the same table with a TC-3 of its own, and nothing that happens at furnace 1 moves its marks.
- * A conflict blanks no furnace: marks that stand go on standing, and those that stand on a reading to blame are told apart.
+ * A conflict blanks no furnace: marks that stand go on standing, and those that stand on a reading to blame are told apart. The foreman
+ * is told the least that he has to withdraw to end it.
  *
  * Use: trend [PICTURE], by default trend.svg. For a screen of your own, change the section "The plant" here and in trend.h
  * (symbols, names, readings, the shift) and the functions that add rules; below those only the summary and the chart's notes name symbols. */
@@ -45,14 +46,15 @@ const char *const names[SYMBOLS + 1] = {
     [BOOST_ON] = "electric boost on",
 };
 
-/* All that the shift's instruments report, for the shift desk to choose from; a negative symbol number is the reading that it is not so. */
+/* All that the shift's instruments report, for the shift desk to choose from, and for the foreman to strike off where it is held; a negative symbol
+ * number is the reading that it is not so. A plant with more than the library chooses from has to decide which of them to list: none is cut off. */
 static const int16_t readings[] = {
     TC_3_HIGH, TC_4_HIGH, TC_7_HIGH, TC_8_HIGH, TC_9_LOW, PYROMETER_NORMAL,
     DAMPER_OPEN, DAMPER_SHUT, VALVE_CYCLING, -VALVE_CYCLING, GAS_FLOW_HIGH, OXYGEN_LOW,
 };
 
 enum { READINGS = sizeof readings / sizeof readings[0] };
-_Static_assert((int)READINGS <= (int)TUP_MOST_CANDIDATES, "the shift desk has more readings than the library chooses from");
+_Static_assert((int)READINGS <= (int)TUP_MOST_CANDIDATES, "there are more readings than the library chooses from");
 
 /* What happens to a reading of a furnace, what is asked of it, or which readings a mark needs, and when. The last names no furnace. */
 typedef struct event {
@@ -106,7 +108,9 @@ static const event shift[] = {
     {AT(4, 46), 2, WITHDRAW, PYROMETER_NORMAL},
     {AT(4, 55), 1, HOLD, TC_9_LOW},
     {AT(5, 0), 1, HOLD, DAMPER_SHUT}, /* again, and by now with consequences: "add gas" and the readings behind it are in conflict too */
-    {AT(5, 6), 1, WITHDRAW, DAMPER_SHUT},
+    {AT(5, 3), 1, HOLD, TC_3_HIGH},   /* struck off at 03:10, and booked again: two conflicts now, of which blame names one */
+    {AT(5, 6), 1, WITHDRAW, TC_3_HIGH},
+    {AT(5, 6), 1, WITHDRAW, DAMPER_SHUT}, /* the least to withdraw was both */
     {AT(5, 10), 1, WITHDRAW, TC_8_HIGH},
     {AT(5, 20), 2, WITHDRAW, TC_3_HIGH}, /* trimming the gas has cooled the crown */
     {AT(5, 30), 1, WITHDRAW, TC_4_HIGH},
@@ -160,6 +164,7 @@ static const char *refusal_word(uint8_t refusal) {
         [TUP_BAD_TEXT] = "no formula text",
         [TUP_BAD_FURNACE] = "no such furnace",
         [TUP_BAD_CANDIDATES] = "bad candidates",
+        [TUP_CONFLICT_STAYS] = "conflict stays",
     };
     bool is_known = refusal < sizeof known / sizeof known[0] && known[refusal];
     return is_known ? known[refusal] : "unknown refusal";
@@ -226,6 +231,18 @@ static void say_premises(words *line, const uint8_t marks[PLACES]) {
         }
     }
     say(line, "%s", between[0] == '\0' ? "the rules alone" : "");
+}
+
+/* Says the members of a set of candidates. Bit i of the set's number stands for candidates[i]. */
+static void say_members(words *line, const int16_t *candidates, int count, unsigned set) {
+    const char *between = "";
+    for (int i = 0; i < count; i++) {
+        if ((set >> i & 1) != 0) {
+            say(line, "%s", between);
+            say_literal(line, candidates[i]);
+            between = " and ";
+        }
+    }
 }
 
 /* ---- Rules, in plain text ---- */
@@ -436,6 +453,68 @@ static uint8_t ask_whole(const screen *s, tup_board board, uint8_t number, int l
     return answer.standing;
 }
 
+/* ---- What the foreman may strike off ---- */
+
+/* Whether a literal is a reading. What a screen may hold besides, an order or a limit, is not the foreman's to strike off. */
+static bool is_reading(int literal) {
+    for (int i = 0; i < READINGS; i++) {
+        if (readings[i] == literal) {
+            return true;
+        }
+    }
+    return false;
+}
+
+/* Takes a reading that was withdrawn off the foreman's list. The others keep their order. */
+static void unlist_reading(furnace *f, int literal) {
+    int kept = 0;
+    for (int i = 0; i < f->may_strike_count; i++) {
+        if (f->may_strike[i] != literal) {
+            f->may_strike[kept++] = f->may_strike[i];
+        }
+    }
+    f->may_strike_count = kept;
+}
+
+/* Puts a reading that is now held in front of the foreman's list: the newest is first. Of two sets of the same size the library names the one with
+ * the smaller number, which in this order is the one that keeps the oldest of the readings in which they differ. So what came last is doubted first.
+ * The list has every reading held, each once, and has room for all there are. */
+static void list_reading(furnace *f, int literal) {
+    memmove(f->may_strike + 1, f->may_strike, (size_t)f->may_strike_count * sizeof f->may_strike[0]);
+    f->may_strike[0] = (int16_t)literal;
+    f->may_strike_count++;
+}
+
+/* Brings the foreman's list in line with a reading that was held or withdrawn. */
+static void update_list(furnace *f, const event *e) {
+    if (!is_reading(e->literal)) {
+        return;
+    }
+    if (e->what == HOLD) {
+        list_reading(f, e->literal);
+    } else {
+        unlist_reading(f, e->literal);
+    }
+}
+
+/* The least of a list to withdraw for the furnace's conflict to end. That no set of the list ends it is an answer too. */
+static tup_withdrawal find_least(const screen *s, const furnace *f, const int16_t *list, int count) {
+    tup_withdrawal least = tup_least(s->board, s->table, NUMBERS, f->number, list, (size_t)count);
+    if (least.refusal != TUP_CONFLICT_STAYS) {
+        must_be_done("least", least.refusal);
+    }
+    return least;
+}
+
+/* How many members a set has. */
+static int size_of(unsigned set) {
+    int size = 0;
+    for (; set != 0; set >>= 1) {
+        size += set & 1;
+    }
+    return size;
+}
+
 /* ---- Conflicts ---- */
 
 /* Finds which readings are to blame, and checks that they alone, under the same rules, are in conflict. Which symbols are in conflict there does
@@ -468,12 +547,25 @@ static int answered_literal(int symbol, uint8_t answer) {
     return answer == TUP_RULED_OUT ? -symbol : symbol;
 }
 
+/* Says the least to withdraw, and of how many readings it was chosen; or that all of them together would not end the conflict. */
+static void say_least(conflict *c, const screen *s, const furnace *f) {
+    tup_withdrawal least = find_least(s, f, f->may_strike, f->may_strike_count);
+    if (least.refusal == TUP_CONFLICT_STAYS) {
+        say(&c->least, "nothing will do");
+        say(&c->choice, "the conflict stays with all %d readings withdrawn that may be struck off", f->may_strike_count);
+        return;
+    }
+    say_members(&c->least, f->may_strike, f->may_strike_count, least.set);
+    say(&c->choice, "%d of %d readings that may be struck off", size_of(least.set), f->may_strike_count);
+}
+
 /* A furnace's conflict as it is now. The board is asked for each symbol, since this is what a screen that only asks would show. */
 static conflict conflict_now(screen *s, const furnace *f, int now) {
     conflict result = {.began = now, .from = now};
     uint8_t blamed[PLACES];
     find_blame(s, f, blamed);
     say_premises(&result.blame, blamed);
+    say_least(&result, s, f);
     for (int symbol = 1; symbol <= SYMBOLS; symbol++) {
         uint8_t answer = ask(s, f->number, symbol);
         bool stands = answer == TUP_STANDS || answer == TUP_RULED_OUT;
@@ -497,8 +589,8 @@ static void say_marks(words *line, const conflict *c, bool in_conflict, bool on_
     say(line, "%s", between[0] == '\0' ? "none" : "");
 }
 
-/* Prints a furnace's conflict: the readings to blame, and the marks. What stands on a reading to blame may fall with it, so the crew has to look
- * before it acts on that. */
+/* Prints a furnace's conflict: the readings to blame, the least to withdraw, and the marks. What stands on a reading to blame may fall with it, so
+ * the crew has to look before it acts on that. */
 static void print_conflict(const furnace *f, const conflict *c, const char *still) {
     words line = {0};
     say(&line, "marks in conflict: ");
@@ -508,19 +600,22 @@ static void print_conflict(const furnace *f, const conflict *c, const char *stil
     say(&line, "; standing on no such reading: ");
     say_marks(&line, c, false, false);
     printf("%s   furnace %d: %sin conflict, to blame: %s\n", clock_at(c->from).text, f->number, still, c->blame.text);
+    printf("%s   furnace %d: least to withdraw: %s (%s)\n", clock_at(c->from).text, f->number, c->least.text, c->choice.text);
     printf("%s   furnace %d, %s\n", clock_at(c->from).text, f->number, line.text);
 }
 
 /* Whether a conflict is what it was. */
 static bool is_same_conflict(const conflict *before, const conflict *after) {
-    return strcmp(before->blame.text, after->blame.text) == 0 && memcmp(before->answers, after->answers, sizeof after->answers) == 0 &&
+    return strcmp(before->blame.text, after->blame.text) == 0 && strcmp(before->least.text, after->least.text) == 0 &&
+           memcmp(before->answers, after->answers, sizeof after->answers) == 0 &&
            memcmp(before->on_blame, after->on_blame, sizeof after->on_blame) == 0;
 }
 
-/* Ends a furnace's conflict, or the stage that it was in, for the chart. */
+/* Ends a furnace's conflict, or the stage that it was in, for the chart. One that came and went in the same minute has no width there. */
 static void end_conflict(furnace *f, int now) {
-    f->conflicts[f->conflict_count].to = now;
-    f->conflict_count++;
+    conflict *last = &f->conflicts[f->conflict_count];
+    last->to = now;
+    f->conflict_count += last->from < now ? 1 : 0;
 }
 
 /* Prints a furnace's conflict at its start, and again wherever another reading has changed it: a stage of its own on the chart. */
@@ -621,6 +716,75 @@ static void check_answers(screen *s, const furnace *f) {
     }
 }
 
+/* Whether the furnace is in no conflict once a set of the foreman's list is withdrawn, one reading after the other, on a copy of the board. Which
+ * symbols are in conflict does not matter, so the whole board is asked, and any literal will do. */
+static bool ends_conflict(const screen *s, const furnace *f, unsigned set) {
+    tup_board board = s->board;
+    for (int i = 0; i < f->may_strike_count; i++) {
+        if ((set >> i & 1) != 0) {
+            tup_change change = tup_withdraw(board, s->table, NUMBERS, f->number, f->may_strike[i]);
+            must_be_done("withdraw", change.refusal);
+            board = change.board;
+        }
+    }
+    return ask_whole(s, board, f->number, 1) != TUP_CONFLICT;
+}
+
+/* The least to withdraw, found by trying set after set by their numbers: a later one is less only with fewer members. TUP_NONE where no set ends the
+ * conflict: as a set it has more members than any of the list. */
+static unsigned least_by_trying(const screen *s, const furnace *f) {
+    unsigned least = TUP_NONE;
+    for (unsigned set = 0; set < 1u << f->may_strike_count; set++) {
+        if (size_of(set) < size_of(least) && ends_conflict(s, f, set)) {
+            least = set;
+        }
+    }
+    return least;
+}
+
+/* Counts a check of the least to withdraw; one that fails is printed. */
+static void count_least_check(screen *s, const furnace *f, bool good, const char *complaint) {
+    s->leasts.made++;
+    if (!good) {
+        printf("furnace %d, least to withdraw: %s\n", f->number, complaint);
+        s->leasts.failed++;
+    }
+}
+
+/* How many readings the furnace holds. */
+static int count_readings(const screen *s, const furnace *f) {
+    int count = 0;
+    for (int i = 0; i < READINGS; i++) {
+        count += holds(s, f, readings[i]) ? 1 : 0;
+    }
+    return count;
+}
+
+/* Checks that a list without the readings to blame would not do: these are in conflict by themselves, whatever else is withdrawn. */
+static void check_without_blamed(screen *s, const furnace *f) {
+    uint8_t blamed[PLACES];
+    int16_t others[TUP_MOST_CANDIDATES];
+    int count = 0;
+    must_be_done("blame", tup_blame(s->board, s->table, NUMBERS, f->number, blamed, PLACES));
+    for (int i = 0; i < f->may_strike_count; i++) {
+        if (!blamed[place_of(f->may_strike[i])]) {
+            others[count++] = f->may_strike[i];
+        }
+    }
+    count_least_check(s, f, find_least(s, f, others, count).refusal == TUP_CONFLICT_STAYS, "found without the readings to blame");
+}
+
+/* Checks that the least to withdraw is what trying finds, in conflict or not: without conflict that is the empty set. It is of all readings held
+ * where the list has as many, since the library takes no list with one that is not held, or with one twice. */
+static void check_least(screen *s, const furnace *f) {
+    tup_withdrawal least = find_least(s, f, f->may_strike, f->may_strike_count);
+    count_least_check(s, f, f->may_strike_count == count_readings(s, f), "not of all readings held");
+    count_least_check(s, f, least.set == least_by_trying(s, f), "not what trying finds");
+    if (f->in_conflict) {
+        check_without_blamed(s, f);
+    }
+}
+
 /* What the board derives for a furnace now. */
 static settling settled_now(const screen *s, const furnace *f) {
     settling result;
@@ -636,6 +800,7 @@ static void settle(screen *s, furnace *f, int now) {
     update_marks(s, f, now);
     check_grounds(s, f);
     check_answers(s, f);
+    check_least(s, f);
 }
 
 /* Checks that a reading of one furnace left every other with the labels, ranks and supports that it had. */
@@ -760,14 +925,7 @@ static bool has_listed(unsigned set, const listed *list) {
 
 /* Says the readings of a set. */
 static void say_set(words *line, unsigned set) {
-    const char *between = "";
-    for (int i = 0; i < READINGS; i++) {
-        if ((set >> i & 1) != 0) {
-            say(line, "%s", between);
-            say_literal(line, readings[i]);
-            between = " and ";
-        }
-    }
+    say_members(line, readings, READINGS, set);
     say(line, "%s", set == 0 ? "the rules alone" : "");
 }
 
@@ -930,6 +1088,7 @@ static void take_reading(screen *s, const event *e) {
         print_unmoved(f, e, unmoved);
     }
     if (change_reading(s, e)) {
+        update_list(f, e);
         settle(s, f, e->at);
         check_unmoved(s, f, &before, unmoved);
         check_others(s, f);
@@ -1023,6 +1182,8 @@ static void print_summary(const screen *s) {
            s->sets.failed == 0 ? "yes" : "NO", s->sets.made);
     printf("every answer was what the label says, and of the whole board the same, or conflict while the furnace was in one: %s (%d checks)\n",
            s->answers.failed == 0 ? "yes" : "NO", s->answers.made);
+    printf("of all readings held the least to withdraw ended each conflict, nothing less did, and nothing without one to blame: %s (%d checks)\n",
+           s->leasts.failed == 0 ? "yes" : "NO", s->leasts.made);
 }
 
 /* ---- The shift ---- */
@@ -1057,6 +1218,7 @@ int main(int count, char **arguments) {
     if (!write_chart(count > 1 ? arguments[1] : "trend.svg", &s)) {
         stop("the picture could not be written");
     }
-    int failed = s.grounds.failed + s.blames.failed + s.others.failed + s.sentences.failed + s.unmoved.failed + s.sets.failed + s.answers.failed;
+    int failed = s.grounds.failed + s.blames.failed + s.others.failed + s.sentences.failed + s.unmoved.failed + s.sets.failed + s.answers.failed +
+                 s.leasts.failed;
     return failed == 0 ? EXIT_SUCCESS : EXIT_FAILURE;
 }

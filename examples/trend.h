@@ -48,10 +48,11 @@ typedef struct mark {
 } mark;
 
 /* A conflict of a furnace from one minute to another, or a stage of it where another reading changed it, and when the conflict began; the readings to
- * blame, the board's answer for each symbol, and whether what stands by that answer stands on a reading to blame. */
+ * blame, the least to withdraw, and what that was chosen from; the board's answer for each symbol, and whether what stands by that answer stands on a
+ * reading to blame. */
 typedef struct conflict {
     int began, from, to;
-    words blame;
+    words blame, least, choice;
     uint8_t answers[SYMBOLS + 1];
     bool on_blame[SYMBOLS + 1];
 } conflict;
@@ -69,7 +70,8 @@ typedef struct furnace {
     mark marks[SYMBOLS + 1];
     mark bars[MOST_BARS];
     conflict conflicts[MOST_CONFLICTS];
-    int bar_count, conflict_count;
+    int16_t may_strike[TUP_MOST_CANDIDATES]; /* the readings that it holds, the newest first: those that the foreman may strike off */
+    int bar_count, conflict_count, may_strike_count;
     bool in_conflict;
 } furnace;
 
@@ -92,7 +94,7 @@ typedef struct screen {
     furnace furnaces[TUP_FURNACES];
     words needs[MOST_NEEDS]; /* what the shift desk was told that marks need, a line each */
     int need_count, rules_refused, readings_refused;
-    tally grounds, blames, others, sentences, unmoved, sets, answers;
+    tally grounds, blames, others, sentences, unmoved, sets, answers, leasts;
 } screen;
 
 /* Gives up with a reason. */

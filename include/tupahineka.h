@@ -1,11 +1,14 @@
 /* Tupahineka: a proved truth-maintenance board behind a trend screen. The nine calls of document 01 for C and C++, with the places of
  * document 02's first ticket, the two calls for DIMACS text of its second, blame as its fourth has it, the three calls for formulae in plain text
  * of its fifth, the two furnaces of its sixth, without refusal 14, which its seventh took out, with the number of its rule in each row, as its
- * eighth asks, the shift desk's smallest sets of its tenth, and ask by symbol, with the old answer as a call of its own, as its eleventh asks.
+ * eighth asks, the shift desk's smallest sets of its tenth, ask by symbol, with the old answer as a call of its own, as its eleventh asks, and the
+ * foreman's least to withdraw of its twelfth.
  *
  * Changed in version 6.0: tup_ask answers TUP_CONFLICT only for a literal whose own symbol is in conflict. Before, it did so for every literal while
  * the furnace was in conflict anywhere; a program that relies on that, to find out whether there is a conflict at all, calls tup_ask_whole instead.
- * Nothing else moved: every struct, number and refusal is what it was.
+ * Nothing else moved: every struct, number and refusal was what it had been.
+ *
+ * New in version 6.1: tup_least, tup_withdrawal and refusal 18. Nothing that was there moved.
  *
  * Two furnaces run the same rules: a board has one S and one table of rows, and for each furnace a set of premises of its own. A call that changes
  * premises, or answers by them, names its furnace, 1 or 2, right after the table and its count. What is held and withdrawn for one furnace changes
@@ -42,9 +45,9 @@ enum {
     TUP_ROW_LITERALS = 8,      /* of them places for literals; the last is the rule's number */
     TUP_MOST_ROWS = 2048,      /* rows used of a longer table */
     TUP_MOST_RULES = 32767,    /* rules accepted since the board was opened */
-    TUP_MOST_CANDIDATES = 12,  /* literals that tup_smallest may choose from */
+    TUP_MOST_CANDIDATES = 12,  /* literals that tup_smallest and tup_least may choose from */
     TUP_MOST_SETS = 4096,      /* no list that tup_smallest writes is longer */
-    TUP_NONE = 65535,          /* no rank, no support, no row */
+    TUP_NONE = 65535,          /* no rank, no support, no row, no set */
     TUP_MOST_TEXT = 86031,     /* no text that tup_write_dimacs writes has more bytes */
     TUP_MOST_FORMULA = 98303,  /* no formula has more bytes */
     TUP_MOST_SPELLING = 196603 /* no text that tup_write_text writes has more bytes */
@@ -73,7 +76,8 @@ enum {
     TUP_BAD_TEXT = 15,        /* DIMACS text that breaks the form, has not the header's number of clauses, or a literal beyond its variables;
                                * formula text that breaks its form, or opens a seventeenth bracket */
     TUP_BAD_FURNACE = 16,     /* a furnace number other than 1 or 2 */
-    TUP_BAD_CANDIDATES = 17   /* more than 12 candidates, or one given twice */
+    TUP_BAD_CANDIDATES = 17,  /* more than 12 candidates, or one given twice */
+    TUP_CONFLICT_STAYS = 18   /* least: withdrawing all of the candidates leaves the conflict */
 };
 
 /* How a literal stands: see tup_ask. */
@@ -131,6 +135,12 @@ typedef struct tup_listing {
     uint8_t refusal;
     size_t count; /* sets written, from the front on; 0 where refused */
 } tup_listing;
+
+/* Look at the refusal before the set: where it is refused there is none, which is not the empty set. */
+typedef struct tup_withdrawal {
+    uint8_t refusal;
+    uint16_t set; /* TUP_NONE, 65535, where refused */
+} tup_withdrawal;
 
 typedef struct tup_answer {
     uint8_t refusal;
@@ -194,7 +204,7 @@ tup_spelling tup_write_text(tup_board board, const int16_t *table, size_t number
 tup_listing tup_smallest(tup_board board, const int16_t *table, size_t numbers, const int16_t *candidates, size_t candidate_count,
                          int16_t literal, uint16_t *sets, size_t room);
 
-/* The calls below name a furnace: the first two change its premises, the others tell what these and the rules derive. */
+/* The calls below name a furnace: the first two change its premises, the others tell what these and the rules derive, and the last what to withdraw. */
 
 /* Puts a literal into the furnace's premises. Refused: 1, 16, 2, 10. */
 tup_change tup_hold(tup_board board, const int16_t *table, size_t numbers, uint8_t furnace, int16_t literal);
@@ -234,6 +244,16 @@ uint8_t tup_ground(tup_board board, const int16_t *table, size_t numbers, uint8_
  * held, withdrawn or added, the furnace stays in conflict until one of them is withdrawn for it or the board is opened anew. Where nothing is
  * marked, the rules alone are in conflict. Refused: 1, 16, 13, 12. */
 uint8_t tup_blame(tup_board board, const int16_t *table, size_t numbers, uint8_t furnace, uint8_t *marks, size_t mark_count);
+
+/* The least to withdraw. Of the sets of candidates, all of them premises of the furnace, the smallest whose withdrawal ends the conflict, and of
+ * equal size the one with the smallest number; bit i of the number, from the lowest, stands for candidates[i]. The empty set, 0, is the answer
+ * exactly where there is no conflict. Nothing is withdrawn: with tup_withdraw for each candidate of the set, in any order, each is done, and then the
+ * furnace is in no conflict. Of two smallest sets that end it the answer is the one without the last candidate in which they differ: give first what
+ * is doubted most. tup_blame marks the premises of one conflict only: where there are several, these alone as candidates may not be enough, and the
+ * answer is 18; give all that may be struck off. The candidates may be none. Refused: 1; 16; 2 for any of the candidates, however many; 17; 11 (one
+ * is not held for the furnace); 18. */
+tup_withdrawal tup_least(tup_board board, const int16_t *table, size_t numbers, uint8_t furnace, const int16_t *candidates,
+                         size_t candidate_count);
 
 #ifdef __cplusplus
 }

@@ -1,10 +1,11 @@
 /* What document 02's Ticket 7 says of every answer, tested on the library's own and without the model: "No rank can exceed 2S", and 14 is out of the
- * table of refusals. Of lists of smallest sets what Ticket 10 says of every one, in listing.c. */
+ * table of refusals. Of lists of smallest sets what Ticket 10 says of every one, in listing.c, and of the least to withdraw what Ticket 12 says, in
+ * withdrawal.c. */
 #include <stdio.h>
 
 #include "steps.h"
 
-enum { TAKEN_OUT = 14, LAST_REFUSAL = 17 };
+enum { TAKEN_OUT = 14, LAST_REFUSAL = 18 };
 
 /* True for 0 and the numbers of refusals; notes another one. */
 bool number_is_known(Play *play, unsigned number) {
@@ -32,9 +33,16 @@ static bool reason_is_bounded(Play *play, unsigned rank, unsigned symbols) {
     return false;
 }
 
+/* True if a call that was done may be done with its candidates: at most 12, and none of them twice. */
+bool candidates_are_bounded(Play *play, const Step *step) {
+    bool refused = step->bytes > MOST_CANDIDATES || repeats(step->candidates, step->bytes);
+    return same(play, "done with more than 12 candidates, or with a repeated one", NONE, refused, false);
+}
+
 /* True if nothing that the library told in a step is ruled out, on a board of so many symbols and with these tables written. */
 bool answer_is_bounded(Play *play, const Step *step, const Outcome *told, unsigned symbols, const Tables *tables) {
     if (!number_is_known(play, told->refusal)) return false;
+    if (step->kind == LEAST) return least_is_bounded(play, step, told);
     if (told->refusal != 0) return same(play, "sets listed by a refused call", NONE, told->listed, 0);
     if (step->kind == SMALLEST) return list_is_bounded(play, step, told->listed, tables->sets + GUARD);
     if (step->kind == SETTLE) return ranks_are_bounded(play, tables->ranks + GUARD, symbols);

@@ -1,13 +1,12 @@
 /* Candidates, literals and rooms by which a list of smallest sets is refused: which refusal comes of each was worked out by hand from document 02's
- * Ticket 10, and is held against the model and the library alike, on a good board and on bad ones. */
+ * Ticket 10, and is held against the model and the library alike, on a good board and on bad ones. Then a great many candidates, for the least to
+ * withdraw too. */
 #include "settries.h"
 
+#include "givenboard.h"
 #include "tries.h"
 
-enum { SYMBOLS = 7, GIVEN = MOST_CANDIDATES + 2 };
-
-/* What a call is given on a board of 7 symbols where 1 or 2 implies 3: candidates, so many of them, numbers standing after these, the literal and the
- * room; then the refusal. */
+/* What a call is given: the literal, candidates, so many of them, numbers standing after these, and the room; then the refusal. */
 typedef struct Given {
     int literal;
     unsigned count;
@@ -15,8 +14,6 @@ typedef struct Given {
     size_t room;
     unsigned refusal;
 } Given;
-
-#define ALL_BUT_7 1, -1, 2, -2, 3, -3, 4, -4, 5, -5, 6, -6
 
 static const Given given[] = {
     /* the list has the sets 1 and 2, or just one of them, or none */
@@ -46,75 +43,47 @@ static const Given given[] = {
     {3, 13, {ALL_BUT_7, 7}, 0, 17}, {3, 13, {ALL_BUT_7, 8}, 0, 2},
 };
 
-/* The ways in which a board is bad here. */
-enum { NO_SYMBOLS, TOO_MANY_SYMBOLS, TOO_MANY_RULES, PREMISE_OF_1, PREMISE_OF_2, TABLE_SHORT, ROW_SPOILT, BAD_WAYS };
-
-/* Opens the board. */
-static bool set_up(Play *play) {
-    play_start(play, 20, true);
-    bool good = try_call(play, OPEN, 0, SYMBOLS, 0);
-    try_row(play, (int16_t[ROW_LITERALS]){-1, 3});
-    try_row(play, (int16_t[ROW_LITERALS]){-2, 3});
-    return good;
-}
-
-/* Makes the board bad in a way; or good again. */
-static void spoil(Play *play, unsigned way, bool bad) {
-    if (way == NO_SYMBOLS) try_act(play, SET_SYMBOLS, 0, bad ? 0 : SYMBOLS);
-    if (way == TOO_MANY_SYMBOLS) try_act(play, SET_SYMBOLS, 0, bad ? MOST_SYMBOLS + 1 : SYMBOLS);
-    if (way == TOO_MANY_RULES) try_act(play, SET_RULES, 0, bad ? MOST_RULES + 1 : 2);
-    if (way == ROW_SPOILT) try_act(play, SET_NUMBER, WIDTH, bad ? -SYMBOLS - 1 : -2);
-    if (way != PREMISE_OF_1 && way != PREMISE_OF_2) return;
-    play_step(play, &(Step){.kind = SET_HELD, .furnace = way == PREMISE_OF_1 ? 1 : 2, .place = 2 * SYMBOLS, .value = bad});
-}
-
-/* Makes the call with so many numbers of the clause table; false where the sides differ or the refusal is another. */
-static bool refuses(Play *play, const Given *it, size_t numbers, unsigned refusal) {
-    Step step = {.kind = SMALLEST, .value = it->literal, .numbers = numbers, .candidates = it->candidates, .bytes = it->count, .standing = GIVEN,
-                 .lent = {it->room}, .noise = 11 + it->count};
-    return play_step(play, &step) && play->last.refusal == refusal;
-}
-
 /* Every call by hand on the good board, and 1 for each of them on every bad one. */
 static bool given_agree(Play *play) {
     for (size_t i = 0; i < sizeof given / sizeof given[0]; i++) {
-        bool good = set_up(play) && refuses(play, &given[i], 2 * WIDTH, given[i].refusal);
-        for (unsigned way = 0; way < BAD_WAYS && good; way++) {
-            spoil(play, way, true);
-            good = refuses(play, &given[i], way == TABLE_SHORT ? 2 * WIDTH - 1 : 2 * WIDTH, 1);
-            spoil(play, way, false);
-        }
-        if (!good || !refuses(play, &given[i], TABLE_LENDABLE, given[i].refusal)) return try_wrong(play, "candidates given", "call", (unsigned)i + 1);
+        const Given *it = &given[i];
+        Step step = {.kind = SMALLEST, .value = it->literal, .candidates = it->candidates, .bytes = it->count, .standing = GIVEN, .lent = {it->room},
+                     .noise = 11 + it->count};
+        if (!given_open(play) || !given_refuses(play, step, it->refusal)) return try_wrong(play, "candidates given", "call", (unsigned)i + 1);
     }
     return true;
 }
 
-/* Makes a call of a great many candidates; false where the sides differ or the refusal is another. */
-static bool many_refused(Play *play, const int16_t *candidates, size_t count, int literal, unsigned refusal) {
-    Step step = {.kind = SMALLEST, .value = literal, .numbers = TABLE_LENDABLE, .candidates = candidates, .bytes = count, .standing = count,
+/* Makes a call of a great many candidates, for furnace 1 or for a literal; false where the sides differ or the refusal is another. */
+static bool many_refused(Play *play, Kind kind, const int16_t *candidates, size_t count, int literal, unsigned refusal) {
+    Step step = {.kind = kind, .furnace = 1, .value = literal, .numbers = TABLE_LENDABLE, .candidates = candidates, .bytes = count, .standing = count,
                  .lent = {ALL_SETS}, .noise = 12 + count};
     return play_step(play, &step) && play->last.refusal == refusal;
 }
 
-/* More candidates than 12, up to more than 16 bits can count, the first 12 of them all different: 17, and 2 where the literal, the first or the last
- * of them is none. */
+/* Calls of so many candidates: 17, and 2 where the literal, the first or the last of them is none. To withdraw them 11 would be due as well. */
+static bool count_agrees(Play *play, Kind kind, int16_t *candidates, size_t count) {
+    int16_t first = candidates[0], last = candidates[count - 1];
+    bool good = given_open(play) && many_refused(play, kind, candidates, count, 3, 17);
+    if (gives_literal(kind)) good = good && many_refused(play, kind, candidates, count, 0, 2);
+    candidates[count - 1] = GIVEN_SYMBOLS + 1;
+    good = good && many_refused(play, kind, candidates, count, 3, 2);
+    candidates[count - 1] = last;
+    candidates[0] = 0;
+    good = good && many_refused(play, kind, candidates, count, 3, 2);
+    candidates[0] = first;
+    return good;
+}
+
+/* More candidates than 12, up to more than 16 bits can count, the first 12 of them all different, for both calls that are given some. */
 static bool many_agree(Play *play) {
     static const size_t counts[] = {13, 14, 24, 32, 255, 256, 257, 268, 269, 4096, 4108, 32768, 65535, 65536, 65537, 65548, 65549};
     static const int16_t first[] = {ALL_BUT_7};
     static int16_t candidates[CANDIDATES_LENDABLE];
     for (size_t i = 0; i < CANDIDATES_LENDABLE; i++) candidates[i] = first[i % MOST_CANDIDATES];
-    for (size_t i = 0; i < sizeof counts / sizeof counts[0]; i++) {
-        size_t last = counts[i] - 1;
-        int16_t was = candidates[last];
-        bool good = set_up(play) && many_refused(play, candidates, counts[i], 3, 17) && many_refused(play, candidates, counts[i], 0, 2);
-        candidates[last] = SYMBOLS + 1;
-        good = good && many_refused(play, candidates, counts[i], 3, 2);
-        candidates[last] = was;
-        candidates[0] = 0;
-        good = good && many_refused(play, candidates, counts[i], 3, 2);
-        candidates[0] = first[0];
-        if (!good) return try_wrong(play, "a great many candidates", "candidates", (unsigned)counts[i]);
-    }
+    for (size_t i = 0; i < sizeof counts / sizeof counts[0]; i++)
+        if (!count_agrees(play, SMALLEST, candidates, counts[i]) || !count_agrees(play, LEAST, candidates, counts[i]))
+            return try_wrong(play, "a great many candidates", "candidates", (unsigned)counts[i]);
     return true;
 }
 

@@ -39,7 +39,8 @@ bool same_outcome(Play *play, const Outcome *ours, const Outcome *theirs) {
            same(play, "literals of the reason", NONE, theirs->literals, ours->literals) &&
            same(play, "rank of the reason", NONE, theirs->rank, ours->rank) &&
            same(play, "row of the reason", NONE, theirs->row, ours->row) &&
-           same(play, "rule of the reason", NONE, theirs->rule, ours->rule) && same(play, "sets listed", NONE, theirs->listed, ours->listed);
+           same(play, "rule of the reason", NONE, theirs->rule, ours->rule) &&
+           same(play, "sets listed", NONE, theirs->listed, ours->listed) && same(play, "set to withdraw", NONE, theirs->set, ours->set);
 }
 
 _Static_assert(sizeof(bool) == 1, "the model's premises are compared with the library's byte by byte");

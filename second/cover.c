@@ -54,7 +54,8 @@ static const unsigned possible[CALLS][NUMBERS] = {
     [OPEN] = {2},              [RULE] = {1, 2, 3, 4, 5, 6, 7, 8, 9}, [READ] = {1, 2, 7, 8, 9, 15},  [HOLD] = {1, 16, 2, 10},
     [SETTLE] = {1, 16, 13},    [WITHDRAW] = {1, 16, 2, 11},          [GROUND] = {1, 16, 2, 13, 12}, [ASK] = {1, 16, 2},
     [BLAME] = {1, 16, 13, 12}, [EXPLAIN] = {1, 16, 2, 12},           [WRITE] = {1, 13},             [TEXT_RULE] = {1, 2, 5, 7, 8, 9, 15},
-    [TO_BYTES] = {1, 2, 5, 13, 15}, [TO_TEXT] = {1, 2, 3, 4, 5, 6, 13}, [SMALLEST] = {1, 2, 17, 13}, [ASK_WHOLE] = {1, 16, 2}};
+    [TO_BYTES] = {1, 2, 5, 13, 15}, [TO_TEXT] = {1, 2, 3, 4, 5, 6, 13}, [SMALLEST] = {1, 2, 17, 13}, [ASK_WHOLE] = {1, 16, 2},
+    [LEAST] = {1, 16, 2, 17, 11, 18}};
 
 static unsigned long calls[CALLS], refusals[CALLS][NUMBERS], damaged[BAD_BOARDS][CALLS], cases[CASES];
 static unsigned long broken[BREAKS][SPOTS];
@@ -255,7 +256,9 @@ void cover_step(const Play *play, const Step *step) {
     refusals[step->kind][play->last.refusal]++;
     if (step->kind == READ || step->kind == WRITE) cover_text(play, step);
     if (step->kind == TO_TEXT || spells(step->kind)) cover_spelt(play, step);
-    if (step->kind == SMALLEST) cover_sets(play, step), cover_candidates(play, step);
+    if (step->kind == SMALLEST) cover_sets(play, step);
+    if (step->kind == LEAST) cover_least(play, step), cover_held(play, step);
+    if (gives_candidates(step->kind)) cover_candidates(play, step);
     if (step->kind == SETTLE || asks(step->kind)) cover_answers(play, step);
     cover_rules(play, step);
     cases[TWO_FAULTS] += step->faults > 1;
@@ -351,6 +354,8 @@ void cover_print(void) {
     cover_outside_print();
     cover_candidates_print();
     cover_sets_print();
+    cover_held_print();
+    cover_least_print();
     cover_texts_print();
     cover_spelt_print();
     printf("labels 0, 1, 2, 3: %lu %lu %lu %lu\n", labels_seen[0], labels_seen[1], labels_seen[2], labels_seen[3]);
@@ -363,6 +368,7 @@ void cover_print(void) {
     cover_rules_close();
     cover_outside_close();
     cover_sets_close();
+    cover_least_close();
     cover_texts_close();
     cover_spelt_close();
 }
@@ -395,6 +401,8 @@ bool cover_is_whole(void) {
     whole &= cover_outside_is_whole();
     whole &= cover_candidates_are_whole();
     whole &= cover_sets_are_whole();
+    whole &= cover_held_is_whole();
+    whole &= cover_least_is_whole();
     whole &= cover_texts_are_whole();
     whole &= cover_spelt_is_whole();
     for (unsigned k = 0; k < CALLS; k++) {

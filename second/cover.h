@@ -5,7 +5,7 @@
 #include "outside.h"
 #include "steps.h"
 
-enum { NUMBERS = 18 }; /* of refusals, and 0 for a call that is done */
+enum { NUMBERS = 19 }; /* of refusals, and 0 for a call that is done */
 
 void cover_step(const Play *play, const Step *step);
 void cover_print(void);
@@ -54,8 +54,9 @@ void cover_outside_print(void);
 void cover_outside_close(void);
 bool cover_outside_is_whole(void);
 
-/* covercandidates.c: what the lists of smallest sets were to be made of, and how they were refused. */
+/* covercandidates.c: the candidates that were given, and how calls were refused for them. */
 void cover_candidates(const Play *play, const Step *step);
+bool rows_are_left(unsigned damage);
 void cover_candidates_print(void);
 bool cover_candidates_are_whole(void);
 
@@ -64,6 +65,17 @@ void cover_sets(const Play *play, const Step *step);
 void cover_sets_print(void);
 void cover_sets_close(void);
 bool cover_sets_are_whole(void);
+
+/* coverleast.c: the least to withdraw, as it was told. */
+void cover_least(const Play *play, const Step *step);
+void cover_least_print(void);
+void cover_least_close(void);
+bool cover_least_is_whole(void);
+
+/* coverheld.c: how calls for the least to withdraw were refused, and for which candidates that are not held. */
+void cover_held(const Play *play, const Step *step);
+void cover_held_print(void);
+bool cover_held_is_whole(void);
 
 /* covertext.c: the texts read and written. */
 void cover_text(const Play *play, const Step *step);

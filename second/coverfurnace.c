@@ -40,12 +40,6 @@ static unsigned long sequences_apart[FURNACES], premises_struck[FURNACES], compa
 static Told last_told[FURNACES];
 static int withdrawn[FURNACES]; /* by each furnace last, since the board was opened */
 
-/* True if the call is given a literal that is none. */
-static bool literal_is_bad(const Play *play, const Step *step) {
-    int symbol = step->value < 0 ? -step->value : step->value;
-    return step->kind != SETTLE && step->kind != BLAME && (symbol == 0 || symbol > (int)play->board.symbols);
-}
-
 /* True if the call is lent a table that is too short. */
 static bool lent_too_short(const Play *play, const Step *step) {
     size_t symbols = play->board.symbols;
@@ -57,7 +51,7 @@ static bool lent_too_short(const Play *play, const Step *step) {
 static void cover_16(const Play *play, const Step *step) {
     unsigned furnace = step->furnace;
     cases[furnace == 0 ? BY_0 : furnace == 3 ? BY_3 : furnace == 255 ? BY_255 : BY_ANOTHER]++;
-    cases[NOT_2] += literal_is_bad(play, step);
+    cases[NOT_2] += !gives_literals(step, play->board.symbols);
     cases[NOT_13] += lent_too_short(play, step);
 }
 

@@ -3,7 +3,9 @@
 
 #include "damage.h"
 #include "drawcauses.h"
+#include "drawclashes.h"
 #include "drawfurnace.h"
+#include "drawleast.h"
 #include "drawrows.h"
 #include "drawsets.h"
 #include "drawspelt.h"
@@ -11,10 +13,10 @@
 #include "formulae.h"
 
 /* Styles of sequences. */
-enum { FREE, PLANTS, CIRCLE, CHAIN, ROWS, FULL, TIGHT, BROAD, PACKED, TEXTS, KNOTS, CAUSES, STYLES };
+enum { FREE, CLASHES, PLANTS, CIRCLE, CHAIN, ROWS, FULL, TIGHT, BROAD, PACKED, TEXTS, KNOTS, CAUSES, STYLES };
 
 static const unsigned style_weights[STYLES] = {
-    [FREE] = 330, [PLANTS] = 230, [CIRCLE] = 80, [CHAIN] = 30, [ROWS] = 160, [FULL] = 14, [TIGHT] = 120, [BROAD] = 70, [PACKED] = 14,
+    [FREE] = 290, [CLASHES] = 80, [PLANTS] = 190, [CIRCLE] = 80, [CHAIN] = 30, [ROWS] = 160, [FULL] = 14, [TIGHT] = 120, [BROAD] = 70, [PACKED] = 14,
     [TEXTS] = 120, [KNOTS] = 60, [CAUSES] = 60};
 
 /* Which sorts of formulae a style has, in the order PLANT, TREE, SPINE, WIDE, PARITY, LITERALS, NEVER, ALWAYS, LONG, NOISE,
@@ -31,18 +33,22 @@ static const unsigned sort_weights[STYLES][SORTS] = {
     [PACKED] = {10, 10, 0, 10, 10, 10, 5, 5, 0, 5, 60, 20, 20, 15},
     [TEXTS] = {800, 50, 5, 1, 5, 10, 5, 5, 0, 5, 0, 20, 1, 15},
     [KNOTS] = {500, 200, 20, 2, 20, 50, 20, 20, 4, 20, 0, 60, 2, 20},
-    [CAUSES] = {800, 50, 5, 1, 5, 10, 5, 5, 0, 5, 0, 20, 1, 15}};
+    [CAUSES] = {800, 50, 5, 1, 5, 10, 5, 5, 0, 5, 0, 20, 1, 15},
+    [CLASHES] = {800, 50, 5, 1, 5, 10, 5, 5, 0, 5, 0, 20, 1, 15}};
 
-/* How often each call comes: at first, later on, and among causes of marks. */
-enum { AT_FIRST, LATER, AMONG_CAUSES, TIMES };
+/* How often each call comes: at first, later on, among causes of marks, and among clashes of premises. */
+enum { AT_FIRST, LATER, AMONG_CAUSES, AMONG_CLASHES, TIMES };
 
 static const unsigned call_weights[TIMES][CALLS] = {
     {[OPEN] = 3, [RULE] = 90, [TEXT_RULE] = 40, [READ] = 30, [HOLD] = 74, [WITHDRAW] = 14, [SETTLE] = 20, [ASK] = 10, [ASK_WHOLE] = 8,
-     [EXPLAIN] = 10, [GROUND] = 10, [BLAME] = 5, [SMALLEST] = 8, [WRITE] = 10, [TO_BYTES] = 16, [TO_TEXT] = 14},
+     [EXPLAIN] = 10, [GROUND] = 10, [BLAME] = 5, [LEAST] = 5, [SMALLEST] = 8, [WRITE] = 10, [TO_BYTES] = 16, [TO_TEXT] = 14},
     {[OPEN] = 5, [RULE] = 20, [TEXT_RULE] = 14, [READ] = 20, [HOLD] = 44, [WITHDRAW] = 26, [SETTLE] = 40, [ASK] = 28, [ASK_WHOLE] = 20,
-     [EXPLAIN] = 26, [GROUND] = 26, [BLAME] = 16, [SMALLEST] = 20, [WRITE] = 16, [TO_BYTES] = 16, [TO_TEXT] = 14},
+     [EXPLAIN] = 26, [GROUND] = 26, [BLAME] = 16, [LEAST] = 13, [SMALLEST] = 20, [WRITE] = 16, [TO_BYTES] = 16,
+     [TO_TEXT] = 14},
     {[OPEN] = 1, [RULE] = 10, [TEXT_RULE] = 6, [READ] = 4, [HOLD] = 40, [WITHDRAW] = 20, [SETTLE] = 12, [ASK] = 10, [ASK_WHOLE] = 6,
-     [EXPLAIN] = 8, [GROUND] = 12, [BLAME] = 8, [SMALLEST] = 180, [WRITE] = 2, [TO_BYTES] = 2, [TO_TEXT] = 2}};
+     [EXPLAIN] = 8, [GROUND] = 12, [BLAME] = 8, [LEAST] = 8, [SMALLEST] = 180, [WRITE] = 2, [TO_BYTES] = 2, [TO_TEXT] = 2},
+    {[OPEN] = 1, [RULE] = 8, [TEXT_RULE] = 6, [READ] = 4, [HOLD] = 36, [WITHDRAW] = 40, [SETTLE] = 12, [ASK] = 8, [ASK_WHOLE] = 10,
+     [EXPLAIN] = 8, [GROUND] = 8, [BLAME] = 14, [LEAST] = 180, [SMALLEST] = 4, [WRITE] = 2, [TO_BYTES] = 2, [TO_TEXT] = 2}};
 
 /* A count of symbols that suits the style. */
 static unsigned draw_symbols(Random *random, unsigned style) {
@@ -54,6 +60,9 @@ static unsigned draw_symbols(Random *random, unsigned style) {
     case FULL: return random_chance(random, 40) ? MOST_SYMBOLS : random_between(random, 60, MOST_SYMBOLS);
     case KNOTS: return random_chance(random, 40) ? MOST_SYMBOLS : random_between(random, 1, 12);
     case CAUSES: return random_chance(random, 20) ? MOST_SYMBOLS : random_between(random, 3, 14);
+    case CLASHES:
+        if (random_chance(random, 10)) return MOST_SYMBOLS;
+        return random_chance(random, 60) ? random_between(random, 2, 12) : random_between(random, 14, 24);
     case BROAD: return random_between(random, 8, 14);
     case PACKED: return random_between(random, 8, 10);
     case TIGHT: return random_chance(random, 30) ? random_between(random, 9, 14) : random_between(random, 1, 8);
@@ -81,6 +90,7 @@ static unsigned draw_setup(Random *random, unsigned style, unsigned symbols) {
         return random_between(random, 1, random_chance(random, 80) ? 24 : 160);
     case PACKED: return 16;
     case CAUSES: return random_between(random, 2, random_chance(random, 60) ? 16 : 40);
+    case CLASHES: return random_between(random, 1, random_chance(random, 70) ? 8 : 16);
     case TEXTS: return random_chance(random, 85) ? random_between(random, 1, 60) : random_between(random, 60, random_chance(random, 80) ? 400 : 3000);
     default: return 0;
     }
@@ -296,6 +306,7 @@ static void draw_call(Draft *draft, const Play *play, Step *step, unsigned no_fu
     case RULE: case TEXT_RULE: case TO_BYTES: case TO_TEXT: draw_rule(draft, play, step); break;
     case READ: draw_read(draft, play, step); break;
     case SMALLEST: draw_smallest(draft, play, step, draft->style == CAUSES && random_chance(&draft->random, 60)); break;
+    case LEAST: draw_least(draft, play, step, draft->style == CLASHES && random_chance(&draft->random, 70)); break;
     case SETTLE: case BLAME: case WRITE: break;
     default: draw_given_literal(draft, play, step);
     }
@@ -329,11 +340,11 @@ static void add_call(Draft *draft, const Play *play) {
     if (random_chance(random, 1)) add_high_count(draft, play);
     if (play->board.symbols == 0 && random_chance(random, 70)) {
         add_step(draft, OPEN)->value = (int)draft->symbols;
-    } else if (random_chance(random, 16)) {
+    } else if (random_chance(random, 17)) {
         add_damaged_call(draft, play);
     } else {
         bool later = draft->style != PACKED && (draft->calls < 12 || draft->style == ROWS || draft->style == FULL || draft->style == KNOTS);
-        unsigned time = draft->style == CAUSES ? AMONG_CAUSES : later ? LATER : AT_FIRST;
+        unsigned time = draft->style == CAUSES ? AMONG_CAUSES : draft->style == CLASHES ? AMONG_CLASHES : later ? LATER : AT_FIRST;
         Step *step = add_step(draft, (Kind)random_weighted(random, call_weights[time], CALLS));
         draw_call(draft, play, step, 5);
     }
@@ -408,6 +419,10 @@ static bool add_setup(Draft *draft, const Play *play) {
     }
     if (draft->style == CAUSES) {
         add_causes(draft, draft->setup);
+        return false;
+    }
+    if (draft->style == CLASHES) {
+        add_clashes(draft, draft->setup);
         return false;
     }
     bool links = random_chance(random, 50), falling = random_chance(random, 50);

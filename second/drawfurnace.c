@@ -48,18 +48,21 @@ void add_hold(Draft *draft, int literal) {
     step->value = sort < 33 ? literal : -literal;
 }
 
-/* Adds a call for the other furnace than that of the last call, with its literal if it was given one, of the same kind or another; false where the
- * last step was no call that names a furnace. */
+/* Adds a call for the other furnace than that of the last call, with its literal or its candidates if it was given some, of the same kind or another;
+ * false where the last step was no call that names a furnace. */
 bool add_echo(Draft *draft) {
     static const Kind kinds[] = {HOLD, WITHDRAW, ASK, ASK, ASK_WHOLE, ASK_WHOLE, EXPLAIN, GROUND};
     const Step last = draft->steps[draft->count - 1];
     Kind kind = last.kind;
     if (!names_furnace(kind) || !is_furnace(last.furnace)) return false;
-    if (kind != SETTLE && kind != BLAME && random_chance(&draft->random, 60)) kind = kinds[random_below(&draft->random, 8)];
+    if (gives_literal(kind) && random_chance(&draft->random, 60)) kind = kinds[random_below(&draft->random, 8)];
     Step *step = add_step(draft, kind);
     step->furnace = 3 - last.furnace;
     step->value = last.value;
     step->numbers = last.numbers;
+    step->candidates = last.candidates;
+    step->bytes = last.bytes;
+    step->standing = last.standing;
     for (unsigned i = 0; i < 3; i++) step->lent[i] = kind == last.kind ? last.lent[i] : PLACES_LENDABLE;
     return true;
 }

@@ -109,9 +109,9 @@ static bool numbers_agree(Play *play) {
     static const int16_t rows[TRY_ROWS][ROW_LITERALS] = {{-1, 2}};
     for (unsigned n = 0; n < NUMBERS_OF_FURNACES; n++) {
         bool good = set_up(play, 2, rows), is = n == 1 || n == 2;
-        for (Kind kind = HOLD; kind <= BLAME; kind++) {
-            bool literal = kind != SETTLE && kind != BLAME, writes = kind == SETTLE || kind == GROUND || kind == BLAME;
-            unsigned nothing = kind == EXPLAIN || kind == GROUND || kind == BLAME ? 12 : 0; /* 1 was held, and withdrawn */
+        for (Kind kind = HOLD; kind <= LEAST; kind++) {
+            bool literal = gives_literal(kind), writes = kind == SETTLE || kind == GROUND || kind == BLAME;
+            unsigned nothing = kind == LEAST ? 11 : kind == EXPLAIN || kind == GROUND || kind == BLAME ? 12 : 0; /* 1 was held, and withdrawn */
             good = good && make(play, kind, n, 1, 4, is ? nothing : 16) && (!literal || make(play, kind, n, 3, 4, is ? 2 : 16)) &&
                    (!writes || make(play, kind, n, 1, 1, is ? 13 : 16));
         }

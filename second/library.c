@@ -62,6 +62,13 @@ static Outcome call_smallest(const Step *step, const tup_board *board, const int
     return (Outcome){.refusal = listing.refusal, .listed = listing.count};
 }
 
+/* Tells the least to withdraw. */
+static Outcome call_least(const Step *step, const tup_board *board, const int16_t *table, const Tables *tables) {
+    const int16_t *candidates = LENT(tables->candidates + GUARD, step->bytes, step);
+    tup_withdrawal withdrawal = tup_least(*board, table, step->numbers, (uint8_t)step->furnace, candidates, step->bytes);
+    return (Outcome){.refusal = withdrawal.refusal, .set = withdrawal.set};
+}
+
 /* Settles. */
 static Outcome call_settle(const Step *step, const tup_board *board, const int16_t *table, Tables *tables) {
     const size_t *lent = step->lent;
@@ -104,6 +111,7 @@ Outcome library_call(const Step *step, tup_board *board, Tables *tables) {
     case READ: return call_read(step, board, table, text);
     case WRITE: return call_write(step, board, table, text);
     case SMALLEST: return call_smallest(step, board, table, tables);
+    case LEAST: return call_least(step, board, table, tables);
     case HOLD: return changed(tup_hold(*board, table, step->numbers, furnace, literal), board);
     case WITHDRAW: return changed(tup_withdraw(*board, table, step->numbers, furnace, literal), board);
     case SETTLE: return call_settle(step, board, table, tables);

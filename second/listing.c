@@ -37,8 +37,7 @@ static bool is_inside(unsigned inner, unsigned outer) {
 /* True if a list that the library has written can be one at all; notes what is wrong with it. */
 bool list_is_bounded(Play *play, const Step *step, unsigned count, const uint16_t *sets) {
     size_t candidates = step->bytes, room = step->lent[0];
-    bool refused = candidates > MOST_CANDIDATES || repeats(step->candidates, candidates);
-    if (!same(play, "a list of more than 12 candidates, or of a repeated one", NONE, refused, false)) return false;
+    if (!candidates_are_bounded(play, step)) return false;
     if (count > room || count > 1u << candidates) {
         snprintf(play->difference, sizeof play->difference, "sets listed: library %u, of %zu candidates with %zu places lent", count, candidates,
                  room);
@@ -157,13 +156,6 @@ static bool own_agree(Play *play, const Step *step) {
     }
     play->own_grounds = play->grounds - before;
     return true;
-}
-
-/* True if all that the call was given are literals of the board's symbols, and so have places. */
-static bool gives_literals(const Step *step, unsigned symbols) {
-    bool good = symbols <= MOST_SYMBOLS && is_literal(step->value, symbols);
-    for (size_t i = 0; i < step->bytes && good; i++) good = is_literal(step->candidates[i], symbols);
-    return good;
 }
 
 /* True if every set of the list that the library has written carries the literal, and no set of candidates does without one of them; notes where not.

@@ -75,7 +75,7 @@ static Outcome outcome(unsigned refusal) {
 }
 
 /* The tests 1 and 16 of the calls that name a furnace. */
-static unsigned furnace_tests(const Board *board, const int16_t *table, size_t numbers, unsigned furnace) {
+unsigned furnace_tests(const Board *board, const int16_t *table, size_t numbers, unsigned furnace) {
     if (!board_is_good(board, table, numbers)) return 1;
     return is_furnace(furnace) ? 0 : 16;
 }

@@ -1,4 +1,4 @@
-/* Document 01 with Tickets 1, 2, 4 to 8, 10 and 11 of document 02 by brute force, for the independent second program.
+/* Document 01 with Tickets 1, 2, 4 to 8 and 10 to 12 of document 02 by brute force, for the independent second program.
  *
  * Written from these documents and include/tupahineka.h alone. No other code of the project was read for it: what this
  * program and the library share is the documents and nothing else. Slow and by definition, wherever a definition is there. */
@@ -18,7 +18,7 @@ enum {
     RULE_PLACE = 8,      /* and the place of its rule's number, the last */
     MOST_ROWS = 2048,
     MOST_RULES = 32767,  /* accepted since the board was opened */
-    NONE = 65535,        /* no rank, no support */
+    NONE = 65535,        /* no rank, no support, no set */
     RULE_SYMBOLS = 8,    /* different symbols in a rule */
     ASSIGNMENTS = 256,
     MOST_CLAUSES = 6561, /* over eight symbols, the empty one included */
@@ -50,6 +50,7 @@ typedef struct Outcome {
     size_t place;     /* of a rule, and of formula text: the byte where its formula or its text breaks, or NO_PLACE */
     size_t written;   /* of a text or a formula written: its bytes */
     unsigned listed;  /* of the smallest sets: how many */
+    unsigned set;     /* the least to withdraw, or NONE where refused */
 } Outcome;
 
 /* What each set of candidates does, held alone: bit i of its number stands for candidate i. Then how many of the sets are listed. */
@@ -57,6 +58,12 @@ typedef struct Weighed {
     unsigned candidates, listed;
     bool derives[ALL_SETS], conflict[ALL_SETS];
 } Weighed;
+
+/* Whether the furnace is in conflict with each set of candidates withdrawn from its premises. */
+typedef struct Withdrawn {
+    unsigned candidates;
+    bool conflict[ALL_SETS];
+} Withdrawn;
 
 /* How reading a formula ended: done, the bytes used and NO_PLACE; refused, the number and the place where it breaks. */
 typedef struct Reading {
@@ -111,6 +118,7 @@ Findings propagate(const Board *board, unsigned furnace, const int16_t *table);
 bool derived(const Findings *found, unsigned place);
 unsigned label_of(const Findings *found, unsigned symbol);
 unsigned first_conflict(const Board *board, const Findings *found);
+bool has_conflict(const Board *board, unsigned furnace, const int16_t *table);
 unsigned larger_rank(const Findings *found, unsigned symbol);
 unsigned blamed_symbol(const Board *board, const Findings *found);
 void walk_back(const bool premises[PLACES], const int16_t *table, const Findings *found, unsigned place, bool seen[PLACES]);
@@ -122,6 +130,7 @@ bool is_furnace(unsigned number);
 const bool *premises_of(const Board *board, unsigned furnace);
 int rule_number(const int16_t *table, unsigned row);
 bool board_is_good(const Board *board, const int16_t *table, size_t numbers);
+unsigned furnace_tests(const Board *board, const int16_t *table, size_t numbers, unsigned furnace);
 void append_row(Board *board, int16_t *table, const int16_t literals[ROW_LITERALS]);
 Outcome model_open(Board *board, unsigned symbols);
 Outcome formula_breaks(const uint8_t *formula, size_t bytes, unsigned symbols);
@@ -161,8 +170,14 @@ unsigned set_size(unsigned set);
 const Weighed *last_weighed(void);
 unsigned list_smallest(const Board *board, const int16_t *table, const int16_t *candidates, unsigned count, int literal, uint16_t listed[ALL_SETS]);
 bool repeats(const int16_t *candidates, size_t count);
+unsigned candidate_tests(unsigned symbols, const int16_t *candidates, size_t count);
 Outcome model_smallest(const Board *board, const int16_t *table, size_t numbers, const int16_t *candidates, size_t count, int literal, uint16_t *sets,
                        size_t room);
+
+/* least.c: the least to withdraw, one call more. */
+const Withdrawn *last_withdrawn(void);
+Board board_without(const Board *board, unsigned furnace, const int16_t *candidates, unsigned count, unsigned set);
+Outcome model_least(const Board *board, const int16_t *table, size_t numbers, unsigned furnace, const int16_t *candidates, size_t count);
 
 /* reduced.c: the form of formula text a second way, and the place of a 15 by its definition. */
 bool text_is_of_form(const uint8_t *text, size_t length);

@@ -1,6 +1,6 @@
 /* Ticket 8's number says which rule a row is from, and nothing else: tables that differ only in sound rule numbers give the same labels, ranks,
- * supports, grounds, marks of blame, answers, smallest sets and texts. The library makes a call once more over other numbers and another count of
- * rules; of all that it tells only explain's rule may be another, the new number of the same row. The model has no part in it. */
+ * supports, grounds, marks of blame, answers, smallest sets, least to withdraw and texts. The library makes a call once more over other numbers and
+ * another count of rules; of all that it tells only explain's rule may be another, the new number of the same row. The model has no part in it. */
 #include <stdio.h>
 #include <string.h>
 

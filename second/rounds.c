@@ -86,6 +86,12 @@ unsigned first_conflict(const Board *board, const Findings *found) {
     return 0;
 }
 
+/* True if the furnace is in conflict; the board is good. */
+bool has_conflict(const Board *board, unsigned furnace, const int16_t *table) {
+    Findings found = propagate(board, furnace, table);
+    return first_conflict(board, &found) != 0;
+}
+
 /* The larger rank of a symbol's two literals; NONE where one of them has no rank. */
 unsigned larger_rank(const Findings *found, unsigned symbol) {
     unsigned plus = found->rank[place_of((int)symbol)], minus = found->rank[place_of(-(int)symbol)];

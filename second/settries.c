@@ -127,7 +127,7 @@ static int by_size(const void *first, const void *second) {
 }
 
 /* Turns candidates and sets round: the last candidate is the first then, and so with the bits of the sets. */
-static void turn_round(int16_t *candidates, unsigned count, uint16_t *sets, unsigned listed) {
+void turn_round(int16_t *candidates, unsigned count, uint16_t *sets, unsigned listed) {
     int16_t given[MOST_CANDIDATES];
     memcpy(given, candidates, count * sizeof given[0]);
     for (unsigned i = 0; i < count; i++) candidates[i] = given[count - 1 - i];
@@ -136,7 +136,7 @@ static void turn_round(int16_t *candidates, unsigned count, uint16_t *sets, unsi
         for (unsigned i = 0; i < count; i++) turned |= (sets[n] >> i & 1u) << (count - 1 - i);
         sets[n] = (uint16_t)turned;
     }
-    qsort(sets, listed, sizeof sets[0], by_size);
+    if (listed > 0) qsort(sets, listed, sizeof sets[0], by_size);
 }
 
 /* True if a board's list is the one that was worked out, with the candidates in either order. */
@@ -152,23 +152,6 @@ static bool try_agrees(Play *play, const Try *try) {
     return good && lists_in_rooms(play, try->literal, candidates, count, sets, try->listed);
 }
 
-/* Twelve candidates, and so many of them carry the mark, whichever they are: a row from each such set. Lists these sets by their numbers; returns how
- * many there are. */
-static unsigned add_any_of_12(Play *play, unsigned size, uint16_t sets[LONGEST_LIST]) {
-    unsigned count = 0;
-    for (unsigned set = 0; set < ALL_SETS; set++) {
-        int16_t row[ROW_LITERALS] = {0};
-        unsigned used = 0;
-        if (set_size(set) != size) continue;
-        for (unsigned i = 0; i < MOST_CANDIDATES; i++)
-            if (set >> i & 1) row[used++] = (int16_t)-(int)(i + 1);
-        row[used] = MOST_CANDIDATES + 1;
-        try_row(play, row);
-        sets[count++] = (uint16_t)set;
-    }
-    return count;
-}
-
 /* Any one of 12 candidates, any two, and any six: there is no longer list than that of any six, 924 sets, since of more than these some would be
  * inside others. */
 static bool any_of_12_agree(Play *play) {
@@ -177,7 +160,7 @@ static bool any_of_12_agree(Play *play) {
     static const unsigned sizes[] = {1, 2, 6}, lengths[] = {12, 66, LONGEST_LIST};
     for (unsigned i = 0; i < 3; i++) {
         play_start(play, 19, true);
-        bool good = try_call(play, OPEN, 0, MOST_CANDIDATES + 1, 0) && add_any_of_12(play, sizes[i], sets) == lengths[i];
+        bool good = try_call(play, OPEN, 0, MOST_CANDIDATES + 1, 0) && try_any_of_12(play, sizes[i], MOST_CANDIDATES + 1, sets) == lengths[i];
         for (size_t room = lengths[i] + 1; room + 2 > lengths[i] && good; room--)
             good = lists(play, MOST_CANDIDATES + 1, candidates, MOST_CANDIDATES, sets, lengths[i], room);
         if (!good) return try_wrong(play, "so many of 12 candidates, whichever they are", "of them", sizes[i]);
@@ -185,18 +168,14 @@ static bool any_of_12_agree(Play *play) {
     return true;
 }
 
-/* A full table: its first row leads from 1 to 199, its last one from 199 and 2 to 200, or from 199 to -200, and those between from 3 to 4. */
+/* A full table whose last row leads from 199 and 2 to 200, or from 199 to -200. */
 static bool full_table_agrees(Play *play) {
     static const int16_t ends[2][ROW_LITERALS] = {{-2, -199, 200}, {-199, -200}};
     static const int16_t candidates[] = {4, 1, 3, 2, 199};
     static const uint16_t sets[2][2] = {{10, 24}, {2, 16}};
     for (unsigned i = 0; i < 2; i++) {
         play_start(play, 21, true);
-        bool good = try_call(play, OPEN, 0, MOST_SYMBOLS, 0);
-        try_row(play, (int16_t[ROW_LITERALS]){-1, 199});
-        for (unsigned r = 1; r < MOST_ROWS - 1; r++) try_row(play, (int16_t[ROW_LITERALS]){-3, 4});
-        try_row(play, ends[i]);
-        good = good && play->board.rows == MOST_ROWS && lists_in_rooms(play, i == 0 ? MOST_SYMBOLS : -MOST_SYMBOLS, candidates, 5, sets[i], 2);
+        bool good = try_full_table(play, ends[i]) && lists_in_rooms(play, i == 0 ? MOST_SYMBOLS : -MOST_SYMBOLS, candidates, 5, sets[i], 2);
         if (!good) return try_wrong(play, "a full table", "last row", i + 1);
     }
     return true;

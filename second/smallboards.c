@@ -1,7 +1,7 @@
 /* All boards of few symbols: of 1 and 2 with every set of sound rows and every set of premises, of 3 with every set of up to four rows and nothing
  * held. Each is settled for each furnace, while the other one holds just the literals that this one does not, and every literal is asked by symbol
  * and of the whole board beside it. Over the same rows the smallest sets of all literals are listed: of 1 and 2 symbols for every literal, of 3 with
- * up to three rows for one of them, by turns.
+ * up to three rows for one of them, by turns. And where premises are held, the least of them to withdraw is told: of all, and of all but one.
  *
  * The highest rank of all has to be 2S - 1. None is 2S: that takes 2S rounds of one literal each and nothing held, but then the round that completes
  * the first conflict, or the one before it, gives two. */
@@ -18,7 +18,7 @@ enum { MOST_SOUND = 26, SIZES = 3 };
 typedef struct Size {
     unsigned symbols, most_rows, sets;
     unsigned sound, highest;
-    unsigned long boards, lists;
+    unsigned long boards, lists, told;
     int16_t row[MOST_SOUND][ROW_LITERALS];
 } Size;
 
@@ -47,6 +47,21 @@ static void set_premises(Play *play, unsigned furnace, unsigned set) {
     }
 }
 
+/* Tells the least to withdraw of so many candidates; false where the sides differ, or it is refused though no conflict stays. */
+static bool tells(Play *play, Size *size, unsigned furnace, const int16_t *candidates, unsigned count) {
+    Step step = try_least(furnace, candidates, count, size->told++ << 20);
+    return play_step(play, &step) && (play->last.refusal == 0 || play->last.refusal == 18);
+}
+
+/* Tells it of the furnace's premises, all of them and all but the first, which is another one each time. */
+static bool least_agrees(Play *play, Size *size, unsigned furnace, unsigned set) {
+    int16_t candidates[2 * SIZES];
+    unsigned places = 2 * size->symbols, first = (unsigned)(size->told / 2 % places), count = 0;
+    for (unsigned i = 0; i < places; i++)
+        if (set >> (first + i) % places & 1) candidates[count++] = (int16_t)literal_at((first + i) % places);
+    return tells(play, size, furnace, candidates, count) && (count == 0 || tells(play, size, furnace, candidates + 1, count - 1));
+}
+
 /* Settles the rows in use from a set of premises; false where the sides differ. Keeps the library's highest rank. */
 static bool board_agrees(Play *play, Size *size, unsigned furnace, unsigned set) {
     set_premises(play, furnace, set);
@@ -56,7 +71,7 @@ static bool board_agrees(Play *play, Size *size, unsigned furnace, unsigned set)
         uint16_t rank = play->theirs.ranks[GUARD + p];
         if (rank != NONE && rank > size->highest) size->highest = rank;
     }
-    return true;
+    return size->sets == 1 || least_agrees(play, size, furnace, set);
 }
 
 /* Lists the smallest sets of all literals, the first of which is another one each time, for the literal at a place; false where the sides differ. */
@@ -116,7 +131,7 @@ bool small_boards_agree(Play *play) {
 
 /* Prints the closing line of these boards. */
 void small_boards_close(void) {
-    printf("all boards of 1 and 2 symbols, and of 3 with up to %u rows: %lu boards for each furnace, highest ranks %u, %u, %u; %lu lists of sets\n",
-           sizes[2].most_rows, sizes[0].boards + sizes[1].boards + sizes[2].boards, sizes[0].highest, sizes[1].highest, sizes[2].highest,
-           sizes[0].lists + sizes[1].lists + sizes[2].lists);
+    printf("all boards of 1 and 2 symbols, and of 3 with up to %u rows: %lu boards for each furnace, highest ranks %u, %u, %u; %lu lists of sets; "
+           "the least to withdraw %lu times\n", sizes[2].most_rows, sizes[0].boards + sizes[1].boards + sizes[2].boards, sizes[0].highest,
+           sizes[1].highest, sizes[2].highest, sizes[0].lists + sizes[1].lists + sizes[2].lists, sizes[0].told + sizes[1].told);
 }

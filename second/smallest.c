@@ -65,9 +65,8 @@ bool repeats(const int16_t *candidates, size_t count) {
     return false;
 }
 
-/* The tests after 1: "2 for any literal given, 17 for more than 12 candidates or a repeated one". */
-static unsigned candidate_tests(unsigned symbols, const int16_t *candidates, size_t count, int literal) {
-    if (!is_literal(literal, symbols)) return 2;
+/* The tests of candidates, here and in Ticket 12: "2 for any literal given, 17 for more than 12 candidates or a repeated one". */
+unsigned candidate_tests(unsigned symbols, const int16_t *candidates, size_t count) {
     for (size_t i = 0; i < count; i++)
         if (!is_literal(candidates[i], symbols)) return 2;
     return count > MOST_CANDIDATES || repeats(candidates, count) ? 17 : 0;
@@ -78,7 +77,7 @@ Outcome model_smallest(const Board *board, const int16_t *table, size_t numbers,
                        size_t room) {
     uint16_t listed[ALL_SETS];
     if (!board_is_good(board, table, numbers)) return (Outcome){.refusal = 1};
-    unsigned refusal = candidate_tests(board->symbols, candidates, count, literal);
+    unsigned refusal = is_literal(literal, board->symbols) ? candidate_tests(board->symbols, candidates, count) : 2;
     if (refusal != 0) return (Outcome){.refusal = refusal};
     unsigned length = list_smallest(board, table, candidates, (unsigned)count, literal, listed);
     if (length > room) return (Outcome){.refusal = 13};

@@ -13,12 +13,30 @@ static void past_the_last_row(Tables *tables) {
 
 /* True if the call names a furnace. */
 bool names_furnace(Kind kind) {
-    return kind >= HOLD && kind <= BLAME;
+    return kind >= HOLD && kind <= LEAST;
 }
 
 /* True if the call is asked how a literal stands, by its symbol or of the whole board. */
 bool asks(Kind kind) {
     return kind == ASK || kind == ASK_WHOLE;
+}
+
+/* True if the call is given candidates. */
+bool gives_candidates(Kind kind) {
+    return kind == LEAST || kind == SMALLEST;
+}
+
+/* True if the call is given a literal, besides candidates or without any. */
+bool gives_literal(Kind kind) {
+    return kind == SMALLEST || (names_furnace(kind) && kind != SETTLE && kind != BLAME && kind != LEAST);
+}
+
+/* True if all that the call is given, its literal and its candidates, are literals of symbols 1 to S, and so have places. */
+bool gives_literals(const Step *step, unsigned symbols) {
+    bool good = symbols <= MOST_SYMBOLS && (!gives_literal(step->kind) || is_literal(step->value, symbols));
+    size_t count = gives_candidates(step->kind) ? step->bytes : 0;
+    for (size_t i = 0; i < count && good; i++) good = is_literal(step->candidates[i], symbols);
+    return good;
 }
 
 /* True if the call is given formula bytes. */
@@ -50,7 +68,7 @@ size_t formula_window(const Step *step) {
 
 /* Places of the candidates' table that a call may see. */
 size_t candidates_window(const Step *step) {
-    return step->kind == SMALLEST ? GUARD + step->standing : 0;
+    return gives_candidates(step->kind) ? GUARD + step->standing : 0;
 }
 
 /* Places of the sets' table that a call may see, and its guards. */
@@ -83,7 +101,7 @@ static void lend_bytes(const Step *step, bool given, const uint8_t *bytes, size_
 /* The candidates with what stands after them, and fresh noise where the sets are to be written, on both sides. */
 static void lend_candidates(const Step *step, Tables *ours, Tables *theirs) {
     size_t given = candidates_window(step) * sizeof ours->candidates[0], written = sets_window(step) * sizeof ours->sets[0];
-    if (step->kind == SMALLEST && step->standing > 0) memcpy(ours->candidates + GUARD, step->candidates, step->standing * sizeof ours->candidates[0]);
+    if (given > 0 && step->standing > 0) memcpy(ours->candidates + GUARD, step->candidates, step->standing * sizeof ours->candidates[0]);
     memcpy(theirs->candidates, ours->candidates, given);
     random_fill(step->noise, ours->sets, written);
     memcpy(theirs->sets, ours->sets, written);
@@ -114,6 +132,7 @@ static Outcome model_call(const Step *step, Board *board, Tables *tables) {
     case WRITE: return model_write(board, table, step->numbers, text, step->lent[0]);
     case SMALLEST:
         return model_smallest(board, table, step->numbers, tables->candidates + GUARD, step->bytes, step->value, tables->sets + GUARD, step->lent[0]);
+    case LEAST: return model_least(board, table, step->numbers, step->furnace, tables->candidates + GUARD, step->bytes);
     case HOLD: return model_hold(board, table, step->numbers, step->furnace, step->value);
     case WITHDRAW: return model_withdraw(board, table, step->numbers, step->furnace, step->value);
     case SETTLE:
@@ -170,6 +189,7 @@ static bool library_agrees(Play *play, const Step *step) {
     play->library_last = library_call(step, &play->library_board, &play->theirs);
     if (!answer_is_bounded(play, step, &play->library_last, play->given.symbols, &play->theirs)) return false;
     if (step->kind == SMALLEST && play->library_last.refusal == 0 && !list_carries(play, step)) return false;
+    if (step->kind == LEAST && !least_follows(play, step)) return false;
     if (!same_everywhere(play, step, &play->last, &play->library_last)) return false;
     if (step->kind == BLAME && play->last.refusal == 0 && !marks_are_enough(play, step)) return false;
     if ((step->kind == SETTLE || asks(step->kind)) && !answers_follow(play, step)) return false;
@@ -180,7 +200,7 @@ static bool library_agrees(Play *play, const Step *step) {
 /* Plays one step on both sides; false if they differ, with the difference in words. */
 bool play_step(Play *play, const Step *step) {
     play->demand_3 = play->booked = play->renumbered = false;
-    play->carried = play->grounds = play->own_grounds = play->asked = play->hidden = 0;
+    play->carried = play->grounds = play->own_grounds = play->asked = play->hidden = play->struck = play->left = play->told_again = 0;
     if (step->kind >= CALLS) {
         model_caller_acts(step, &play->board, &play->ours);
         caller_acts(step, &play->library_board, &play->theirs);

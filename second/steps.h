@@ -18,11 +18,13 @@ enum {
     PLACE_WORD = 24                            /* bytes for a place in words */
 };
 
-/* The sixteen calls, those that hand a board back first; then what the caller may do between them. READ and WRITE are of DIMACS text; TEXT_RULE,
+/* The seventeen calls, those that hand a board back first; then what the caller may do between them. READ and WRITE are of DIMACS text; TEXT_RULE,
  * TO_BYTES and TO_TEXT of formula text: a rule added from it, it read to bytes, and bytes written as it. ASK answers by symbol, ASK_WHOLE with the
- * old answer, conflict for every literal while the furnace is in conflict. SMALLEST lists sets of candidates. */
+ * old answer, conflict for every literal while the furnace is in conflict. LEAST tells the least of candidates to withdraw, SMALLEST lists sets of
+ * them. */
 typedef enum Kind {
-    OPEN, RULE, TEXT_RULE, READ, HOLD, WITHDRAW, SETTLE, ASK, ASK_WHOLE, EXPLAIN, GROUND, BLAME, SMALLEST, WRITE, TO_BYTES, TO_TEXT,
+    OPEN, RULE, TEXT_RULE, READ, HOLD, WITHDRAW, SETTLE, ASK, ASK_WHOLE, EXPLAIN, GROUND, BLAME, LEAST, SMALLEST, WRITE, TO_BYTES,
+    TO_TEXT,
     CALLS,
     SET_SYMBOLS = CALLS, /* the caller writes S = value into the board */
     SET_ROWS,            /* the caller writes rows in use = value */
@@ -91,6 +93,8 @@ typedef struct Play {
     Outcome last, library_last;
     bool demand_3, booked, renumbered; /* compared at the last step: demand 3, the book of rules, the call with other rule numbers */
     unsigned carried, grounds, own_grounds; /* sets of the last list held alone; grounds with one of them inside; those of the board's own premises */
+    unsigned struck, left;   /* candidates of the last set to withdraw that were withdrawn; those of it that were left in place, in conflict still */
+    unsigned told_again;     /* and calls for it made again in other ways */
     unsigned asked, hidden;  /* literals that both calls were asked for beside settle; those whose answer a conflict hides from the second call */
     char difference[240];    /* empty, or the first difference in words */
 } Play;
@@ -98,6 +102,9 @@ typedef struct Play {
 /* steps.c */
 bool names_furnace(Kind kind);
 bool asks(Kind kind);
+bool gives_candidates(Kind kind);
+bool gives_literal(Kind kind);
+bool gives_literals(const Step *step, unsigned symbols);
 bool gives_formula(Kind kind);
 bool gives_text(Kind kind);
 bool spells(Kind kind);
@@ -129,10 +136,18 @@ Settled library_settle(const tup_board *board, const int16_t *table, size_t numb
 bool number_is_known(Play *play, unsigned number);
 bool ranks_are_bounded(Play *play, const uint16_t *ranks, unsigned symbols);
 bool answer_is_bounded(Play *play, const Step *step, const Outcome *told, unsigned symbols, const Tables *tables);
+bool candidates_are_bounded(Play *play, const Step *step);
 
 /* listing.c */
 bool list_is_bounded(Play *play, const Step *step, unsigned count, const uint16_t *sets);
 bool list_carries(Play *play, const Step *step);
+
+/* withdrawal.c */
+bool least_is_bounded(Play *play, const Step *step, const Outcome *told);
+bool least_follows(Play *play, const Step *step);
+
+/* leastagain.c */
+bool least_told_again(Play *play, const Step *step);
 
 /* answers.c */
 bool answers_follow(Play *play, const Step *step);

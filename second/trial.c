@@ -19,7 +19,7 @@ void trial_start(const Play *play, Trial *trial) {
 /* A call for a furnace, over noise of its own, with ample tables for what it says of a furnace; all of the clause table is lent, or just the rows in
  * use. */
 Step trial_step(Trial *trial, Kind kind, unsigned furnace, int value) {
-    Step step = names_furnace(kind) ? try_step(kind, furnace, value) : try_lent(kind, furnace, value, FEW_BYTES);
+    Step step = names_furnace(kind) && !gives_candidates(kind) ? try_step(kind, furnace, value) : try_lent(kind, furnace, value, FEW_BYTES);
     step.noise = random_next(&trial->random);
     if (random_chance(&trial->random, 50)) step.numbers = WIDTH * trial->board.rows + random_below(&trial->random, WIDTH);
     return step;
@@ -37,7 +37,7 @@ static void freshen(Tables *tables, unsigned symbols, uint64_t noise) {
 
 /* Makes a call by the library; false where it says what no call may say. */
 bool trial_call(Play *play, Trial *trial, const Step *step) {
-    if (names_furnace(step->kind)) freshen(&play->theirs, trial->board.symbols, step->noise);
+    if (names_furnace(step->kind) && !gives_candidates(step->kind)) freshen(&play->theirs, trial->board.symbols, step->noise);
     else lend(play, step);
     trial->last = library_call(step, &trial->board, &play->theirs);
     return answer_is_bounded(play, step, &trial->last, trial->board.symbols, &play->theirs);

@@ -51,8 +51,18 @@ Step try_lent(Kind kind, unsigned furnace, int value, size_t places) {
     for (unsigned i = 0; i < 3; i++) step.lent[i] = places;
     step.formula = gives_formula(kind) ? formula : NULL;
     step.text = kind == READ ? clause : spells(kind) ? symbol : NULL;
-    step.candidates = kind == SMALLEST ? candidate : NULL;
-    step.bytes = step.standing = kind == READ ? sizeof clause - 1 : gives_formula(kind) ? sizeof formula : spells(kind) || kind == SMALLEST ? 1 : 0;
+    step.candidates = gives_candidates(kind) ? candidate : NULL;
+    step.bytes = spells(kind) || gives_candidates(kind) ? 1 : gives_formula(kind) ? sizeof formula : kind == READ ? sizeof clause - 1 : 0;
+    step.standing = step.bytes;
+    return step;
+}
+
+/* A call for the least to withdraw of so many candidates, with this noise: by it such calls are made again or not. */
+Step try_least(unsigned furnace, const int16_t *candidates, size_t count, uint64_t noise) {
+    Step step = try_step(LEAST, furnace, 0);
+    step.candidates = candidates;
+    step.bytes = step.standing = count;
+    step.noise = noise;
     return step;
 }
 
@@ -67,6 +77,32 @@ void try_row(Play *play, const int16_t row[ROW_LITERALS]) {
     Step step = {.kind = APPEND_ROW, .rules = 1};
     memcpy(step.row, row, sizeof step.row);
     play_step(play, &step);
+}
+
+/* Rows from each set of so many of the symbols 1 to 12 to a mark; or, with 0 for a mark, to none, so that they clash. Lists these sets by their
+ * numbers; returns how many there are. */
+unsigned try_any_of_12(Play *play, unsigned size, int mark, uint16_t *sets) {
+    unsigned count = 0;
+    for (unsigned set = 0; set < ALL_SETS; set++) {
+        int16_t row[ROW_LITERALS] = {0};
+        unsigned used = 0;
+        if (set_size(set) != size) continue;
+        for (unsigned i = 0; i < MOST_CANDIDATES; i++)
+            if (set >> i & 1) row[used++] = (int16_t)-(int)(i + 1);
+        row[used] = (int16_t)mark;
+        try_row(play, row);
+        sets[count++] = (uint16_t)set;
+    }
+    return count;
+}
+
+/* Opens a board of 200 symbols with a full table: its first row leads from 1 to 199, those between from 3 to 4, and the last one is given. */
+bool try_full_table(Play *play, const int16_t last[ROW_LITERALS]) {
+    bool good = try_call(play, OPEN, 0, MOST_SYMBOLS, 0);
+    try_row(play, (int16_t[ROW_LITERALS]){-1, 199});
+    for (unsigned r = 1; r < MOST_ROWS - 1; r++) try_row(play, (int16_t[ROW_LITERALS]){-3, 4});
+    try_row(play, last);
+    return good && play->board.rows == MOST_ROWS;
 }
 
 /* True if the row is in use, has these literals and zeros after them, and is from the rule of this number. */

@@ -4,8 +4,8 @@
 #include "steps.h"
 
 static const char *const words[KINDS] = {
-    "open", "rule", "add text", "read", "hold", "withdraw", "settle", "ask", "ask whole", "explain", "ground", "blame", "smallest", "write",
-    "to bytes", "to text", "set S", "set rows used", "set rules", "set a held byte", "set a number", "append a row"};
+    "open", "rule", "add text", "read", "hold", "withdraw", "settle", "ask", "ask whole", "explain", "ground", "blame", "least", "smallest",
+    "write", "to bytes", "to text", "set S", "set rows used", "set rules", "set a held byte", "set a number", "append a row"};
 
 /* The word for a kind of step. */
 const char *kind_word(Kind kind) {
@@ -64,9 +64,10 @@ void print_text(const uint8_t *text, size_t bytes) {
     printf("\"%s", bytes > 600 ? " and so on" : "");
 }
 
-/* Prints the literal to explain and the candidates, so many of them. */
+/* Prints the furnace or the literal to explain, and the candidates, so many of them. */
 static void print_candidates(const Step *step) {
-    printf("sets for %d of %zu candidates", step->value, step->bytes);
+    if (step->kind == LEAST) printf("for furnace %u of %zu candidates", step->furnace, step->bytes);
+    else printf("sets for %d of %zu candidates", step->value, step->bytes);
     for (size_t i = 0; i < step->bytes && i < 40; i++) printf(" %d", step->candidates[i]);
     if (step->bytes > 40) printf(" and so on, the last %d", step->candidates[step->bytes - 1]);
     if (step->standing > step->bytes) printf(" (numbers of the caller's go on after them)");
@@ -104,7 +105,7 @@ void print_step(const Step *step, size_t ordinal) {
     case READ: case TEXT_RULE: case TO_BYTES: printf("%s ", words[step->kind]), print_text(step->text, step->bytes), print_lent(step); break;
     case OPEN: printf("open %d", step->value); break;
     case WRITE: printf("write"), print_lent(step); break;
-    case SMALLEST: printf("%s ", words[step->kind]), print_candidates(step), print_lent(step); break;
+    case LEAST: case SMALLEST: printf("%s ", words[step->kind]), print_candidates(step), print_lent(step); break;
     case SETTLE: case BLAME: printf("%s for furnace %u", words[step->kind], step->furnace), print_lent(step); break;
     default: printf("%s %d for furnace %u", words[step->kind], step->value, step->furnace), print_lent(step);
     }
@@ -122,6 +123,7 @@ void print_outcome(const char *who, Kind kind, const Outcome *outcome) {
     else if (kind == SMALLEST) printf("%u sets listed", outcome->listed);
     else if (kind == EXPLAIN) printf("rank %u, row %u of %u literals, rule %u", outcome->rank, outcome->row, outcome->literals, outcome->rule);
     else printf("done");
+    if (kind == LEAST) printf(", set %u", outcome->set);
     if (kind == READ) printf(", %u clauses before the fault or the end", outcome->clauses);
     if ((gives_formula(kind) || spells(kind)) && outcome->place != NO_PLACE) printf(", at byte %zu", outcome->place);
     printf("\n");

@@ -13,7 +13,8 @@ make -s target/trend target/second
 room=$(mktemp -d)
 trap 'rm -rf "$room"' EXIT
 
-# the demo's text is stored; its picture is written and looked at for what both furnaces have to show, what a mark needs and what a conflict leaves
+# the demo's text is stored; its picture is written and looked at for what both furnaces have to show, what a mark needs, and what a conflict leaves
+# and asks for
 run_c target/trend "$room/trend.svg" >"$room/trend.txt"
 diff "$room/trend.txt" examples/trend.expected
 grep -q 'TC-3 struck off 03:10' "$room/trend.svg"
@@ -21,6 +22,7 @@ grep -q 'TC-3 of furnace 1 struck off: nothing moves here' "$room/trend.svg"
 grep -q 'trim gas needs one of' "$room/trend.svg"
 grep -q '00:42 to 00:51: 3 in conflict, 13 standing' "$room/trend.svg"
 grep -q 'stands on a reading to blame' "$room/trend.svg"
+grep -q 'least to withdraw: TC-3 high and damper shut' "$room/trend.svg"
 [ "$(grep -c 'class="on-blame"' "$room/trend.svg")" -eq 7 ] # under three marks of each furnace, and in the legend
 echo "demo: it printed what examples/trend.expected has, and drew the shift"
 

@@ -19,8 +19,8 @@ diff <(sed -n '/| .\/run spell$/,/^[^ ]/p' README.md | sed -e 1d -e '$d' -e 's/^
 
 # the lines of the demo
 lines=$(sed -n 's/^    \([0-9][0-9]:[0-9][0-9] .*\)/\1/p' README.md)
-[ "$(wc -l <<<"$lines")" -eq 5 ] && ! grep -vxFf examples/trend.expected <<<"$lines" || {
-    echo "README.md: examples/trend.expected does not have its five lines of the demo"
+[ "$(wc -l <<<"$lines")" -eq 7 ] && ! grep -vxFf examples/trend.expected <<<"$lines" || {
+    echo "README.md: examples/trend.expected does not have its seven lines of the demo"
     exit 1
 }
 

@@ -26,7 +26,7 @@ use Rattle.board.specs.declared.Outcome.{Outcome}
 use Rattle.board.specs.declared.Outcome.the-variants.{Done, Refused}
 use Rattle.board.proofs.Goodness.{Good, good-is}
 use Rattle.board.proofs.Answered.{none-given}
-use Rattle.board.proofs.Arguments.{place-fits}
+use Rattle.literals.proofs.Arguments.{place-fits}
 use Rattle.board.proofs.Ranked.{hidden}
 
 module _ (table : List ℤ) (b : Board) (furnace : ℕ) (l : ℤ) where

@@ -19,7 +19,7 @@ use Rattle.board.specs.Furnaces.{heldBy, withHeld}
 use Rattle.board.specs.Faults.{premisesFit, goodBoard}
 use Rattle.board.specs.Changes.{emptyBoard, withFlag}
 use Rattle.board.specs.declared.Board.{Board}
-use Rattle.board.proofs.Arguments.{place-fits}
+use Rattle.literals.proofs.Arguments.{place-fits}
 
 -- ---- the scan for a premise beyond the symbols
 
@@ -96,26 +96,37 @@ good-is table b e =
       fit = rest .1;
     }
 
--- ---- a board with a premise more or less
+-- ---- a board with other premises for a furnace, the same beyond the symbols
 
--- a set of premises, be it the one that a flag is put into or not, has the same flags beyond
-same-beyond : (held : List Bool) (n p : ℕ) (flag : Bool) → p < n → (its : Bool) (premises : List Bool) → (its ≡ true → held ≡ premises)
-    → flagFrom (cond its (set held p flag) premises) n ≡ flagFrom premises n
-same-beyond held n p flag h true premises is = ap (any (λ h. h)) (drop-set-lt n held p flag h ∙ ap (drop n) (is refl))
-same-beyond held n p flag h false premises is = refl
+-- a set of premises, be it the one that is changed or not, has the same flags beyond
+same-beyond : (held now : List Bool) (n : ℕ) → drop n now ≡ drop n held → (its : Bool) (premises : List Bool) → (its ≡ true → held ≡ premises)
+    → flagFrom (cond its now premises) n ≡ flagFrom premises n
+same-beyond held now n e true premises is = ap (any (λ h. h)) (e ∙ ap (drop n) (is refl))
+same-beyond held now n e false premises is = refl
 
-module _ (b : Board) (furnace : ℕ) (l : ℤ) (flag : Bool) (e : inRange (b .symbols) l ≡ true) where
-  pub flag-fits : premisesFit (withFlag b furnace l flag) ≡ premisesFit b
+module _ (b : Board) (furnace : ℕ) (now : List Bool) (e : drop (2 * b .symbols) now ≡ drop (2 * b .symbols) (heldBy b furnace)) where
+  held-fits : premisesFit (withHeld b furnace now) ≡ premisesFit b
   unfolding premisesFit heldBy withHeld
-  flag-fits =
-      let same = same-beyond (heldBy b furnace) (2 * b .symbols) (placeOf l) flag (place-fits (b .symbols) l e) in
+  held-fits =
+      let same = same-beyond (heldBy b furnace) now (2 * b .symbols) e in
       ap₂ (λ (one two : Bool). not one && not two)
       (same (eqb furnace 1) (b .first) (λ is. rw (eqb-true furnace 1 is)))
       (same (eqb furnace 2) (b .second) (λ is. rw (eqb-true furnace 2 is)))
 
-  pub flag-good : (table : List ℤ) → goodBoard table (withFlag b furnace l flag) ≡ goodBoard table b
+  pub held-good : (table : List ℤ) → goodBoard table (withHeld b furnace now) ≡ goodBoard table b
   unfolding goodBoard withHeld
-  flag-good table = rw flag-fits
+  held-good table = rw held-fits
+
+-- with a premise more or less
+module _ (b : Board) (furnace : ℕ) (l : ℤ) (flag : Bool) (e : inRange (b .symbols) l ≡ true) where
+  flag-beyond : drop (2 * b .symbols) (set (heldBy b furnace) (placeOf l) flag) ≡ drop (2 * b .symbols) (heldBy b furnace)
+  flag-beyond = drop-set-lt (2 * b .symbols) (heldBy b furnace) (placeOf l) flag (place-fits (b .symbols) l e)
+
+  pub flag-fits : premisesFit (withFlag b furnace l flag) ≡ premisesFit b
+  flag-fits = held-fits b furnace (set (heldBy b furnace) (placeOf l) flag) flag-beyond
+
+  pub flag-good : (table : List ℤ) → goodBoard table (withFlag b furnace l flag) ≡ goodBoard table b
+  flag-good = held-good b furnace (set (heldBy b furnace) (placeOf l) flag) flag-beyond
 
 -- ---- a board just opened
 

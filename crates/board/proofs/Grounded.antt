@@ -1,13 +1,14 @@
 -- What ground and blame answer and write, where they are refused and where they are done.
 use mathlib.Core.Path.{_≡_, refl, sym, _∙_}
-use mathlib.Core.Bool.{Bool, false, _||_, or-self}
+use mathlib.Core.Bool.{Bool, true, false, _||_, or-self}
 use mathlib.Core.List.{List, _++_, map}
 use Prim.Native.Nat.{ℕ, suc, _+_, _-_, _*_, _≤_, _<_}
 use native.Mathlib.Omega.{arith}
 use borrow.Author.Tests.{lt-ltb, le-ltb}
 use lib.IntN.{ℤ}
-use lib.ListN.{length, drop, length-map}
+use lib.ListN.{length, drop, getD, length-map, List·getD-append, List·getD-map}
 use Rattle.meaning.specs.Tests.{none, first}
+use Rattle.meaning.specs.Literals.{has}
 use Rattle.meaning.specs.Rounds.{ranksOf}
 use Rattle.meaning.specs.Ground.{reaches, ground, blame}
 use Rattle.meaning.proofs.Tables.{tabulate-same}
@@ -21,6 +22,17 @@ use Rattle.board.specs.Ranking.{rowsOn}
 use Rattle.board.specs.Grounds.{byteOf, groundOutcome, groundMarks, blameOutcome, blameMarks}
 use Rattle.board.specs.declared.Board.{Board}
 use Rattle.board.specs.declared.Outcome.the-variants.{Done, Refused}
+
+-- ---- marks as bytes
+
+-- those written over the front of a table: each is its literal's
+pub mark-at : (set : List Bool) (rest : List ℕ) (p : ℕ) → p < length set → getD (map byteOf set ++ rest) p 0 ≡ byteOf (has set p)
+mark-at set rest p h =
+    List·getD-append (map byteOf set) rest 0 p (omega (arith, length-map set byteOf)) ∙ List·getD-map byteOf set p false
+
+pub byte-one : (b : Bool) → byteOf b ≡ 1 → b ≡ true
+byte-one true e = refl
+byte-one false e = absurd (omega arith)
 
 -- ---- what is reached
 

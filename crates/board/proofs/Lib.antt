@@ -1,7 +1,6 @@
 -- Laws of the board's tests, and of what its ranks tell.
 pub mod TwoSets
 pub mod Goodness
-pub mod Arguments
 pub mod Placing
 pub mod Ranked
 pub mod Copying

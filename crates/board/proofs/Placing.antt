@@ -20,7 +20,7 @@ use Rattle.board.specs.declared.Outcome.the-variants.{Refused}
 use Rattle.board.specs.declared.testing.Placed.{Placed}
 use Rattle.board.specs.declared.testing.Placed.the-variants as placing
 use Rattle.board.proofs.Goodness.{Good, good-is}
-use Rattle.board.proofs.Arguments.{place-fits}
+use Rattle.literals.proofs.Arguments.{place-fits}
 
 -- the three tests have passed, and p is the literal's place
 pub record PlacedAt (table : List ℤ) (b : Board) (furnace : ℕ) (l : ℤ) (p : ℕ) : Type 0 where

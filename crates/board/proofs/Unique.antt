@@ -48,5 +48,8 @@ one-settle κs a x y = (cc, refl & refl & refl & (cc) & (cc) & (cc) & refl)
 one-good : One board.testing.good.ended board.testing.good.Reads.Post
 one-good κs a x y = (cc, refl)
 
+one-is-furnace : One board.testing.is_furnace.ended board.testing.is_furnace.Reads.Post
+one-is-furnace κs a x y = (cc, refl)
+
 one-place-on : One board.testing.place_on.ended board.testing.place_on.Reads.Post
 one-place-on κs a x y = (cc, refl)

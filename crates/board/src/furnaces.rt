@@ -3,18 +3,8 @@
 ghost use mathlib.Core.Path.{_≡_};
 ghost use Prim.Native.Nat.{_<_};
 ghost use lib.ListN.{set};
-ghost use Rattle.board.specs.Furnaces.{isFurnace, setOf, heldBy, withHeld};
+ghost use Rattle.board.specs.Furnaces.{setOf, heldBy, withHeld};
 use crate::Board;
-
-// Whether there is a furnace of this number.
-pub fn is_furnace(furnace: u8) -> bool
-    ensures { λ r. ⌜ r ≡ isFurnace furnace ⌝ }
-{
-    if furnace == 1 {
-        return true;
-    }
-    furnace == 2
-}
 
 // The premises of a furnace: of both sets that are lent its own, and for another number none.
 pub fn premises<'a>(first: &'a [bool], second: &'a [bool], furnace: u8) -> &'a [bool]

@@ -4,9 +4,9 @@ ghost use mathlib.Core.Path.{_≡_};
 ghost use Rattle.board.specs.Settling.{settleOutcome, settledLabels, settledRanks, settledSupports, RanksBounded};
 use crate::Board;
 use crate::Outcome;
-use crate::furnaces::is_furnace;
 use crate::furnaces::premises;
 use crate::testing::good;
+use crate::testing::is_furnace;
 use literals::refusal::Refusal;
 
 // Writes the labels, ranks and supports of a furnace, straight into the lent tables, since every test comes before. Each rank written is at most 2S

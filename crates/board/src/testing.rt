@@ -3,10 +3,10 @@
 ghost use mathlib.Core.Path.{_≡_};
 ghost use lib.ListN.{drop};
 ghost use Rattle.meaning.specs.Tests.{any};
+ghost use Rattle.board.specs.Furnaces.{isFurnace};
 ghost use Rattle.board.specs.Faults.{goodBoard};
 ghost use Rattle.board.specs.Placing.{placed};
 use crate::Board;
-use crate::furnaces::is_furnace;
 use literals::refusal::Refusal;
 
 // The place of a literal that a call is given, or why the call is refused.
@@ -52,6 +52,16 @@ pub fn good(board: Board, table: &[i16]) -> bool
         return false;
     }
     !held_beyond(&board.second, 2 * board.symbols)
+}
+
+// Whether there is a furnace of this number.
+pub fn is_furnace(furnace: u8) -> bool
+    ensures { λ r. ⌜ r ≡ isFurnace furnace ⌝ }
+{
+    if furnace == 1 {
+        return true;
+    }
+    furnace == 2
 }
 
 // The place of a literal of a good board, for a furnace.

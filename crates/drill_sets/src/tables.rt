@@ -35,7 +35,7 @@ pub fn pairs(candidates: &[i16], l: i16, room: usize)
 }
 
 // The table with another row r.
-fn with_row(table: [i16; 45], r: usize, row: [i16; 9]) -> [i16; 45]
+pub fn with_row(table: [i16; 45], r: usize, row: [i16; 9]) -> [i16; 45]
     requires { ⌜ r ≤ 4 ⌝ }
 {
     let mut t = table;

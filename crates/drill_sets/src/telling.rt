@@ -1,9 +1,10 @@
-// The call of `smallest`, with what it answers printed.
+// The calls of `smallest` and `least`, with what they answer printed.
 
 ghost use Prim.Native.Nat.{_≤_};
 ghost use lib.ListN.{length};
 use board::Board;
 use board::Outcome;
+use least::Withdrawal;
 use report::comparing::WORD;
 use report::comparing::written_words;
 use report::printing;
@@ -55,5 +56,35 @@ pub fn show(b: Board, table: [i16; 45], lent: usize, candidates: &[i16], l: i16,
     printing::on(b, lent);
     printing::rows(part, 0, b.rows);
     list(b, part, candidates, l, room);
+    printing::end();
+}
+
+// What the least came to: refused or not, and the set.
+fn least_is(told: Withdrawal) {
+    let outcome = told.outcome;
+    match outcome {
+        Outcome::Refused(why) => printing::refused(why),
+        Outcome::Done => (),
+    }
+    counted(b" set", told.set as usize);
+}
+
+// The least of candidates to withdraw from a furnace.
+fn find_least(b: Board, table: &[i16], furnace: u8, candidates: &[i16]) {
+    let told = least::call::least(b, table, furnace, candidates);
+    text(b"; least of");
+    printing::numbers(candidates);
+    counted(b" for", furnace as usize);
+    least_is(told);
+}
+
+// A line: the board, its rows in use as far as they are lent, and that.
+pub fn show_least(b: Board, table: [i16; 45], lent: usize, furnace: u8, candidates: &[i16])
+    requires { ⌜ lent ≤ 45 ⌝ }
+{
+    let part = &table[..lent];
+    printing::on(b, lent);
+    printing::rows(part, 0, b.rows);
+    find_least(b, part, furnace, candidates);
     printing::end();
 }

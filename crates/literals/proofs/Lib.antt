@@ -1,6 +1,7 @@
 -- Facts that several proofs of the crate cite, and laws of its definitions.
 pub mod Signed
 pub mod Places
+pub mod Arguments
 pub mod Opposites
 pub mod Rows
 pub mod RuleNumbers

@@ -25,6 +25,7 @@ pub mod Growth
 pub mod Unmoved
 pub mod Sets
 pub mod Smallest
+pub mod Least
 mod Reason
 mod LeavingOff
 pub mod TwoWays

@@ -1,21 +1,25 @@
--- Laws of sets of candidates as numbers: one inside another, the candidates of a set, and a set with one candidate fewer.
+-- Laws of sets of candidates as numbers: one inside another, the candidates of a set, a set with one candidate fewer, and the order of all.
 use mathlib.Core.Path.{_≡_, refl, sym, ap, _∙_}
 use mathlib.Core.Logic.{_≢_, _⊎_, inl, inr, ⊎-elim}
 use mathlib.Core.Bool.{Bool, true, false, cond, false≢true}
-use mathlib.Core.List.{List, [], _∷_}
+use mathlib.Core.List.{List, [], _∷_, map}
 use mathlib.Core.List.{List·Memᴰ as In, List·Memᴰ·head as here, List·Memᴰ·tail as there, List·Memᴰ·cases-cons as in-cons}
 use mathlib.Core.List.{List·Memᴰ·not-nil as in-nil}
-use Prim.Native.Nat.{ℕ, zero, suc, _-_, _/_, _%_, _^_, _≤_, _<_, zero-le}
+use Prim.Native.Nat.{ℕ, zero, suc, _+_, _-_, _*_, _/_, _%_, _^_, _≤_, _<_, zero-le}
 use native.Mathlib.Nat.{pow-suc, one-le-pow}
 use native.Mathlib.Omega.{arith}
+use lib.Bits.{bitAnd, and-step}
 use lib.Dec.{eqb, leb}
 use lib.Pow.{shr-shr}
 use lib.ListN.{length, getD}
-use borrow.Author.Tests.{eqb-true, eqb-false, eq-eqb, leb-true, le-leb}
-use Rattle.meaning.specs.Sets.{bit, chosen, size, inside}
+use borrow.Author.Tests.{eqb-true, eqb-false, eq-eqb, ne-eqb, leb-true, le-leb}
+use Rattle.meaning.specs.Tests.{keep, none}
+use Rattle.meaning.specs.BySize.{BySize, EachBefore}
+use Rattle.meaning.specs.Sets.{odd, bit, chosen, size, inside, setsOf, setsBySize, passing}
 use Rattle.meaning.specs.Promises.{Inside, InsideSmaller, ChosenAre, InsideIs, SizeIs}
-use Rattle.meaning.proofs.Tests.{true-or-false, both-true, and-intro}
-use Rattle.meaning.proofs.Tables.{le-or-lt}
+use Rattle.meaning.proofs.Tests.{true-or-false, both-true, and-intro, false-of, from-in, in-from}
+use Rattle.meaning.proofs.Tables.{le-or-lt, Ahead, SmallestIs}
+use Rattle.meaning.proofs.BySize.{belowSize-of, belowSize-in, belowSize-each, from-rises}
 
 -- ---- halves
 
@@ -124,6 +128,24 @@ size-is (c ∷ cands) m = go (true-or-false (eqb (m % 2) 1)) (size-is cands (m /
     go (inl e) ih = rw e (let o = eqb-true (m % 2) 1 e in omega arith)
     go (inr e) ih = rw e (let o : m % 2 ≢ 1 = eqb-false (m % 2) 1 e in omega arith)
 
+pub chosen-in : {A : Type 0} (cands : List A) (m : ℕ) {c : A} → In c (chosen cands m) → In c cands
+chosen-in [] m h = h
+chosen-in (d ∷ cands) m {c} h = go (odd m) h (chosen-in cands (m / 2))
+  where
+    go : (b : Bool) → In c (cond b (d ∷ chosen cands (m / 2)) (chosen cands (m / 2))) → (In c (chosen cands (m / 2)) → In c cands) → In c (d ∷ cands)
+    go true h ih = ⊎-elim (λ e. here e) (λ i. there (ih i)) (in-cons h)
+    go false h ih = there (ih h)
+
+-- whatever the candidates are told by
+pub chosen-map : {A B : Type 0} (f : A → B) (cands : List A) (m : ℕ) → chosen (map f cands) m ≡ map f (chosen cands m)
+chosen-map f [] m = refl
+chosen-map f (c ∷ cands) m = go (odd m) (chosen-map f cands (m / 2))
+  where
+    go : (b : Bool) → chosen (map f cands) (m / 2) ≡ map f (chosen cands (m / 2))
+        → cond b (f c ∷ chosen (map f cands) (m / 2)) (chosen (map f cands) (m / 2)) ≡ map f (cond b (c ∷ chosen cands (m / 2)) (chosen cands (m / 2)))
+    go true e = ap (λ (xs : List _). f c ∷ xs) e
+    go false e = e
+
 -- a set inside another has no other candidates
 pub chosen-inside : (cands : List ℕ) (a b : ℕ) → Inside a b → {c : ℕ} → In c (chosen cands a) → In c (chosen cands b)
 chosen-inside cands a b w {c} m =
@@ -207,6 +229,104 @@ bit-is (suc i) m =
     let e : m / 2 / 2 ^ i ≡ m / 2 ^ suc i = shr-shr m 1 i ∙ ap (λ (k : ℕ). m / 2 ^ k) (omega arith) in
     bit-is i (m / 2) ∙ ap (λ (k : ℕ). eqb (k % 2) 1) e
 
+pub size-none : (n : ℕ) → size n 0 ≡ 0
+size-none zero = refl
+size-none (suc n) = omega (arith, size-none n)
+
 pub size-le : (n m : ℕ) → size n m ≤ n
 size-le zero m = zero-le
 size-le (suc n) m = omega (arith, size-le n (m / 2))
+
+-- no candidate is in both
+abbrev pub Apart : ℕ → ℕ → Type 0
+Apart a b = (i : ℕ) → bit i a ≡ true → bit i b ≡ true → ⊥
+
+pub and-apart : (a b : ℕ) → bitAnd a b ≡ 0 → Apart a b
+and-apart a b e zero p q =
+    let s = and-step a b in
+    omega (arith, eqb-true (a % 2) 1 p, eqb-true (b % 2) 1 q)
+and-apart a b e (suc i) p q =
+    let s = and-step a b in
+    let half : bitAnd (a / 2) (b / 2) ≡ 0 = omega arith in
+    and-apart (a / 2) (b / 2) half i p q
+
+-- ---- the candidates that pass a test
+
+pub passing-below : (test : ℕ → Bool) (cands : List ℕ) → passing test cands < 2 ^ length cands
+passing-below test [] = omega arith
+passing-below test (c ∷ cands) = go (test c) (passing-below test cands)
+  where
+    go : (b : Bool) → passing test cands < 2 ^ length cands → cond b 1 0 + 2 * passing test cands < 2 ^ suc (length cands)
+    go true h = let e = pow-suc 2 (length cands) in omega arith
+    go false h = let e = pow-suc 2 (length cands) in omega arith
+
+pub passing-chosen : (test : ℕ → Bool) (cands : List ℕ) → chosen cands (passing test cands) ≡ keep test cands
+passing-chosen test [] = refl
+passing-chosen test (c ∷ cands) = go (test c) (passing-chosen test cands)
+  where
+    x : ℕ
+    x = passing test cands
+
+    go : (b : Bool) → chosen cands x ≡ keep test cands
+        → chosen (c ∷ cands) (cond b 1 0 + 2 * x) ≡ cond b (c ∷ keep test cands) (keep test cands)
+    go true ih =
+        let h : (1 + 2 * x) / 2 ≡ x = omega arith in
+        let r : (1 + 2 * x) % 2 ≡ 1 = omega arith in
+        rw (h, r, ih)
+    go false ih =
+        let h : (0 + 2 * x) / 2 ≡ x = omega arith in
+        let r : (0 + 2 * x) % 2 ≡ 0 = omega arith in
+        rw (h, r, ih)
+
+pub passing-same : (f g : ℕ → Bool) (cands : List ℕ) → ((c : ℕ) → In c cands → f c ≡ g c) → passing f cands ≡ passing g cands
+passing-same f g [] e = refl
+passing-same f g (c ∷ cands) e = rw (e c (here refl), passing-same f g cands (λ d m. e d (there m)))
+
+-- all pass: the highest number
+pub passing-all : (cands : List ℕ) → suc (passing (λ c. true) cands) ≡ 2 ^ length cands
+passing-all [] = refl
+passing-all (c ∷ cands) = let e = pow-suc 2 (length cands) in omega (arith, passing-all cands)
+
+pub passing-bit : (test : ℕ → Bool) (cands : List ℕ) (i : ℕ) → i < length cands → bit i (passing test cands) ≡ test (getD cands i 0)
+passing-bit test [] i l = absurd (omega arith)
+passing-bit test (c ∷ cands) zero l = go (test c)
+  where
+    go : (b : Bool) → bit 0 (cond b 1 0 + 2 * passing test cands) ≡ b
+    go true = eq-eqb ((1 + 2 * passing test cands) % 2) 1 (omega arith)
+    go false = ne-eqb ((0 + 2 * passing test cands) % 2) 1 (λ e. omega arith)
+passing-bit test (c ∷ cands) (suc i) l = ap (bit i) (go (test c)) ∙ passing-bit test cands i (omega arith)
+  where
+    go : (b : Bool) → (cond b 1 0 + 2 * passing test cands) / 2 ≡ passing test cands
+    go true = omega arith
+    go false = omega arith
+
+-- ---- those that pass a test, by size, then by number
+
+module _ (n : ℕ) (test : ℕ → Bool) where
+  pub by-size-of : (m : ℕ) → In m (setsBySize n test) → (m < 2 ^ n) × (test m ≡ true)
+  by-size-of m h =
+      let r = belowSize-of (size n) test (setsOf n) m (suc n) h in
+      let b = from-in 0 (2 ^ n) m (r .0) in
+      (omega arith, r .1)
+
+  pub by-size-in : (m : ℕ) → m < 2 ^ n → test m ≡ true → In m (setsBySize n test)
+  by-size-in m l e =
+      belowSize-in (size n) test (setsOf n) m (suc n) (in-from 0 (2 ^ n) m zero-le (omega arith)) e (omega (arith, size-le n m))
+
+  pub by-size-each : EachBefore (BySize (size n) (λ a b. a < b)) (setsBySize n test)
+  by-size-each = belowSize-each (size n) test (setsOf n) (λ a b. a < b) (from-rises 0 (2 ^ n)) (suc n)
+
+  -- the first of them is the smallest, and of equal size the lowest
+  pub first-set : SmallestIs test (size n) (2 ^ n) (getD (setsBySize n test) 0 none)
+  first-set = go (setsBySize n test) by-size-each by-size-of by-size-in
+    where
+      go : (l : List ℕ) → EachBefore (BySize (size n) (λ a b. a < b)) l → ((m : ℕ) → In m l → (m < 2 ^ n) × (test m ≡ true))
+          → ((m : ℕ) → m < 2 ^ n → test m ≡ true → In m l) → SmallestIs test (size n) (2 ^ n) (getD l 0 none)
+      go [] o of in-it = inr (refl, λ i h. false-of (test i) (λ e. in-nil (in-it i h e)))
+      go (m ∷ l) o of in-it =
+          let own = of m (here refl) in
+          inl (own .0, own .1, λ i h e. ⊎-elim (λ q. rw q (omega arith, λ s. omega arith)) (λ j. ahead (o .0 i j)) (in-cons (in-it i h e)))
+        where
+          ahead : {i : ℕ} → BySize (size n) (λ a b. a < b) m i → Ahead (size n) m i
+          ahead (inl less) = (omega arith, λ s. omega arith)
+          ahead (inr same) = (omega (arith, same .0), λ s. omega (arith, same .1))

@@ -1,32 +1,31 @@
 -- 02, Ticket 10: which sets the list of smallest sets has, in what order, and that to know of the sets with one candidate fewer is enough.
-use mathlib.Core.Path.{_≡_, refl, sym, _∙_}
-use mathlib.Core.Logic.{_≢_, _↔_, _⊎_, ⊎-elim}
-use mathlib.Core.Bool.{Bool, true, false, cond, not, _&&_}
+use mathlib.Core.Path.{_≡_, sym, _∙_}
+use mathlib.Core.Logic.{_≢_, _↔_, ⊎-elim}
+use mathlib.Core.Bool.{Bool, true, false, not, _&&_}
 use mathlib.Core.List.{List, [], _∷_}
 use mathlib.Core.List.{List·Memᴰ as In}
-use Prim.Native.Nat.{ℕ, zero, suc, _+_, _-_, _*_, _/_, _%_, _^_, _<_, zero-le}
-use native.Mathlib.Nat.{pow-suc}
+use Prim.Native.Nat.{ℕ, zero, suc, _-_, _^_, _<_, zero-le}
 use native.Mathlib.Omega.{arith}
 use lib.Dec.{eqb}
 use lib.ListN.{length}
 use borrow.Author.Tests.{eqb-false, ne-eqb, not-true}
-use Rattle.meaning.specs.Tests.{any, keep, member, from, tabulate}
+use Rattle.meaning.specs.Tests.{any, member, from, tabulate}
 use Rattle.meaning.specs.Literals.{opp, has, Within, conflict}
 use Rattle.meaning.specs.Rounds.{derived}
 use Rattle.meaning.specs.Ground.{ground}
-use Rattle.meaning.specs.Sets.{bit, chosen, size, inside, setsOf}
+use Rattle.meaning.specs.Sets.{bit, chosen, size, inside, setsOf, passing}
 use Rattle.meaning.specs.Smallest.{alone, byAlone, derives, clashes, smallerDerives, carries, smallest}
 use Rattle.meaning.specs.Promises.{Derived, Conflict, Inside, Carries, AloneIs, SmallestAre, SmallestInOrder, SmallestBound, OneInside, OneInGround}
 use Rattle.meaning.proofs.Tests.{true-or-false, both-true, and-intro, not-intro, false-of, clash, same-test}
 use Rattle.meaning.proofs.Tests.{any-found, any-at, in-keep, keep-in, member-in, in-member, from-in, in-from}
 use Rattle.meaning.proofs.Tables.{length-tabulate, getD-tabulate}
-use Rattle.meaning.proofs.BySize.{belowSize-of, belowSize-in, belowSize-each, all-count, keep-le, from-rises, length-from}
+use Rattle.meaning.proofs.BySize.{all-count, keep-le, length-from}
 use Rattle.meaning.proofs.Literals.{has-below, conflict-at, conflict-found}
 use Rattle.meaning.proofs.Derived.{derived-is}
 use Rattle.meaning.proofs.Growth.{known-before, no-conflict-more}
 use Rattle.meaning.proofs.Unmoved.{derived-below, ground-below, ground-held, ground-enough}
 use Rattle.meaning.proofs.Sets.{inside-words, inside-of, inside-below, inside-smaller, chosen-inside, fewer-inside, fewer-differs, leaves-out}
-use Rattle.meaning.proofs.Sets.{size-le, bit-below}
+use Rattle.meaning.proofs.Sets.{size-le, bit-below, passing-below, passing-chosen, by-size-of, by-size-in, by-size-each}
 
 -- ---- held alone
 
@@ -49,7 +48,7 @@ alone-within places cands a b w p e =
     let r = alone-is places cands a p .0 e in alone-is places cands b p .1 (r .0, chosen-inside cands a b w (r .1))
 
 -- conflict as computed is conflict in words
-conflict-words : (places : ℕ) (rows : List (List ℕ)) (held : List Bool)
+pub conflict-words : (places : ℕ) (rows : List (List ℕ)) (held : List Bool)
     → (conflict (derived places rows held) ≡ true) ↔ Conflict (Derived places rows held)
 conflict-words places rows held = (
   λ e. let r = conflict-found (derived places rows held) e in
@@ -148,16 +147,11 @@ module _ (places : ℕ) (rows : List (List ℕ)) (cands : List ℕ) (p : ℕ) wh
 
   in-smallest : (m : ℕ) → m < 2 ^ n → carries places rows cands p m ≡ true → In m (smallest places rows cands p)
   unfolding smallest
-  in-smallest m l e =
-      belowSize-in (size n) (carries places rows cands p) (setsOf n) m (suc n) (in-from 0 (2 ^ n) m zero-le (omega arith)) e
-      (omega (arith, size-le n m))
+  in-smallest m l e = by-size-in n (carries places rows cands p) m l e
 
   smallest-in : (m : ℕ) → In m (smallest places rows cands p) → (m < 2 ^ n) × (carries places rows cands p m ≡ true)
   unfolding smallest
-  smallest-in m h =
-      let r = belowSize-of (size n) (carries places rows cands p) (setsOf n) m (suc n) h in
-      let b = from-in 0 (2 ^ n) m (r .0) in
-      (omega arith, r .1)
+  smallest-in m h = by-size-of n (carries places rows cands p) m h
 
   -- ---- a listed set inside any that derives the literal without conflict
 
@@ -212,9 +206,7 @@ smallest-are places rows cands p m = (to, back)
 
 pub smallest-in-order : SmallestInOrder
 unfolding smallest
-smallest-in-order places rows cands p =
-    let n = length cands in
-    belowSize-each (size n) (carries places rows cands p) (setsOf n) (λ a b. a < b) (from-rises 0 (2 ^ n)) (suc n)
+smallest-in-order places rows cands p = by-size-each (length cands) (carries places rows cands p)
 
 pub smallest-bound : SmallestBound
 unfolding smallest
@@ -239,37 +231,6 @@ one-inside places rows cands p m l d q =
     )
 
 -- ---- inside the ground
-
--- the set of those candidates that pass a test
-abbrev passing : (ℕ → Bool) → List ℕ → ℕ
-passing test [] = 0
-passing test (c ∷ cands) = cond (test c) 1 0 + 2 * passing test cands
-
-passing-below : (test : ℕ → Bool) (cands : List ℕ) → passing test cands < 2 ^ length cands
-passing-below test [] = omega arith
-passing-below test (c ∷ cands) = go (test c) (passing-below test cands)
-  where
-    go : (b : Bool) → passing test cands < 2 ^ length cands → cond b 1 0 + 2 * passing test cands < 2 ^ suc (length cands)
-    go true h = let e = pow-suc 2 (length cands) in omega arith
-    go false h = let e = pow-suc 2 (length cands) in omega arith
-
-passing-chosen : (test : ℕ → Bool) (cands : List ℕ) → chosen cands (passing test cands) ≡ keep test cands
-passing-chosen test [] = refl
-passing-chosen test (c ∷ cands) = go (test c) (passing-chosen test cands)
-  where
-    x : ℕ
-    x = passing test cands
-
-    go : (b : Bool) → chosen cands x ≡ keep test cands
-        → chosen (c ∷ cands) (cond b 1 0 + 2 * x) ≡ cond b (c ∷ keep test cands) (keep test cands)
-    go true ih =
-        let h : (1 + 2 * x) / 2 ≡ x = omega arith in
-        let r : (1 + 2 * x) % 2 ≡ 1 = omega arith in
-        rw (h, r, ih)
-    go false ih =
-        let h : (0 + 2 * x) / 2 ≡ x = omega arith in
-        let r : (0 + 2 * x) % 2 ≡ 0 = omega arith in
-        rw (h, r, ih)
 
 pub one-in-ground : OneInGround
 unfolding derives clashes

@@ -145,6 +145,17 @@ module _ (test : ℕ → Bool) (value : ℕ → ℕ) where
       let before = firstSmallest test value n in
       smallest-more n before small (first-smallest-is n (omega arith)) (test n) refl (ltb (value n) (value before)) refl
 
+  -- and no other number is
+  pub smallest-only : (n r s : ℕ) → SmallestIs test value n r → SmallestIs test value n s → r ≡ s
+  smallest-only n r s (inl f) (inl g) =
+      let one = f .2 s (g .0) (g .1) in
+      let other = g .2 r (f .0) (f .1) in
+      let same : value r ≡ value s = omega (arith, one .0, other .0) in
+      omega (arith, one .1 (sym same), other .1 same)
+  smallest-only n r s (inl f) (inr g) = absurd (true≢false (sym (f .1) ∙ g .1 r (f .0)))
+  smallest-only n r s (inr f) (inl g) = absurd (true≢false (sym (g .1) ∙ f .1 s (g .0)))
+  smallest-only n r s (inr f) (inr g) = f .0 ∙ sym (g .0)
+
 -- tests and values that agree have the same one
 pub first-smallest-same : (n : ℕ) (f g : ℕ → Bool) (v w : ℕ → ℕ) → n ≤ none → ((i : ℕ) → i < n → f i ≡ g i) → ((i : ℕ) → i < n → v i ≡ w i)
     → firstSmallest f v n ≡ firstSmallest g w n

@@ -167,12 +167,12 @@ set-fewer (b ∷ held) zero (suc p) e = e
 set-fewer (b ∷ held) (suc h) zero e = e
 set-fewer (b ∷ held) (suc h) (suc p) e = set-fewer held h p e
 
-struck-fewer : (held : List Bool) (gone : List ℕ) → Within (struckOff held gone) held
+pub struck-fewer : (held : List Bool) (gone : List ℕ) → Within (struckOff held gone) held
 struck-fewer held [] p e = e
 struck-fewer held (h ∷ gone) p e = set-fewer held h p (struck-fewer (set held h false) gone p e)
 
 -- and what is not struck off stays
-struck-keeps : (held : List Bool) (gone : List ℕ) (p : ℕ) → has held p ≡ true → (In p gone → ⊥) → has (struckOff held gone) p ≡ true
+pub struck-keeps : (held : List Bool) (gone : List ℕ) (p : ℕ) → has held p ≡ true → (In p gone → ⊥) → has (struckOff held gone) p ≡ true
 struck-keeps held [] p e out = e
 struck-keeps held (h ∷ gone) p e out =
     struck-keeps (set held h false) gone p (getD-set-other held h p false false (λ q. out (here q)) ∙ e) (λ m. out (there m))

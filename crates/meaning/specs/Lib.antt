@@ -8,6 +8,7 @@ pub mod Rounds
 pub mod Ground
 pub mod Sets
 pub mod Smallest
+pub mod Least
 pub mod LeavingOff
 pub mod SecondWay
 pub mod Promises

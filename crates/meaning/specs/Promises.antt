@@ -16,6 +16,7 @@ use Rattle.meaning.specs.Rounds.{after, derived, rankOf, supportOf, labe
 use Rattle.meaning.specs.Ground.{reaches, ground, struckOff, largerRank, blamed, blame}
 use Rattle.meaning.specs.Sets.{bit, chosen, size}
 use Rattle.meaning.specs.Smallest.{alone, derives, clashes, smallest}
+use Rattle.meaning.specs.Least.{ends, least}
 use Rattle.meaning.specs.LeavingOff.{violation, WorksTo, LeavesOff}
 use Rattle.meaning.specs.SecondWay.{Forces, accepted, rulesOf, firstWay, secondWay}
 
@@ -297,3 +298,40 @@ OneInGround =
     → ((h : ℕ) → has (ground places rows held p) h ≡ true → In h cands) → has (derived places rows held) p ≡ true
     → conflict (derived places rows held) ≡ false
     → (m : ℕ) × In m (smallest places rows cands p) × Within (alone places cands m) (ground places rows held p)
+
+-- ---- 02, Ticket 12: "What is the least we must withdraw?"
+
+-- the set is one "whose withdrawal ends the conflict"
+abbrev pub Ends : ℕ → List (List ℕ) → List Bool → List ℕ → ℕ → Type 0
+Ends places rows held cands m = ¬ Conflict (Derived places rows (struckOff held (chosen cands m)))
+
+-- "the smallest set of them" that is such; "of equal size, the one with the smallest number"
+pub record Least (places : ℕ) (rows : List (List ℕ)) (held : List Bool) (cands : List ℕ) (m : ℕ) : Type 0 where
+  pub of-them : m < 2 ^ length cands
+  pub ends-it : Ends places rows held cands m
+  pub smallest : (a : ℕ) → a < 2 ^ length cands → Ends places rows held cands a → size (length cands) m ≤ size (length cands) a
+  pub lowest : (a : ℕ) → a < 2 ^ length cands → Ends places rows held cands a → size (length cands) a ≡ size (length cands) m → m ≤ a
+
+-- it is the answer, and there is no other such (a set of up to 15 candidates is below none; the call takes 12)
+abbrev pub LeastIs : Type 0
+LeastIs =
+    (places : ℕ) (rows : List (List ℕ)) (held : List Bool) (cands : List ℕ) (m : ℕ) → m < none
+    → (least places rows held cands ≡ m) ↔ Least places rows held cands m
+
+-- "the empty set if there is no conflict", and then alone
+abbrev pub EmptyExactly : Type 0
+EmptyExactly =
+    (places : ℕ) (rows : List (List ℕ)) (held : List Bool) (cands : List ℕ)
+    → (least places rows held cands ≡ 0) ↔ (conflict (derived places rows held) ≡ false)
+
+-- withdrawing more never brings a conflict back,
+abbrev pub EndsMore : Type 0
+EndsMore =
+    (places : ℕ) (rows : List (List ℕ)) (held : List Bool) (cands : List ℕ) (a b : ℕ) → Inside a b → ends places rows held cands a ≡ true
+    → ends places rows held cands b ≡ true
+
+-- so there is no set "exactly when withdrawing all of them leaves the conflict"
+abbrev pub NoneExactly : Type 0
+NoneExactly =
+    (places : ℕ) (rows : List (List ℕ)) (held : List Bool) (cands : List ℕ) → 2 ^ length cands ≤ none
+    → (least places rows held cands ≡ none) ↔ (conflict (derived places rows (struckOff held cands)) ≡ true)

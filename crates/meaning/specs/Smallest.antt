@@ -1,14 +1,13 @@
 -- 02, Ticket 10, "The shift desk's smallest sets". The candidates are places, in the order in which they are given; m is a set of them.
 use mathlib.Core.Bool.{Bool, not, _&&_}
 use mathlib.Core.List.{List}
-use Prim.Native.Nat.{ℕ, suc}
+use Prim.Native.Nat.{ℕ}
 use lib.Dec.{eqb}
 use lib.ListN.{length}
 use Rattle.meaning.specs.Tests.{any, member, tabulate}
-use Rattle.meaning.specs.BySize.{belowSize}
 use Rattle.meaning.specs.Literals.{has, conflict}
 use Rattle.meaning.specs.Rounds.{derived}
-use Rattle.meaning.specs.Sets.{chosen, size, inside, setsOf}
+use Rattle.meaning.specs.Sets.{chosen, inside, setsOf, setsBySize}
 
 -- the set's candidates are held, and nothing else: "Premises held on the board don't count"
 unfoldable pub alone : ℕ → List ℕ → ℕ → List Bool
@@ -38,4 +37,4 @@ carries places rows cands p m =
 
 -- "it lists each set of candidates that" carries the literal; "order by size, then by number, each once"
 unfoldable pub smallest : ℕ → List (List ℕ) → List ℕ → ℕ → List ℕ
-smallest places rows cands p = let n = length cands in belowSize (size n) (carries places rows cands p) (setsOf n) (suc n)
+smallest places rows cands p = setsBySize (length cands) (carries places rows cands p)

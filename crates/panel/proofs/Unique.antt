@@ -50,3 +50,6 @@ one-write-text κs a x y = (cc, refl & refl & refl & (cc) & refl)
 
 one-smallest : One panel.tup_smallest.ended panel.tup_smallest.Reads.Post
 one-smallest κs a x y = (cc, refl & refl & refl & refl & (cc) & refl)
+
+one-least : One panel.tup_least.ended panel.tup_least.Reads.Post
+one-least κs a x y = (cc, refl & refl & refl & refl)

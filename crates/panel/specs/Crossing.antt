@@ -17,6 +17,7 @@ use Rattle.dimacs.specs.declared.reading.Reading.{Reading}
 use Rattle.dimacs.specs.declared.writing.Writing.{Writing}
 use Rattle.text.specs.declared.Spelling.{Spelling}
 use Rattle.smallest.specs.declared.Listing.{Listing}
+use Rattle.least.specs.declared.Withdrawal.{Withdrawal}
 use Rattle.panel.specs.declared.PanelBoard.{PanelBoard}
 use Rattle.panel.specs.declared.PanelChange.{PanelChange}
 use Rattle.panel.specs.declared.PanelAddition.{PanelAddition}
@@ -25,6 +26,7 @@ use Rattle.panel.specs.declared.PanelReason.{PanelReason}
 use Rattle.panel.specs.declared.PanelReading.{PanelReading}
 use Rattle.panel.specs.declared.PanelWriting.{PanelWriting}
 use Rattle.panel.specs.declared.PanelSpelling.{PanelSpelling}
+use Rattle.panel.specs.declared.PanelWithdrawal.{PanelWithdrawal}
 use Rattle.panel.specs.declared.PanelListing.{PanelListing}
 
 -- any byte other than 0 is a premise held
@@ -67,6 +69,9 @@ spellingOut s = record { refusal = numberIn (s .outcome); place = s .place; byte
 
 abbrev pub listingOut : Listing → PanelListing
 listingOut l = record { refusal = numberIn (l .outcome); count = l .count }
+
+abbrev pub withdrawalOut : Withdrawal → PanelWithdrawal
+withdrawalOut w = record { refusal = numberIn (w .outcome); set = w .set }
 
 -- the header's numbers for how a literal stands: 0 open, 1 stands, 2 ruled out, 3 conflict; 0 where refused
 abbrev pub answerOut : Standing → PanelAnswer

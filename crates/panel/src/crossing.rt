@@ -6,7 +6,7 @@ ghost use Prim.Native.Nat.{_<_};
 ghost use lib.ListN.{length};
 ghost use Rattle.board.specs.Faults.{numberIn};
 ghost use Rattle.board.specs.Grounds.{byteOf};
-ghost use Rattle.panel.specs.Crossing.{flagOf, boardIn, boardOut, Narrow, nextOut, changeOut, additionOut, answerOut, readingOut, writingOut, spellingOut, listingOut};
+ghost use Rattle.panel.specs.Crossing.{flagOf, boardIn, boardOut, Narrow, nextOut, changeOut, additionOut, answerOut, readingOut, writingOut, spellingOut, listingOut, withdrawalOut};
 use crate::PanelAddition;
 use crate::PanelAnswer;
 use crate::PanelBoard;
@@ -14,6 +14,7 @@ use crate::PanelChange;
 use crate::PanelListing;
 use crate::PanelReading;
 use crate::PanelSpelling;
+use crate::PanelWithdrawal;
 use crate::PanelWriting;
 use board::Board;
 use board::Change;
@@ -22,6 +23,7 @@ use board::asking::Standing;
 use board::rules::Addition;
 use dimacs::reading::Reading;
 use dimacs::writing::Writing;
+use least::Withdrawal;
 use literals::refusal::number;
 use smallest::Listing;
 use text::Spelling;
@@ -202,6 +204,17 @@ pub fn listing_out(listing: Listing) -> PanelListing
     PanelListing {
         refusal: number_of(outcome),
         count: listing.count,
+    }
+}
+
+// What the least to withdraw tells C.
+pub fn withdrawal_out(withdrawal: Withdrawal) -> PanelWithdrawal
+    ensures { λ r. ⌜ r ≡ withdrawalOut withdrawal ⌝ }
+{
+    let outcome = withdrawal.outcome;
+    PanelWithdrawal {
+        refusal: number_of(outcome),
+        set: withdrawal.set,
     }
 }
 

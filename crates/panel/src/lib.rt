@@ -1,4 +1,5 @@
-// The C boundary: each exported function is a call of `board`, `smallest`, `dimacs` or `text` and nothing else. include/tupahineka.h declares them.
+// The C boundary: each exported function is a call of `board`, `smallest`, `least`, `dimacs` or `text` and nothing else. include/tupahineka.h declares
+// them.
 
 mod crossing;
 
@@ -11,12 +12,13 @@ ghost use Rattle.board.specs.Settling.{settleOutcome, settledLabels, settledRan
 ghost use Rattle.board.specs.Asking.{asked, askedWhole, reasoned, explained};
 ghost use Rattle.board.specs.Grounds.{groundOutcome, groundMarks, blameOutcome, blameMarks};
 ghost use Rattle.smallest.specs.Listing.{smallestAnswer, smallestSets};
+ghost use Rattle.least.specs.Withdrawing.{leastAnswer};
 ghost use Rattle.dimacs.specs.Reading.{readAnswer, readTable};
 ghost use Rattle.dimacs.specs.Writing.{writeAnswer, writeBytes};
 ghost use Rattle.text.specs.Adding.{ruledText, ruledTextTable};
 ghost use Rattle.text.specs.Reading.{readTextAnswer, readTextBytes};
 ghost use Rattle.text.specs.Writing.{writeTextAnswer, writeTextBytes};
-ghost use Rattle.panel.specs.Crossing.{boardIn, boardOut, changeOut, additionOut, answerOut, reasonOut, readingOut, writingOut, spellingOut, listingOut};
+ghost use Rattle.panel.specs.Crossing.{boardIn, boardOut, changeOut, additionOut, answerOut, reasonOut, readingOut, writingOut, spellingOut, listingOut, withdrawalOut};
 use crate::crossing::addition_out;
 use crate::crossing::answer_out;
 use crate::crossing::board_in;
@@ -26,6 +28,7 @@ use crate::crossing::listing_out;
 use crate::crossing::number_of;
 use crate::crossing::reading_out;
 use crate::crossing::spelling_out;
+use crate::crossing::withdrawal_out;
 use crate::crossing::writing_out;
 use board::Outcome;
 use literals::WIDTH;
@@ -79,6 +82,12 @@ pub struct PanelSpelling {
 pub struct PanelListing {
     pub refusal: u8,
     pub count: usize,
+}
+
+#[repr(C)]
+pub struct PanelWithdrawal {
+    pub refusal: u8,
+    pub set: u16,
 }
 
 #[repr(C)]
@@ -285,4 +294,17 @@ pub extern "C" fn tup_blame(given: PanelBoard, table: &[i16], furnace: u8, marks
 {
     let outcome = board::grounds::blame(board_in(given), table, furnace, marks);
     number_of(outcome)
+}
+
+#[no_mangle]
+pub extern "C" fn tup_least(
+    given: PanelBoard,
+    table: &[i16],
+    furnace: u8,
+    candidates: &[i16],
+) -> PanelWithdrawal
+    ensures { λ r. ⌜ r ≡ withdrawalOut (leastAnswer (now (table .entry)) (boardIn given) furnace (now (candidates .entry))) ⌝ }
+{
+    let withdrawal = least::call::least(board_in(given), table, furnace, candidates);
+    withdrawal_out(withdrawal)
 }

@@ -28,6 +28,7 @@ use Rattle.board.specs.declared.Outcome.the-variants.{Done, Refused}
 use Rattle.board.proofs.Goodness.{flag-fits}
 use Rattle.board.proofs.TwoSets.{held-own, held-other}
 use Rattle.smallest.specs.Listing.{smallestAt, smallestFaults, smallestOutcome, smallestAnswer, smallestSets}
+use Rattle.least.specs.Withdrawing.{leastOn, leastFaults, leastAnswer}
 use Rattle.dimacs.specs.Form.{clausesOf, parseText}
 use Rattle.dimacs.specs.Clauses.{passed}
 use Rattle.dimacs.specs.Reading.{rowsOfText, readFaults, readAnswer}
@@ -36,7 +37,7 @@ use Rattle.chains.specs.Form.{wholeText}
 use Rattle.text.specs.Reading.{bytesIn, readTextFaults, readTextOutcome, readTextAnswer, readTextBytes}
 use Rattle.text.specs.Adding.{textRefused, ruledText}
 use Rattle.text.specs.Writing.{writeTextFaults, writeTextOutcome, writeTextAnswer, writeTextBytes}
-use Rattle.promises.specs.Calls.{Call, opens, adds, holds, withdraws, asks, asksWhole, explains, settles, grounds, blames, lists, reads, writes, readsText, addsText, writesText}
+use Rattle.promises.specs.Calls.{Call, opens, adds, holds, withdraws, asks, asksWhole, explains, settles, grounds, blames, lists, asksLeast, reads, writes, readsText, addsText, writesText}
 use Rattle.promises.specs.Calls.{ofAddition, ofReading, World, front, answer, outcomeOf, outcome, after, run, formulaIn, notOpen, names, changes, without}
 use Rattle.promises.specs.Demands.{Alike, FurnacesApart}
 use Rattle.promises.proofs.Refusals.{done-or-refused, refused-untouched, so-after}
@@ -111,7 +112,7 @@ module _ {f : ℕ} {v u : World} (s : Same f v u) where
 
   -- the same answer to every call that does not name the furnace
   same-answer : (c : Call) → names f c ≡ false → answer v c ≡ answer u c
-  unfolding answer flagChanged flagFaults asked askedWhole askFaults reasoned explained explainFaults settleOutcome settledLabels settledRanks settledSupports settleFaults groundOutcome groundMarks groundFaults blameOutcome blameMarks blameFaults smallestAnswer smallestSets smallestOutcome smallestFaults smallestAt readFaults writeAnswer writeBytes writeOutcome writeFaults textOn readTextAnswer readTextBytes readTextOutcome readTextFaults writeTextAnswer writeTextBytes writeTextOutcome writeTextFaults
+  unfolding answer flagChanged flagFaults asked askedWhole askFaults reasoned explained explainFaults settleOutcome settledLabels settledRanks settledSupports settleFaults groundOutcome groundMarks groundFaults blameOutcome blameMarks blameFaults smallestAnswer smallestSets smallestOutcome smallestFaults smallestAt leastAnswer leastFaults leastOn readFaults writeAnswer writeBytes writeOutcome writeFaults textOn readTextAnswer readTextBytes readTextOutcome readTextFaults writeTextAnswer writeTextBytes writeTextOutcome writeTextFaults
   same-answer (opens S) n = refl
   same-answer (adds lent bytes) n = rule-same lent bytes
   same-answer (holds lent g l) n = rw (good lent, a .premises g (eqb-false g f n), a .symbols)
@@ -123,6 +124,7 @@ module _ {f : ℕ} {v u : World} (s : Same f v u) where
   same-answer (grounds lent g l marks) n = rw (good lent, a .premises g (eqb-false g f n), a .symbols, a .rows, a .table)
   same-answer (blames lent g marks) n = rw (good lent, a .premises g (eqb-false g f n), a .symbols, a .rows, a .table)
   same-answer (lists lent cands l sets) n = rw (good lent, a .symbols, a .rows, a .table)
+  same-answer (asksLeast lent g cands) n = rw (good lent, a .premises g (eqb-false g f n), a .symbols, a .rows, a .table)
   same-answer (reads lent text) n =
       reading-tells (front v lent) (v .board) text
       ∙ rw (good lent, a .symbols, a .rows, a .rules, a .table, ← reading-tells (front u lent) (u .board) text)
@@ -207,6 +209,7 @@ module _ {f : ℕ} {v u : World} (s : Same f v u) where
   same-after (grounds lent g l marks) n = s
   same-after (blames lent g marks) n = s
   same-after (lists lent cands l sets) n = s
+  same-after (asksLeast lent g cands) n = s
   same-after (reads lent text) n = so-both (reads lent text) refl refl (λ e d. same-added (text-added v lent text e) (text-added u lent text d))
   same-after (writes lent out) n = s
   same-after (readsText lent text out) n = s
@@ -248,6 +251,7 @@ module _ {f : ℕ} {v u : World} (s : Same f v u) where
   after-apart (grounds lent g l marks) n = clash n refl
   after-apart (blames lent g marks) n = clash n refl
   after-apart (lists lent cands l sets) n = clash n refl
+  after-apart (asksLeast lent g cands) n = clash n refl
   after-apart (reads lent text) n = clash n refl
   after-apart (writes lent out) n = clash n refl
   after-apart (readsText lent text out) n = clash n refl

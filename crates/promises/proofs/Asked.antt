@@ -21,7 +21,7 @@ use Rattle.board.specs.Asking.{askFaults, standingIf, standing, asked, askedWho
 use Rattle.board.specs.declared.Outcome.the-variants.{Done}
 use Rattle.board.specs.declared.asking.Standing.{Standing}
 use Rattle.board.specs.declared.asking.Standing.the-variants.{Conflict, Stands, RuledOut, Open, Refused}
-use Rattle.board.proofs.Arguments.{range-facts}
+use Rattle.literals.proofs.Arguments.{range-facts}
 use Rattle.board.proofs.Answered.{none-given}
 use Rattle.promises.specs.Calls.{asks, asksWhole, World, askOutcome, ofAsk, front, faults, answer, outcome, run}
 use Rattle.promises.specs.Demands.{rowsOfWorld, premisesOf, derivedSet, ByLabel, AskByLabel, StandsOn, OldAnswer}

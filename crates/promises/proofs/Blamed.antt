@@ -20,9 +20,10 @@ use Rattle.board.specs.Grounds.{byteOf, blameFaults, blameOutcome, blameMarks}
 use Rattle.board.specs.declared.Outcome.the-variants.{Done}
 use Rattle.board.proofs.Goodness.{Good, good-is}
 use Rattle.board.proofs.Answered.{none-given}
+use Rattle.board.proofs.Grounded.{mark-at, byte-one}
 use Rattle.promises.specs.Calls.{blames, World, front, answer, outcome, run}
 use Rattle.promises.specs.Demands.{rowsOfWorld, premisesOf, derivedSet, BlameTakes, Marked, BlameMarksHeld, BlameAlone, ConflictStays}
-use Rattle.promises.proofs.Told.{rows-read, blame-tells, mark-at, byte-one}
+use Rattle.promises.proofs.Told.{rows-read, blame-tells}
 use Rattle.promises.proofs.Spared.{Kept, spared}
 
 -- ---- a board on which blame is done

@@ -13,7 +13,7 @@ use Rattle.board.specs.declared.rules.Addition.{Addition}
 use Rattle.dimacs.specs.Reading.{readAnswer, readTable}
 use Rattle.dimacs.specs.declared.reading.Reading.{Reading}
 use Rattle.text.specs.Adding.{ruledText, ruledTextTable}
-use Rattle.promises.specs.Calls.{opens, adds, holds, withdraws, asks, asksWhole, explains, settles, grounds, blames, lists, reads, writes}
+use Rattle.promises.specs.Calls.{opens, adds, holds, withdraws, asks, asksWhole, explains, settles, grounds, blames, lists, asksLeast, reads, writes}
 use Rattle.promises.specs.Calls.{readsText, addsText, writesText, World, front, after}
 
 module _ (w : World) where
@@ -82,6 +82,10 @@ module _ (w : World) where
     list-changes-nothing : (cands : List ℤ) (l : ℤ) (sets : List ℕ) → after w (lists lent cands l sets) ≡ w
     unfolding after
     list-changes-nothing cands l sets = refl
+
+    least-changes-nothing : (furnace : ℕ) (cands : List ℤ) → after w (asksLeast lent furnace cands) ≡ w
+    unfolding after
+    least-changes-nothing furnace cands = refl
 
     write-changes-nothing : (out : List ℕ) → after w (writes lent out) ≡ w
     unfolding after

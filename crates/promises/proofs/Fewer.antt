@@ -17,7 +17,7 @@ use Rattle.board.specs.Faults.{premisesFit}
 use Rattle.board.specs.Changes.{withFlag}
 use Rattle.board.proofs.TwoSets.{held-own, held-other}
 use Rattle.board.proofs.Goodness.{flag-fits}
-use Rattle.promises.specs.Calls.{Call, opens, adds, holds, withdraws, asks, asksWhole, explains, settles, grounds, blames, lists, reads, writes}
+use Rattle.promises.specs.Calls.{Call, opens, adds, holds, withdraws, asks, asksWhole, explains, settles, grounds, blames, lists, asksLeast, reads, writes}
 use Rattle.promises.specs.Calls.{readsText, addsText, writesText, World, after, run, Each, notOpen}
 use Rattle.promises.specs.Demands.{premisesOf, Spares, BringsNothing}
 use Rattle.promises.proofs.Refusals.{so-after}
@@ -75,6 +75,7 @@ module _ (furnace : ℕ) (w : World) (is-furnace : isFurnace furnace ≡ true) w
     step (grounds lent named l marks) n nothing = f
     step (blames lent named marks) n nothing = f
     step (lists lent cands l sets) n nothing = f
+    step (asksLeast lent named cands) n nothing = f
     step (reads lent text) n nothing = so-after (Fewer furnace w) v (reads lent text) refl f (λ d. clash refl (nothing d))
     step (writes lent bytes) n nothing = f
     step (readsText lent text bytes) n nothing = f

@@ -26,7 +26,7 @@ use Rattle.board.specs.Faults.{premisesFit, goodBoard}
 use Rattle.board.specs.Changes.{openFaults, opened}
 use Rattle.board.specs.Rules.{withRules}
 use Rattle.board.proofs.Goodness.{by-rows, empty-good, flag-good}
-use Rattle.promises.specs.Calls.{Call, opens, adds, holds, withdraws, asks, asksWhole, explains, settles, grounds, blames, lists, reads, writes}
+use Rattle.promises.specs.Calls.{Call, opens, adds, holds, withdraws, asks, asksWhole, explains, settles, grounds, blames, lists, asksLeast, reads, writes}
 use Rattle.promises.specs.Calls.{readsText, addsText, writesText, World, front, after, run, notOpen}
 use Rattle.promises.specs.Demands.{StaysGood}
 use Rattle.promises.proofs.Refusals.{so-after}
@@ -193,6 +193,7 @@ module _ (w : World) (g : Whole w) where
   step (grounds lent furnace l marks) n = g
   step (blames lent furnace marks) n = g
   step (lists lent cands l sets) n = g
+  step (asksLeast lent furnace cands) n = g
   step (reads lent text) n = so-after Whole w (reads lent text) refl g (λ e. added-good (text-added w lent text e))
   step (writes lent out) n = g
   step (readsText lent text out) n = g

@@ -18,7 +18,7 @@ use Rattle.board.specs.Furnaces.{withHeld}
 use Rattle.board.specs.Faults.{firstFault, ifDone}
 use Rattle.board.specs.Changes.{emptyBoard, openFaults, opened, withFlag}
 use Rattle.board.specs.declared.Outcome.the-variants.{Done}
-use Rattle.promises.specs.Calls.{Call, opens, adds, holds, withdraws, asks, asksWhole, explains, settles, grounds, blames, lists, reads, writes}
+use Rattle.promises.specs.Calls.{Call, opens, adds, holds, withdraws, asks, asksWhole, explains, settles, grounds, blames, lists, asksLeast, reads, writes}
 use Rattle.promises.specs.Calls.{readsText, addsText, writesText, World, outcome, after, run, rulesAfter, rulesAfterAll, notOpen}
 use Rattle.promises.specs.Demands.{rowsOfWorld, ruledRows, since, acceptedSince}
 use Rattle.promises.proofs.Refusals.{done-or-refused, so-refused, so-after}
@@ -89,6 +89,7 @@ module _ (w : World) (fs : List Formula) (k : Keeps w fs) where
   step (grounds lent furnace l marks) = k
   step (blames lent furnace marks) = k
   step (lists lent cands l sets) = k
+  step (asksLeast lent furnace cands) = k
   step (reads lent text) = adding (reads lent text) refl (text-added w lent text)
   step (writes lent out) = k
   step (readsText lent text out) = k

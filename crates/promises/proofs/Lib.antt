@@ -15,6 +15,7 @@ pub mod Blamed
 pub mod Unmoved
 pub mod Asked
 pub mod Listed
+pub mod Withdrawn
 pub mod Texts
 pub mod FormulaTexts
 pub mod Explained
@@ -30,4 +31,5 @@ mod NumberedBoards
 mod GroundBoards
 mod AskedBoards
 mod ListedBoards
+mod WithdrawnBoards
 mod Carried

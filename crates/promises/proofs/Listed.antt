@@ -26,9 +26,10 @@ use Rattle.literals.specs.Literal.{inRange, placeOf}
 use Rattle.board.specs.Furnaces.{heldBy}
 use Rattle.board.specs.Ranking.{rowsOn}
 use Rattle.board.specs.declared.Outcome.the-variants.{Done}
-use Rattle.board.proofs.Arguments.{place-fits}
+use Rattle.literals.proofs.Arguments.{place-fits}
 use Rattle.board.proofs.Answered.{none-given}
-use Rattle.smallest.specs.Listing.{mostCandidates, placesOf, repeats, smallestAt, smallestOn, smallestFaults, smallestOutcome, smallestAnswer, smallestSets}
+use Rattle.candidates.specs.Given.{mostCandidates, placesOf, repeats}
+use Rattle.smallest.specs.Listing.{smallestAt, smallestOn, smallestFaults, smallestOutcome, smallestAnswer, smallestSets}
 use Rattle.promises.specs.Calls.{lists, World, front, faults, answer, outcome}
 use Rattle.promises.specs.Demands.{FirstGiven, here, later, rowsOfWorld, premisesOf, derivedSet}
 use Rattle.promises.specs.Demands.{SmallestTells, listWritten, SmallestLists, HeldAlone, ListedDerives, SmallerDoesNot, ListedInGround, ListRoom}

@@ -42,7 +42,7 @@ abbrev sets-of : List ℤ → ℤ → (places : ℕ) → Call
 sets-of cands l places = lists lent cands l (blank places)
 
 -- six symbols' literals
-abbrev twelve : List ℤ
+abbrev pub twelve : List ℤ
 twelve =
     pos 1 ∷ pos 2 ∷ pos 3 ∷ pos 4 ∷ pos 5 ∷ pos 6 ∷ negsuc 0 ∷ negsuc 1 ∷ negsuc 2 ∷ negsuc 3 ∷ negsuc 4 ∷ negsuc 5 ∷ []
 

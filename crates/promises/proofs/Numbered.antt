@@ -25,6 +25,7 @@ use Rattle.board.specs.declared.Outcome.{Outcome}
 use Rattle.board.specs.declared.Outcome.the-variants.{Done, Refused}
 use Rattle.board.proofs.Goodness.{good-is}
 use Rattle.board.proofs.Explaining.{row-used}
+use Rattle.least.specs.Withdrawing.{leastOn, leastFaults, leastAnswer}
 use Rattle.smallest.specs.Listing.{smallestAt, smallestFaults, smallestOutcome, smallestAnswer, smallestSets}
 use Rattle.dimacs.specs.Writing.{literalsOf, clauseAt, clausesAt, textOf, textOn, writeFaults, writeOutcome, writeAnswer, writeBytes}
 use Rattle.promises.specs.Calls.{World, front, answer}
@@ -146,7 +147,7 @@ module _ (v w : World) (lent furnace : ℕ) (s : SameLiterals v w) (good-v : goo
       go (Refused why) e = rw (same-faults l, e) (refl, refl, refl, refl)
 
   told : SameTold v w lent furnace
-  unfolding answer settleOutcome settledLabels settledRanks settledSupports settleFaults asked askedWhole askFaults groundOutcome groundMarks groundFaults blameOutcome blameMarks blameFaults smallestAnswer smallestSets smallestOutcome smallestFaults smallestAt writeAnswer writeBytes writeOutcome writeFaults
+  unfolding answer settleOutcome settledLabels settledRanks settledSupports settleFaults asked askedWhole askFaults groundOutcome groundMarks groundFaults blameOutcome blameMarks blameFaults smallestAnswer smallestSets smallestOutcome smallestFaults smallestAt leastAnswer leastFaults leastOn writeAnswer writeBytes writeOutcome writeFaults
   told =
       record {
         settle = λ labels ranks supports. rw (good-v, good-w, s .premises furnace, same-rows, s .symbols);
@@ -155,6 +156,7 @@ module _ (v w : World) (lent furnace : ℕ) (s : SameLiterals v w) (good-v : goo
         ground = λ l marks. rw (good-v, good-w, s .premises furnace, same-rows, s .symbols);
         blame = λ marks. rw (good-v, good-w, s .premises furnace, same-rows, s .symbols);
         smallest = λ cands l sets. rw (good-v, good-w, same-rows, s .symbols);
+        least = λ cands. rw (good-v, good-w, s .premises furnace, same-rows, s .symbols);
         explain = same-reason;
         write = λ out. rw (good-v, good-w, same-text);
       }

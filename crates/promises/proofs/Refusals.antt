@@ -22,13 +22,14 @@ use Rattle.board.specs.declared.asking.Reason.{Reason}
 use Rattle.board.specs.declared.Outcome.the-variants.{Done, Refused}
 use Rattle.board.proofs.Answered.{refused-not-done, told-by, rule-told}
 use Rattle.smallest.specs.Listing.{smallestOutcome, smallestAnswer, smallestSets}
+use Rattle.least.specs.Withdrawing.{leastAnswer}
 use Rattle.dimacs.specs.Reading.{readFaults, readAnswer, readTable}
 use Rattle.dimacs.specs.Writing.{writeOutcome, writeAnswer, writeBytes}
 use Rattle.dimacs.specs.declared.reading.Reading.{Reading}
 use Rattle.text.specs.Reading.{bytesIn, readTextOutcome, readTextAnswer, readTextBytes}
 use Rattle.text.specs.Adding.{textRefused, ruledText, ruledTextTable}
 use Rattle.text.specs.Writing.{writeTextOutcome, writeTextAnswer, writeTextBytes}
-use Rattle.promises.specs.Calls.{Call, opens, adds, holds, withdraws, asks, asksWhole, explains, settles, grounds, blames, lists, reads, writes}
+use Rattle.promises.specs.Calls.{Call, opens, adds, holds, withdraws, asks, asksWhole, explains, settles, grounds, blames, lists, asksLeast, reads, writes}
 use Rattle.promises.specs.Calls.{readsText, addsText, writesText, World, front, faults, askOutcome, answer, outcome, after, notOpen}
 use Rattle.promises.specs.Demands.{FirstGiven, here, later, RefusedExactly, DoneExactly, RefusedUntouched, RefusedUnwritten, RefusedHandsBack}
 use Rattle.promises.proofs.RuleTexts.{rule-text-told}
@@ -43,7 +44,7 @@ stands-done false false true = refl
 stands-done false false false = refl
 
 pub first-case : (w : World) (c : Call) → outcome w c ≡ firstFault (faults w c)
-unfolding answer outcome faults opened flagChanged asked askedWhole reasoned settleOutcome groundOutcome blameOutcome smallestAnswer smallestOutcome readAnswer writeAnswer writeOutcome readTextAnswer readTextOutcome writeTextAnswer writeTextOutcome
+unfolding answer outcome faults opened flagChanged asked askedWhole reasoned settleOutcome groundOutcome blameOutcome smallestAnswer smallestOutcome leastAnswer readAnswer writeAnswer writeOutcome readTextAnswer readTextOutcome writeTextAnswer writeTextOutcome
 first-case w (opens S) = refl
 first-case w (adds lent bytes) = rule-told (front w lent) (w .board) bytes
 first-case w (holds lent furnace l) = refl
@@ -64,6 +65,7 @@ first-case w (settles lent furnace labels ranks supports) = refl
 first-case w (grounds lent furnace l marks) = refl
 first-case w (blames lent furnace marks) = refl
 first-case w (lists lent cands l sets) = refl
+first-case w (asksLeast lent furnace cands) = refl
 first-case w (reads lent text) =
     told-by (λ (r : Reading). r .outcome) _ _ (firstFault (readFaults (front w lent) (w .board) text)) (λ e. refl) (λ why e. refl)
 first-case w (writes lent out) = refl
@@ -146,6 +148,7 @@ refused-untouched w (settles lent furnace labels ranks supports) why e = refl
 refused-untouched w (grounds lent furnace l marks) why e = refl
 refused-untouched w (blames lent furnace marks) why e = refl
 refused-untouched w (lists lent cands l sets) why e = refl
+refused-untouched w (asksLeast lent furnace cands) why e = refl
 refused-untouched w (reads lent text) why e = rw (cases w (reads lent text) e, take-append-drop)
 refused-untouched w (writes lent out) why e = refl
 refused-untouched w (readsText lent text out) why e = refl
@@ -180,12 +183,13 @@ refused-unwritten w lent why =
     }
 
 pub refused-hands-back : RefusedHandsBack
-unfolding faults reasoned explained smallestAnswer readAnswer answer outcome writeAnswer readTextAnswer writeTextAnswer
+unfolding faults reasoned explained smallestAnswer leastAnswer readAnswer answer outcome writeAnswer readTextAnswer writeTextAnswer
 refused-hands-back w lent why =
     record {
       rule = λ bytes e. rule-refused w lent bytes why e .0;
       explain = λ furnace l e. (let f = cases w (explains lent furnace l) e in (rw f, rw f, rw f, rw f, rw f));
       smallest = λ cands l sets e. rw e;
+      least = λ furnace cands e. rw e;
       read = λ text e. rw (cases w (reads lent text) e);
       write = λ out e. rw e;
       read-text = λ text out e. rw e;

@@ -17,7 +17,7 @@ use Rattle.board.specs.Furnaces.{isFurnace, heldBy, withHeld}
 use Rattle.board.specs.Changes.{withFlag}
 use Rattle.board.specs.declared.Outcome.the-variants.{Done}
 use Rattle.board.proofs.TwoSets.{held-own, held-other}
-use Rattle.promises.specs.Calls.{Call, opens, adds, holds, withdraws, asks, asksWhole, explains, settles, grounds, blames, lists, reads, writes}
+use Rattle.promises.specs.Calls.{Call, opens, adds, holds, withdraws, asks, asksWhole, explains, settles, grounds, blames, lists, asksLeast, reads, writes}
 use Rattle.promises.specs.Calls.{readsText, addsText, writesText, World, outcome, after, run, Each, notOpen, takes}
 use Rattle.promises.specs.Demands.{rowsOfWorld, premisesOf, Appends, Spares}
 use Rattle.promises.proofs.Refusals.{so-after}
@@ -96,6 +96,7 @@ module _ (w : World) (furnace : ℕ) (marked : List Bool) (premises : ℕ → Ty
     step (grounds lent named l marks) n out = k
     step (blames lent named marks) n out = k
     step (lists lent cands l sets) n out = k
+    step (asksLeast lent named cands) n out = k
     step (reads lent text) n out = so-after Stays v (reads lent text) refl k (λ d. grown (read-appends v lent text d))
     step (writes lent bytes) n out = k
     step (readsText lent text bytes) n out = k

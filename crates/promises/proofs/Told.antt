@@ -1,14 +1,13 @@
 -- Demand 2, what the calls tell: the derived literals, ranks and supports over the rows in the table and the premises then held.
 use mathlib.Core.Path.{_≡_, refl, ap, _∙_}
-use mathlib.Core.Bool.{Bool, true, false, not}
+use mathlib.Core.Bool.{Bool, false, not}
 use mathlib.Core.List.{List, [], _++_, map}
 use Prim.Native.Nat.{ℕ, suc, _-_, _*_, _≤_, _<_}
 use native.Mathlib.Omega.{arith}
 use borrow.Author.Tests.{not-false}
-use lib.ListN.{length, drop, getD, length-map, List·getD-append, List·getD-map}
+use lib.ListN.{length, drop, getD, length-map, List·getD-append}
 use lib.Seq.{drop-at}
 use Rattle.meaning.specs.Tests.{tabulate}
-use Rattle.meaning.specs.Literals.{has}
 use Rattle.meaning.specs.Rounds.{label, ranksOf, supportsOf, labelsOf}
 use Rattle.meaning.specs.Ground.{ground, blame}
 use Rattle.meaning.proofs.Tables.{length-tabulate, getD-tabulate, tabulate-same}
@@ -106,15 +105,6 @@ ask-whole-tells w lent furnace l e =
 -- as many marks are written as there are
 marks-over : (n : ℕ) (f : ℕ → Bool) (marks : List ℕ) → let new = map byteOf (tabulate n f) in new ++ drop (length new) marks ≡ new ++ drop n marks
 marks-over n f marks = ap (λ (k : ℕ). map byteOf (tabulate n f) ++ drop k marks) (length-map (tabulate n f) byteOf ∙ length-tabulate n f)
-
--- and each is its literal's
-pub mark-at : (set : List Bool) (rest : List ℕ) (p : ℕ) → p < length set → getD (map byteOf set ++ rest) p 0 ≡ byteOf (has set p)
-mark-at set rest p h =
-    List·getD-append (map byteOf set) rest 0 p (omega (arith, length-map set byteOf)) ∙ List·getD-map byteOf set p false
-
-pub byte-one : (b : Bool) → byteOf b ≡ 1 → b ≡ true
-byte-one true e = refl
-byte-one false e = absurd (omega arith)
 
 pub ground-tells : GroundTells
 unfolding answer outcome groundOutcome groundMarks groundFaults ground

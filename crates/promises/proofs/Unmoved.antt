@@ -32,14 +32,15 @@ use Rattle.board.specs.Grounds.{byteOf, groundFaults, groundOutcome, groundMark
 use Rattle.board.specs.declared.Outcome.the-variants.{Done, Refused}
 use Rattle.board.specs.declared.asking.Standing.{Standing}
 use Rattle.board.specs.declared.asking.Standing.the-variants.{Conflict, Stands, Refused as Unasked}
-use Rattle.board.proofs.Arguments.{place-fits}
+use Rattle.literals.proofs.Arguments.{place-fits}
 use Rattle.board.proofs.Goodness.{Good, good-is}
 use Rattle.board.proofs.Answered.{none-given}
+use Rattle.board.proofs.Grounded.{mark-at, byte-one}
 use Rattle.promises.specs.Calls.{Call, withdraws, asks, asksWhole, explains, settles, grounds, World, ofAsk, front, faults, answer, outcome, run}
 use Rattle.promises.specs.Demands.{rowsOfWorld, premisesOf, derivedSet, rankIn, supportIn}
 use Rattle.promises.specs.Demands.{InGround, GroundAlone, KeptBut, CannotMove, MarkStays, StrikesOff}
 use Rattle.promises.proofs.Refusals.{cases, done-or-refused, refused-unwritten}
-use Rattle.promises.proofs.Told.{rows-read, settle-tells, ground-tells, mark-at, byte-one}
+use Rattle.promises.proofs.Told.{rows-read, settle-tells, ground-tells}
 use Rattle.promises.proofs.Fewer.{Fewer, fewer}
 use Rattle.promises.proofs.Spared.{spared}
 

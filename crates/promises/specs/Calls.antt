@@ -1,5 +1,5 @@
 -- "After every sequence of calls": the calls with all that each is lent, and what they do to the board and the caller's table, by the
--- very definitions that the contracts of `board`, `smallest`, `dimacs` and `text` cite.
+-- very definitions that the contracts of `board`, `smallest`, `least`, `dimacs` and `text` cite.
 use Prim.Native.Nat.{ℕ}
 use mathlib.Core.Bool.{Bool, true, false, not, _&&_}
 use mathlib.Core.List.{List, [], _∷_, _++_}
@@ -18,6 +18,7 @@ use Rattle.board.specs.Settling.{settleFaults, settleOutcome, settledLabels, se
 use Rattle.board.specs.Asking.{askFaults, asked, askedWhole, explainFaults, reasoned, Span, explained}
 use Rattle.board.specs.Grounds.{groundFaults, groundOutcome, groundMarks, blameFaults, blameOutcome, blameMarks}
 use Rattle.smallest.specs.Listing.{smallestFaults, smallestAnswer, smallestSets}
+use Rattle.least.specs.Withdrawing.{leastFaults, leastAnswer}
 use Rattle.dimacs.specs.Form.{parseText}
 use Rattle.dimacs.specs.Reading.{formulaeIn, readFaults, readAnswer, readTable}
 use Rattle.dimacs.specs.Writing.{writeFaults, writeAnswer, writeBytes}
@@ -32,6 +33,7 @@ use Rattle.board.specs.declared.asking.Reason.{Reason}
 use Rattle.board.specs.declared.asking.Standing.{Standing}
 use Rattle.board.specs.declared.asking.Standing.the-variants.{Conflict, Stands, RuledOut, Open, Refused as Unasked}
 use Rattle.smallest.specs.declared.Listing.{Listing}
+use Rattle.least.specs.declared.Withdrawal.{Withdrawal}
 use Rattle.dimacs.specs.declared.writing.Writing.{Writing}
 use Rattle.text.specs.declared.Spelling.{Spelling}
 
@@ -45,6 +47,7 @@ pub data Call : Type 0 where
   grounds : (lent furnace : ℕ) (l : ℤ) (marks : List ℕ) → Call
   blames : (lent furnace : ℕ) (marks : List ℕ) → Call
   lists : (lent : ℕ) (cands : List ℤ) (l : ℤ) (sets : List ℕ) → Call
+  asksLeast : (lent furnace : ℕ) (cands : List ℤ) → Call
   reads : (lent : ℕ) (text : List ℕ) → Call
   writes : (lent : ℕ) (out : List ℕ) → Call
   readsText : (lent : ℕ) (text out : List ℕ) → Call
@@ -74,6 +77,7 @@ faults w (settles lent furnace labels ranks supports) =
 faults w (grounds lent furnace l marks) = groundFaults (front w lent) (w .board) furnace l (length marks)
 faults w (blames lent furnace marks) = blameFaults (front w lent) (w .board) furnace (length marks)
 faults w (lists lent cands l sets) = smallestFaults (front w lent) (w .board) cands l (length sets)
+faults w (asksLeast lent furnace cands) = leastFaults (front w lent) (w .board) furnace cands
 faults w (reads lent text) = readFaults (front w lent) (w .board) text
 faults w (writes lent out) = writeFaults (front w lent) (w .board) (length out)
 faults w (readsText lent text out) = readTextFaults (front w lent) (w .board) text (length out)
@@ -101,6 +105,7 @@ pub data Answer : Type 0 where
   ofExplain : Reason → Span → Answer
   ofMarks : Outcome → (marks : List ℕ) → Answer
   ofListing : Listing → (sets : List ℕ) → Answer
+  ofWithdrawal : Withdrawal → Answer
 
 unfoldable pub answer : World → Call → Answer
 answer w (opens S) = ofChange (opened S .outcome)
@@ -121,6 +126,7 @@ answer w (blames lent furnace marks) =
     ofMarks (blameOutcome (front w lent) (w .board) furnace marks) (blameMarks (front w lent) (w .board) furnace marks)
 answer w (lists lent cands l sets) =
     ofListing (smallestAnswer (front w lent) (w .board) cands l sets) (smallestSets (front w lent) (w .board) cands l sets)
+answer w (asksLeast lent furnace cands) = ofWithdrawal (leastAnswer (front w lent) (w .board) furnace cands)
 answer w (reads lent text) = let a = readAnswer (front w lent) (w .board) text in ofReading (a .outcome) (a .clauses) (a .added)
 answer w (writes lent out) = ofWriting (writeAnswer (front w lent) (w .board) out) (writeBytes (front w lent) (w .board) out)
 answer w (readsText lent text out) =
@@ -141,6 +147,7 @@ outcomeOf (ofAsk s) = askOutcome s
 outcomeOf (ofExplain r span) = r .outcome
 outcomeOf (ofMarks o marks) = o
 outcomeOf (ofListing a sets) = a .outcome
+outcomeOf (ofWithdrawal a) = a .outcome
 
 unfoldable pub outcome : World → Call → Outcome
 outcome w c = outcomeOf (answer w c)
@@ -162,6 +169,7 @@ after w (settles lent furnace labels ranks supports) = w
 after w (grounds lent furnace l marks) = w
 after w (blames lent furnace marks) = w
 after w (lists lent cands l sets) = w
+after w (asksLeast lent furnace cands) = w
 after w (reads lent text) =
     record {
       board = readAnswer (front w lent) (w .board) text .board;
@@ -205,6 +213,7 @@ rulesAfter w fs (settles lent furnace labels ranks supports) = fs
 rulesAfter w fs (grounds lent furnace l marks) = fs
 rulesAfter w fs (blames lent furnace marks) = fs
 rulesAfter w fs (lists lent cands l sets) = fs
+rulesAfter w fs (asksLeast lent furnace cands) = fs
 rulesAfter w fs (reads lent text) = ifDone (outcome w (reads lent text)) (fs ++ formulaeIn (parseText text)) (λ _. fs)
 rulesAfter w fs (writes lent out) = fs
 rulesAfter w fs (readsText lent text out) = fs
@@ -229,6 +238,7 @@ notOpen (settles lent furnace labels ranks supports) = true
 notOpen (grounds lent furnace l marks) = true
 notOpen (blames lent furnace marks) = true
 notOpen (lists lent cands l sets) = true
+notOpen (asksLeast lent furnace cands) = true
 notOpen (reads lent text) = true
 notOpen (writes lent out) = true
 notOpen (readsText lent text out) = true
@@ -250,6 +260,7 @@ names f (settles lent furnace labels ranks supports) = eqb furnace f
 names f (grounds lent furnace l marks) = eqb furnace f
 names f (blames lent furnace marks) = eqb furnace f
 names f (lists lent cands l sets) = false
+names f (asksLeast lent furnace cands) = eqb furnace f
 names f (reads lent text) = false
 names f (writes lent out) = false
 names f (readsText lent text out) = false
@@ -269,6 +280,7 @@ changes (settles lent furnace labels ranks supports) = false
 changes (grounds lent furnace l marks) = false
 changes (blames lent furnace marks) = false
 changes (lists lent cands l sets) = false
+changes (asksLeast lent furnace cands) = false
 changes (reads lent text) = false
 changes (writes lent out) = false
 changes (readsText lent text out) = false
@@ -288,6 +300,7 @@ brings f (settles lent furnace labels ranks supports) = false
 brings f (grounds lent furnace l marks) = false
 brings f (blames lent furnace marks) = false
 brings f (lists lent cands l sets) = false
+brings f (asksLeast lent furnace cands) = false
 brings f (reads lent text) = true
 brings f (writes lent out) = false
 brings f (readsText lent text out) = false
@@ -307,6 +320,7 @@ takes f h (settles lent furnace labels ranks supports) = false
 takes f h (grounds lent furnace l marks) = false
 takes f h (blames lent furnace marks) = false
 takes f h (lists lent cands l sets) = false
+takes f h (asksLeast lent furnace cands) = false
 takes f h (reads lent text) = false
 takes f h (writes lent out) = false
 takes f h (readsText lent text out) = false

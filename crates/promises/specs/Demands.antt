@@ -16,7 +16,7 @@ use Rattle.meaning.specs.Rounds.{label}
 use Rattle.meaning.specs.Ground.{reaches, ground, blame}
 use Rattle.meaning.specs.Sets.{chosen, size}
 use Rattle.meaning.specs.SecondWay.{secondWay, rulesOf}
-use Rattle.meaning.specs.Promises.{Earliest, Derived, Forced, TwoWays, Inside, Carries}
+use Rattle.meaning.specs.Promises.{Earliest, Derived, Forced, TwoWays, Inside, Carries, Least}
 use Rattle.literals.specs.Literal.{placeOf}
 use Rattle.literals.specs.Row.{width, rowsLent, numbersAt, ruleAt, decode, Ruled, ruledIn, ofRule, ofRules, withNumber}
 use Rattle.literals.specs.Refusals.{numberOf}
@@ -35,7 +35,9 @@ use Rattle.board.specs.Grounds.{byteOf, groundMarks, blameMarks}
 use Rattle.board.specs.declared.Outcome.the-variants.{Done, Refused}
 use Rattle.board.specs.declared.asking.Standing.{Standing}
 use Rattle.board.specs.declared.asking.Standing.the-variants.{Conflict, Stands, RuledOut, Open}
-use Rattle.smallest.specs.Listing.{placesOf, smallestOn, smallestAnswer, smallestSets}
+use Rattle.candidates.specs.Given.{placesOf, repeats}
+use Rattle.smallest.specs.Listing.{smallestOn, smallestAnswer, smallestSets}
+use Rattle.least.specs.Withdrawing.{leastAnswer}
 use Rattle.dimacs.specs.Form.{isGood, clausesOf, parseText}
 use Rattle.dimacs.specs.Clauses.{oneOf, clauseFaults, clausesFaults}
 use Rattle.dimacs.specs.Reading.{formulaeIn, readAnswer}
@@ -45,7 +47,7 @@ use Rattle.chains.specs.Promises.{Says, Offends}
 use Rattle.text.specs.Reading.{bytesIn, readTextAnswer, readTextBytes}
 use Rattle.text.specs.Adding.{ruledText}
 use Rattle.text.specs.Writing.{textIn, writeTextAnswer, writeTextBytes}
-use Rattle.promises.specs.Calls.{Call, opens, adds, holds, withdraws, asks, asksWhole, explains, settles, grounds, blames, lists, reads, writes, readsText, addsText, writesText}
+use Rattle.promises.specs.Calls.{Call, opens, adds, holds, withdraws, asks, asksWhole, explains, settles, grounds, blames, lists, asksLeast, reads, writes, readsText, addsText, writesText}
 use Rattle.promises.specs.Calls.{World, front, faults, outcome, after, run, Each, formulaIn, rulesAfterAll, notOpen, names, brings, takes, without, Answer, ofAsk, answer}
 
 -- ---- demand 1: "Each refusal is given exactly in the case document 01 names, and leaves each table untouched."
@@ -93,8 +95,8 @@ abbrev pub RefusedUnwritten : Type 0
 RefusedUnwritten = (w : World) (lent : ℕ) (why : Refusal) → Unwritten w lent why
 
 -- what it hands back besides: a rule, in bytes or in text, and a DIMACS text read no rows; a DIMACS text written, and formula text read or written, no
--- bytes; the smallest sets none; "A refused explain hands back the empty part at the table's front, and 65535 for rank and row number", and 0 for the
--- rule's (02, Ticket 8)
+-- bytes; the smallest sets none; the least to withdraw no set, which is 65535 and not the empty one; "A refused explain hands back the empty part at
+-- the table's front, and 65535 for rank and row number", and 0 for the rule's (02, Ticket 8)
 pub record HandedBack (w : World) (lent : ℕ) (why : Refusal) : Type 0 where
   pub rule : (bytes : List ℕ) → outcome w (adds lent bytes) ≡ Refused why → ruled (front w lent) (w .board) bytes .added ≡ 0
   pub explain : (furnace : ℕ) (l : ℤ) → outcome w (explains lent furnace l) ≡ Refused why
@@ -103,6 +105,8 @@ pub record HandedBack (w : World) (lent : ℕ) (why : Refusal) : Type 0 where
       × (explained (front w lent) (w .board) furnace l .start ≡ 0) × (explained (front w lent) (w .board) furnace l .stop ≡ 0)
   pub smallest : (cands : List ℤ) (l : ℤ) (sets : List ℕ) → outcome w (lists lent cands l sets) ≡ Refused why
       → smallestAnswer (front w lent) (w .board) cands l sets .count ≡ 0
+  pub least : (furnace : ℕ) (cands : List ℤ) → outcome w (asksLeast lent furnace cands) ≡ Refused why
+      → leastAnswer (front w lent) (w .board) furnace cands .set ≡ 65535
   pub read : (text : List ℕ) → outcome w (reads lent text) ≡ Refused why → readAnswer (front w lent) (w .board) text .added ≡ 0
   pub write : (out : List ℕ) → outcome w (writes lent out) ≡ Refused why → writeAnswer (front w lent) (w .board) out .bytes ≡ 0
   pub read-text : (text out : List ℕ) → outcome w (readsText lent text out) ≡ Refused why
@@ -526,8 +530,8 @@ pub record SameLiterals (v w : World) : Type 0 where
   pub premises : (furnace : ℕ) → premisesOf v furnace ≡ premisesOf w furnace
   pub literals : (r : ℕ) → r < v .board .rows → numbersAt (v .table) r ≡ numbersAt (w .table) r
 
--- are told the same: every label, rank, support, ground and blame, how each literal stands, the smallest sets, and the DIMACS text; of what explain
--- tells all but the rule's number
+-- are told the same: every label, rank, support, ground and blame, how each literal stands, the smallest sets, the least to withdraw, and the DIMACS
+-- text; of what explain tells all but the rule's number
 pub record SameTold (v w : World) (lent furnace : ℕ) : Type 0 where
   pub settle : (labels ranks supports : List ℕ) → let c = settles lent furnace labels ranks supports in answer v c ≡ answer w c
   pub ask : (l : ℤ) → answer v (asks lent furnace l) ≡ answer w (asks lent furnace l)
@@ -535,6 +539,7 @@ pub record SameTold (v w : World) (lent furnace : ℕ) : Type 0 where
   pub ground : (l : ℤ) (marks : List ℕ) → answer v (grounds lent furnace l marks) ≡ answer w (grounds lent furnace l marks)
   pub blame : (marks : List ℕ) → answer v (blames lent furnace marks) ≡ answer w (blames lent furnace marks)
   pub smallest : (cands : List ℤ) (l : ℤ) (sets : List ℕ) → answer v (lists lent cands l sets) ≡ answer w (lists lent cands l sets)
+  pub least : (cands : List ℤ) → answer v (asksLeast lent furnace cands) ≡ answer w (asksLeast lent furnace cands)
   pub explain : (l : ℤ) → let a = reasoned (front v lent) (v .board) furnace l in let b = reasoned (front w lent) (w .board) furnace l in
       (a .outcome ≡ b .outcome) × (a .rank ≡ b .rank) × (a .row ≡ b .row)
       × (explained (front v lent) (v .board) furnace l ≡ explained (front w lent) (w .board) furnace l)
@@ -718,6 +723,63 @@ pub record SecondCall (w : World) (lent furnace : ℕ) (l : ℤ) : Type 0 where
 
 abbrev pub OldAnswer : Type 0
 OldAnswer = (w : World) (lent furnace : ℕ) (l : ℤ) → SecondCall w lent furnace l
+
+-- ---- 02, Ticket 12: "What is the least we must withdraw?"
+
+-- the set that the call answers with
+abbrev pub leastSet : World → (lent furnace : ℕ) → (cands : List ℤ) → ℕ
+leastSet w lent furnace cands = leastAnswer (front w lent) (w .board) furnace cands .set
+
+-- "the smallest set of them whose withdrawal ends the conflict; of equal size, the one with the smallest number", by the rows in the table and the
+-- premises that the furnace holds
+abbrev pub LeastTells : Type 0
+LeastTells =
+    (w : World) (lent furnace : ℕ) (cands : List ℤ) → outcome w (asksLeast lent furnace cands) ≡ Done
+    → Least (2 * w .board .symbols) (rowsOfWorld w) (premisesOf w furnace) (placesOf cands) (leastSet w lent furnace cands)
+
+-- "the empty set if there is no conflict", and then alone
+abbrev pub EmptySet : Type 0
+EmptySet =
+    (w : World) (lent furnace : ℕ) (cands : List ℤ) → outcome w (asksLeast lent furnace cands) ≡ Done
+    → (leastSet w lent furnace cands ≡ 0) ↔ (conflict (derivedSet w furnace) ≡ false)
+
+-- the calls that withdraw literals from a furnace, one after the other
+abbrev pub withdrawEach : (lent furnace : ℕ) → (gone : List ℤ) → List Call
+withdrawEach lent furnace gone = map (λ l. withdraws lent furnace l) gone
+
+-- every withdrawal is good, and after the last the furnace is in conflict or not, as `left` tells
+pub record Withdrawn (w : World) (lent furnace : ℕ) (gone : List ℤ) (left : Bool) : Type 0 where
+  pub good : Each (λ v c. outcome v c ≡ Done) w (withdrawEach lent furnace gone)
+  pub in-conflict : conflict (derivedSet (run w (withdrawEach lent furnace gone)) furnace) ≡ left
+
+-- once exactly the set's candidates are withdrawn, one after the other, there is no conflict;
+abbrev pub SetEnds : Type 0
+SetEnds =
+    (w : World) (lent furnace : ℕ) (cands : List ℤ) → outcome w (asksLeast lent furnace cands) ≡ Done
+    → Withdrawn w lent furnace (chosen cands (leastSet w lent furnace cands)) false
+
+-- nor if they are in any order, and other candidates with them: any that are different, with all of the set's among them
+abbrev pub MoreEnds : Type 0
+MoreEnds =
+    (w : World) (lent furnace : ℕ) (cands gone : List ℤ) → outcome w (asksLeast lent furnace cands) ≡ Done → repeats (placesOf gone) ≡ false
+    → ((l : ℤ) → In l gone → In l cands) → ((l : ℤ) → In l (chosen cands (leastSet w lent furnace cands)) → In l gone)
+    → Withdrawn w lent furnace gone false
+
+-- once the candidates of a smaller set are withdrawn, one after the other, or those of one of equal size with a smaller number, the conflict is left
+abbrev pub SmallerLeaves : Type 0
+SmallerLeaves =
+    (w : World) (lent furnace : ℕ) (cands : List ℤ) (a : ℕ) → outcome w (asksLeast lent furnace cands) ≡ Done → a < 2 ^ length cands
+    → BySize (size (length cands)) (λ x y. x < y) a (leastSet w lent furnace cands)
+    → Withdrawn w lent furnace (chosen cands a) true
+
+-- "18 exactly when withdrawing all of them leaves the conflict": where the call is refused so it is left, and where it is done it is not. (That the
+-- tests before come first, and no other case, is `RefusedExactly`.)
+pub record Stays (w : World) (lent furnace : ℕ) (cands : List ℤ) : Type 0 where
+  pub refused : numberIn (outcome w (asksLeast lent furnace cands)) ≡ 18 → Withdrawn w lent furnace cands true
+  pub done : outcome w (asksLeast lent furnace cands) ≡ Done → Withdrawn w lent furnace cands false
+
+abbrev pub StaysExactly : Type 0
+StaysExactly = (w : World) (lent furnace : ℕ) (cands : List ℤ) → Stays w lent furnace cands
 
 -- ---- demand 1: a board that the calls made is a good one
 

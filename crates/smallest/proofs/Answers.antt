@@ -1,28 +1,25 @@
 -- What the call answers, by the notes and by the tests that it has made.
 use mathlib.Core.Path.{_≡_, ap, _∙_}
-use mathlib.Core.Bool.{true, false, not}
+use mathlib.Core.Bool.{true, false}
 use mathlib.Core.List.{List, _∷_, _++_}
 use Prim.Native.Nat.{ℕ, suc, _+_, _*_, _≤_, _<_}
 use native.Mathlib.Omega.{arith}
-use borrow.Author.Tests.{le-leb, lt-leb, lt-ltb}
-use lib.Dec.{leb, ltb}
+use borrow.Author.Tests.{le-leb, lt-leb}
 use lib.IntN.{ℤ}
 use lib.ListN.{length, drop}
 use lib.Seq.{sets, sets-eq}
 use Rattle.meaning.specs.Tests.{all, keep, from}
-use Rattle.meaning.proofs.Tests.{all-map, all-imp}
 use Rattle.literals.specs.Literal.{inRange, placeOf}
 use Rattle.literals.specs.declared.refusal.Refusal.{Refusal}
 use Rattle.literals.specs.declared.refusal.Refusal.the-variants.{BadBoard, BadLiteral, BadCandidates, TableTooShort}
 use Rattle.board.specs.Faults.{firstFault, goodBoard}
-use Rattle.board.specs.Changes.{emptyBoard, openFaults, opened}
 use Rattle.board.specs.Settling.{over}
 use Rattle.board.specs.Ranking.{rowsOn}
 use Rattle.board.specs.declared.Board.{Board}
 use Rattle.board.specs.declared.Outcome.{Outcome}
 use Rattle.board.specs.declared.Outcome.the-variants.{Done, Refused}
-use Rattle.board.proofs.Arguments.{place-fits}
-use Rattle.smallest.specs.Listing.{mostCandidates, placesOf, repeats, smallestAt, smallestOn, roomFaults, candidateFaults, listed}
+use Rattle.candidates.specs.Given.{mostCandidates, tooMany, placesOf, repeats}
+use Rattle.smallest.specs.Listing.{smallestAt, smallestOn, roomFaults, candidateFaults, listed}
 use Rattle.smallest.specs.Listing.{smallestFaults, smallestOutcome, smallestAnswer, smallestSets}
 use Rattle.smallest.specs.Search.{notesOf, listedIn, listedBelow}
 use Rattle.smallest.specs.declared.Listing.{Listing}
@@ -70,11 +67,6 @@ module _ (table : List ℤ) (b : Board) (places : List ℕ) (l : ℤ) {notes : L
 
 -- ---- 17, or the candidates' places
 
-pub places-low : (S : ℕ) (cands : List ℤ) → all (inRange S) cands ≡ true → all (λ p. ltb p (2 * S)) (placesOf cands) ≡ true
-places-low S cands e =
-    all-map (λ p. ltb p (2 * S)) placeOf cands
-    ∙ all-imp (inRange S) (λ c. ltb (placeOf c) (2 * S)) cands (λ c m h. lt-ltb (placeOf c) (2 * S) (place-fits S c h)) e
-
 module _ (table : List ℤ) (b : Board) (cands : List ℤ) (l : ℤ) (room : ℕ) where
   pub repeated-fault : repeats (placesOf cands) ≡ true → firstFault (candidateFaults false table b cands l room) ≡ Refused BadCandidates
   repeated-fault e = rw e
@@ -84,11 +76,11 @@ module _ (table : List ℤ) (b : Board) (cands : List ℤ) (l : ℤ) (room : ℕ
   different e = rw e
 
   pub many-fault : mostCandidates < length cands
-      → firstFault (candidateFaults (not (leb (length cands) mostCandidates)) table b cands l room) ≡ Refused BadCandidates
+      → firstFault (candidateFaults (tooMany cands) table b cands l room) ≡ Refused BadCandidates
   many-fault h = rw (lt-leb (length cands) mostCandidates h)
 
   pub not-many : length cands ≤ mostCandidates
-      → firstFault (candidateFaults (not (leb (length cands) mostCandidates)) table b cands l room) ≡ firstFault (candidateFaults false table b cands l room)
+      → firstFault (candidateFaults (tooMany cands) table b cands l room) ≡ firstFault (candidateFaults false table b cands l room)
   not-many h = rw (le-leb (length cands) mostCandidates h)
 
 -- ---- 1, 2, or those
@@ -104,7 +96,7 @@ module _ (table : List ℤ) (b : Board) (cands : List ℤ) (l : ℤ) (lent : Lis
     bad-literal e = rw (good, e)
 
     pub literals-given : all (inRange (b .symbols)) (l ∷ cands) ≡ true
-        → smallestOutcome table b cands l lent ≡ firstFault (candidateFaults (not (leb (length cands) mostCandidates)) table b cands l (length lent))
+        → smallestOutcome table b cands l lent ≡ firstFault (candidateFaults (tooMany cands) table b cands l (length lent))
     unfolding smallestOutcome smallestFaults
     literals-given e = rw (good, e)
 
@@ -113,9 +105,3 @@ module _ (table : List ℤ) (b : Board) (cands : List ℤ) (l : ℤ) (lent : Lis
       → (answer ≡ smallestAnswer table b cands l lent) × (now ≡ smallestSets table b cands l lent)
   unfolding smallestAnswer smallestSets
   contract t = (t .answered, t .written)
-
--- ---- a board just opened
-
-pub opened-blank : (S : ℕ) → 1 ≤ S → S ≤ 200 → opened S .board ≡ emptyBoard S
-unfolding opened openFaults
-opened-blank S low high = rw (le-leb 1 S low, le-leb S 200 high)

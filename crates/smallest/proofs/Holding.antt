@@ -1,5 +1,5 @@
 -- A set's candidates as the flags of furnace 1: the board is good, and the literal stands on it as the set, held alone, has it.
-use mathlib.Core.Path.{_≡_, refl, sym, ap, _∙_, subst}
+use mathlib.Core.Path.{_≡_, refl, sym, ap, _∙_}
 use mathlib.Core.Logic.{_⊎_, inl, inr}
 use mathlib.Core.Bool.{Bool, true, false, _&&_, _||_, or-assoc, or-false}
 use mathlib.Core.List.{List, [], _∷_}
@@ -10,17 +10,16 @@ use lib.Dec.{eqb, leb, ltb}
 use lib.IntN.{ℤ}
 use lib.ListN.{length, set, drop, replicate, length-set, length-replicate, getD-replicate}
 use lib.Seq.{getD-set-same, getD-set-other}
-use borrow.Author.Tests.{eqb-true, eqb-false, eq-eqb, ltb-true}
+use borrow.Author.Tests.{eqb-true, eqb-false, eq-eqb}
 use Rattle.meaning.specs.Tests.{any, all, member}
 use Rattle.meaning.specs.Literals.{has}
 use Rattle.meaning.specs.Rounds.{derived}
 use Rattle.meaning.specs.Sets.{chosen}
 use Rattle.meaning.specs.Smallest.{alone, byAlone}
-use Rattle.meaning.proofs.Tests.{true-or-false, or-right, both-true, and-intro, false-of, clash, in-at, all-at, member-in}
+use Rattle.meaning.proofs.Tests.{true-or-false, or-right, both-true, and-intro, false-of, clash, member-in}
 use Rattle.meaning.proofs.Tables.{getD-tabulate}
 use Rattle.meaning.proofs.Literals.{has-below}
 use Rattle.meaning.proofs.Growth.{same-known}
-use Rattle.meaning.proofs.Sets.{chosen-are}
 use Rattle.literals.specs.Literal.{inRange, placeOf}
 use Rattle.literals.specs.Row.{mostRules, rowsLent, rowsSound}
 use Rattle.board.specs.Furnaces.{isFurnace, heldBy}
@@ -29,6 +28,7 @@ use Rattle.board.specs.Ranking.{rowsOn}
 use Rattle.board.specs.Asking.{askFaults, standingWhole, askedWhole}
 use Rattle.board.specs.declared.Board.{Board}
 use Rattle.board.proofs.Goodness.{good-is}
+use Rattle.candidates.proofs.Places.{chosen-low}
 use Rattle.smallest.specs.Search.{holding, aloneOn}
 
 -- ---- the flags
@@ -74,13 +74,6 @@ none-beyond (x ∷ flags) zero f = rw (f 0 zero-le) (none-beyond flags zero (λ 
 none-beyond (x ∷ flags) (suc n) f = none-beyond flags n (λ p l. f (suc p) (omega arith))
 
 -- ---- the board
-
--- the candidates that a set has are candidates
-chosen-low : (n : ℕ) (cands : List ℕ) (m p : ℕ) → all (λ q. ltb q n) cands ≡ true → In p (chosen cands m) → p < n
-chosen-low n cands m p low h =
-    let r = chosen-are cands m p .0 h in
-    let i : In p cands = subst (λ (c : ℕ). In c cands) (r .2) (in-at cands (r .0) 0 (r .1)) in
-    ltb-true p n (all-at (λ q. ltb q n) low i)
 
 module _ (table : List ℤ) (b : Board) (cands : List ℕ) (m : ℕ) (low : all (λ p. ltb p (2 * b .symbols)) cands ≡ true) where
   fits : premisesFit (aloneOn b cands m) ≡ true

@@ -1,45 +1,22 @@
 -- One turn of each loop: what is left to hold, to look at, to count and to write.
-use mathlib.Core.Path.{_≡_, refl, sym, ap, ap₂, _∙_}
-use mathlib.Core.Bool.{Bool, true, false, cond, _&&_, _||_}
-use mathlib.Core.List.{List, [], _∷_, _++_, map}
-use Prim.Native.Nat.{ℕ, suc, _+_, _-_, _/_, _%_, _^_, _≤_, _<_}
+use mathlib.Core.Path.{_≡_, refl, sym, ap, _∙_}
+use mathlib.Core.Bool.{Bool, false, _||_}
+use mathlib.Core.List.{List, [], _∷_, _++_}
+use Prim.Native.Nat.{ℕ, suc, _+_, _-_, _^_, _≤_, _<_}
 use native.Mathlib.Omega.{arith}
 use native.Mathlib.Numerals.{add-one}
 use lib.Dec.{eqb}
-use lib.ListN.{length, getD, set, take, drop, replicate, length-append, drop-of-length-le}
-use lib.Seq.{drop-cons, sets, length-sets}
-use Rattle.meaning.specs.Tests.{any, all, member, keep, from}
+use lib.ListN.{length, getD, set, take, replicate, length-append}
+use lib.Seq.{sets, length-sets}
+use Rattle.meaning.specs.Tests.{any, all, keep, from}
 use Rattle.meaning.specs.BySize.{ofSize}
-use Rattle.meaning.specs.Sets.{odd, chosen, size, setsOf}
+use Rattle.meaning.specs.Sets.{chosen, size, setsOf}
 use Rattle.meaning.proofs.Tables.{sets-append}
 use Rattle.meaning.proofs.BySize.{tally, count-turn, length-from, from-at, ofSize-more}
 use Rattle.board.specs.declared.Board.{Board}
-use Rattle.smallest.specs.Listing.{repeats}
 use Rattle.smallest.specs.Search.{holding, aloneOn, listedIn}
 
--- ---- a list filled with what is made of another's elements
-
-pub map-filled : {A B : Type 0} (f : A → B) (xs : List A) (d : A) (e : B) (ys : List B) → length ys ≡ length xs
-    → ((i : ℕ) → i < length xs → getD ys i e ≡ f (getD xs i d)) → ys ≡ map f xs
-map-filled f [] d e [] l h = refl
-map-filled f [] d e (y ∷ ys) l h = absurd (omega arith)
-map-filled f (x ∷ xs) d e [] l h = absurd (omega arith)
-map-filled f (x ∷ xs) d e (y ∷ ys) l h =
-    ap₂ (λ a b. a ∷ b) (h 0 (omega arith)) (map-filled f xs d e ys (omega arith) (λ i k. h (suc i) (omega arith)))
-
--- ---- the candidates of a set, from candidate i on
-
-module _ (places : List ℕ) (i rest : ℕ) (held : List Bool) where
-  pub hold-one : i < length places → odd rest ≡ true
-      → holding (set held (getD places i 0) true) (chosen (drop (i + 1) places) (rest / 2)) ≡ holding held (chosen (drop i places) rest)
-  hold-one l e = rw (drop-cons places i 0 l, e, add-one i)
-
-  pub hold-none : i < length places → odd rest ≡ false
-      → holding held (chosen (drop (i + 1) places) (rest / 2)) ≡ holding held (chosen (drop i places) rest)
-  hold-none l e = rw (drop-cons places i 0 l, e, add-one i)
-
-  pub hold-end : length places ≤ i → held ≡ holding held (chosen (drop i places) rest)
-  hold-end l = rw (drop-of-length-le places {i = i} l)
+-- ---- the board
 
 -- the board with flags that are the set's
 pub board-alone : (b : Board) (cands : List ℕ) (m : ℕ) (first : List Bool) → first ≡ holding (replicate 400 false) (chosen cands m)
@@ -49,32 +26,7 @@ board-alone b cands m first e =
     ap {B = Board}
     (λ (flags : List Bool). record { symbols = b .symbols; rows = b .rows; rules = b .rules; first = flags; second = replicate 400 false }) e
 
--- ---- the elements from i on
-
-module _ {A : Type 0} (test : A → Bool) (xs : List A) (i : ℕ) where
-  pub any-drop : (d : A) → i < length xs → any test (drop i xs) ≡ (test (getD xs i d) || any test (drop (i + 1) xs))
-  any-drop d l = rw (drop-cons xs i d l, add-one i)
-
-  pub any-past : length xs ≤ i → any test (drop i xs) ≡ false
-  any-past l = rw (drop-of-length-le xs {i = i} l)
-
-  pub all-drop : (d : A) → i < length xs → all test (drop i xs) ≡ (test (getD xs i d) && all test (drop (i + 1) xs))
-  all-drop d l = rw (drop-cons xs i d l, add-one i)
-
-  pub all-past : length xs ≤ i → all test (drop i xs) ≡ true
-  all-past l = rw (drop-of-length-le xs {i = i} l)
-
-module _ (places : List ℕ) (i : ℕ) where
-  pub repeats-drop : i < length places → repeats (drop i places) ≡ (member (getD places i 0) (drop (i + 1) places) || repeats (drop (i + 1) places))
-  repeats-drop l = rw (drop-cons places i 0 l, add-one i)
-
-  pub repeats-past : length places ≤ i → repeats (drop i places) ≡ false
-  repeats-past l = rw (drop-of-length-le places {i = i} l)
-
 -- ---- the numbers from i on
-
-pub sub-none : (n : ℕ) → n - 0 ≡ n
-sub-none n = omega arith
 
 module _ (test : ℕ → Bool) (n i : ℕ) where
   pub any-next : i < n → any test (from i (n - i)) ≡ (test i || any test (from (i + 1) (n - (i + 1))))
@@ -82,14 +34,6 @@ module _ (test : ℕ → Bool) (n i : ℕ) where
 
   pub any-end : n ≤ i → any test (from i (n - i)) ≡ false
   any-end l = let e : n - i ≡ 0 = omega arith in rw e
-
--- ---- the size
-
-pub size-next : (n i rest : ℕ) → i < n → size (n - i) rest ≡ rest % 2 + size (n - (i + 1)) (rest / 2)
-size-next n i rest l = let e : n - i ≡ suc (n - (i + 1)) = omega arith in rw e
-
-pub size-end : (n i rest : ℕ) → n ≤ i → size (n - i) rest ≡ 0
-size-end n i rest l = let e : n - i ≡ 0 = omega arith in rw e
 
 -- ---- the listed sets
 

@@ -1,4 +1,3 @@
 -- 02, Ticket 10, "The shift desk's smallest sets": the call, and how the sets are searched.
 pub mod Listing
 pub mod Search
-pub mod Promises

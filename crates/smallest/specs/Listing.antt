@@ -1,12 +1,12 @@
 -- "Given at most 12 candidate literals, all different, and a literal to explain, it lists each set of candidates that, held alone under the table's
 -- rules, derives the literal without conflict, while no smaller set inside it derives the literal." The list is `meaning`'s; here is the call.
 use Prim.Native.Nat.{ℕ, _*_}
-use mathlib.Core.Bool.{Bool, false, not, _||_}
-use mathlib.Core.List.{List, [], _∷_, map}
+use mathlib.Core.Bool.{Bool, not, _||_}
+use mathlib.Core.List.{List, [], _∷_}
 use lib.Dec.{leb}
 use lib.IntN.{ℤ}
 use lib.ListN.{length}
-use Rattle.meaning.specs.Tests.{all, member}
+use Rattle.meaning.specs.Tests.{all}
 use Rattle.meaning.specs.Smallest.{smallest}
 use Rattle.literals.specs.Literal.{inRange, placeOf}
 use Rattle.literals.specs.declared.refusal.Refusal.the-variants.{BadBoard, BadLiteral, BadCandidates, TableTooShort}
@@ -15,19 +15,8 @@ use Rattle.board.specs.Ranking.{rowsOn}
 use Rattle.board.specs.Settling.{over}
 use Rattle.board.specs.declared.Board.{Board}
 use Rattle.board.specs.declared.Outcome.{Outcome}
+use Rattle.candidates.specs.Given.{tooMany, placesOf, repeats}
 use Rattle.smallest.specs.declared.Listing.{Listing}
-
--- "at most 12 candidate literals"
-abbrev pub mostCandidates : ℕ
-mostCandidates = 12
-
-abbrev pub placesOf : List ℤ → List ℕ
-placesOf cands = map placeOf cands
-
--- some place stands twice
-abbrev pub repeats : List ℕ → Bool
-repeats [] = false
-repeats (p ∷ places) = member p places || repeats places
 
 -- the list, on a board, of candidates by their places: "Premises held on the board don't count, and no furnace is named."
 unfoldable pub smallestAt : List ℤ → Board → (places : List ℕ) → ℤ → List ℕ
@@ -50,7 +39,7 @@ unfoldable pub smallestFaults : List ℤ → Board → (cands : List ℤ) → �
 smallestFaults table b cands l room =
     record { given = not (goodBoard table b); refusal = BadBoard }
     ∷ record { given = not (all (inRange (b .symbols)) (l ∷ cands)); refusal = BadLiteral }
-    ∷ candidateFaults (not (leb (length cands) mostCandidates)) table b cands l room
+    ∷ candidateFaults (tooMany cands) table b cands l room
 
 unfoldable pub smallestOutcome : List ℤ → Board → (cands : List ℤ) → ℤ → (sets : List ℕ) → Outcome
 smallestOutcome table b cands l sets = firstFault (smallestFaults table b cands l (length sets))

@@ -1,30 +1,29 @@
 // The call: its tests in the order of the documents, then the search, and what it lists, counted and written.
 
 ghost use mathlib.Core.Path.{_≡_};
-ghost use mathlib.Core.Bool.{true, false, not};
+ghost use mathlib.Core.Bool.{true, false};
 ghost use mathlib.Core.List.{_∷_};
 ghost use Prim.Native.Nat.{_*_, _^_, _≤_};
 ghost use lib.ListN.{length};
-ghost use lib.Dec.{leb, ltb};
+ghost use lib.Dec.{ltb};
 ghost use Rattle.meaning.specs.Tests.{all};
 ghost use Rattle.literals.specs.Literal.{inRange};
 ghost use Rattle.board.specs.Faults.{goodBoard};
-ghost use Rattle.board.specs.Changes.{emptyBoard};
-ghost use Rattle.smallest.specs.Listing.{mostCandidates, smallestAnswer, smallestSets};
+ghost use Rattle.candidates.specs.Given.{mostCandidates, tooMany};
+ghost use Rattle.smallest.specs.Listing.{smallestAnswer, smallestSets};
 ghost use Rattle.smallest.specs.Search.{placedAnswer, placedSets, givenAnswer, givenSets};
 use crate::Listing;
-use crate::MOST_CANDIDATES;
-use crate::candidates::all_literals;
-use crate::candidates::repeated;
-use crate::candidates::write_places;
 use crate::search::note_sets;
-use crate::search::power;
 use crate::writing::count_listed;
 use crate::writing::write_listed;
 use board::Board;
 use board::Outcome;
-use board::changes::open;
 use board::testing::good;
+use candidates::MOST_CANDIDATES;
+use candidates::given::all_literals;
+use candidates::given::repeated;
+use candidates::given::write_places;
+use candidates::sets::power;
 use literals::refusal::Refusal;
 
 fn refused(why: Refusal) -> Listing
@@ -75,23 +74,21 @@ fn list(board: Board, table: &[i16], places: &[usize], l: i16, sets: &mut [u16])
     list_noted(board, table, places, l, &mut notes[..all], sets)
 }
 
-// Lists the smallest sets of candidates that are literals of the board, no more than there may be. `blank` is a board of as many symbols with no
-// rows: it places them without a test of the table for each.
+// Lists the smallest sets of candidates that are literals of the board, no more than there may be.
 fn list_placed(
     board: Board,
-    blank: Board,
     table: &[i16],
     candidates: &[i16],
     l: i16,
     places: &mut [usize],
     sets: &mut [u16],
 ) -> Listing
-    requires { ⌜ (goodBoard (now table) board ≡ true) × (goodBoard (now table) blank ≡ true) × (blank .symbols ≡ board .symbols) ⌝ }
-    requires { ⌜ (all (inRange (board .symbols)) (l ∷ now candidates) ≡ true) × (length (now candidates) ≤ mostCandidates) × (length (now places) ≡ length (now candidates)) ⌝ }
+    requires { ⌜ (goodBoard (now table) board ≡ true) × (all (inRange (board .symbols)) (l ∷ now candidates) ≡ true) ⌝ }
+    requires { ⌜ (length (now candidates) ≤ mostCandidates) × (length (now places) ≡ length (now candidates)) ⌝ }
     ensures { λ r. ⌜ r ≡ givenAnswer false (now (table .entry)) board (now (candidates .entry)) l (now (sets .entry)) ⌝ }
     ensures { λ _. ⌜ now (sets .exit) ≡ givenSets false (now (table .entry)) board (now (candidates .entry)) l (now (sets .entry)) ⌝ }
 {
-    write_places(blank, table, candidates, places);
+    write_places(candidates, places);
     if repeated(places) {
         return refused(Refusal::BadCandidates);
     }
@@ -99,34 +96,17 @@ fn list_placed(
 }
 
 // The same, with room for the places, of any number of candidates.
-fn list_given(
-    board: Board,
-    blank: Board,
-    table: &[i16],
-    candidates: &[i16],
-    l: i16,
-    sets: &mut [u16],
-) -> Listing
-    requires { ⌜ (goodBoard (now table) board ≡ true) × (goodBoard (now table) blank ≡ true) × (blank .symbols ≡ board .symbols) ⌝ }
-    requires { ⌜ all (inRange (board .symbols)) (l ∷ now candidates) ≡ true ⌝ }
-    ensures { λ r. ⌜ r ≡ givenAnswer (not (leb (length (now (candidates .entry))) mostCandidates)) (now (table .entry)) board (now (candidates .entry)) l (now (sets .entry)) ⌝ }
-    ensures { λ _. ⌜ now (sets .exit) ≡ givenSets (not (leb (length (now (candidates .entry))) mostCandidates)) (now (table .entry)) board (now (candidates .entry)) l (now (sets .entry)) ⌝ }
+fn list_given(board: Board, table: &[i16], candidates: &[i16], l: i16, sets: &mut [u16]) -> Listing
+    requires { ⌜ (goodBoard (now table) board ≡ true) × (all (inRange (board .symbols)) (l ∷ now candidates) ≡ true) ⌝ }
+    ensures { λ r. ⌜ r ≡ givenAnswer (tooMany (now (candidates .entry))) (now (table .entry)) board (now (candidates .entry)) l (now (sets .entry)) ⌝ }
+    ensures { λ _. ⌜ now (sets .exit) ≡ givenSets (tooMany (now (candidates .entry))) (now (table .entry)) board (now (candidates .entry)) l (now (sets .entry)) ⌝ }
 {
     let n = candidates.len();
     if MOST_CANDIDATES < n {
         return refused(Refusal::BadCandidates);
     }
     let mut places = [0usize; 12];
-    list_placed(board, blank, table, candidates, l, &mut places[..n], sets)
-}
-
-// A board of so many symbols, with nothing on it.
-fn blank_of(symbols: usize) -> Board
-    requires { ⌜ (1 ≤ symbols) × (symbols ≤ 200) ⌝ }
-    ensures { λ r. ⌜ r ≡ emptyBoard symbols ⌝ }
-{
-    let opened = open(symbols);
-    opened.board
+    list_placed(board, table, candidates, l, &mut places[..n], sets)
 }
 
 // Lists the smallest sets of candidates that carry a literal.
@@ -143,9 +123,11 @@ pub fn smallest(
     if !good(board, table) {
         return refused(Refusal::BadBoard);
     }
-    let blank = blank_of(board.symbols);
-    if !all_literals(blank, table, l, candidates) {
+    if !literals::in_range(l, board.symbols) {
         return refused(Refusal::BadLiteral);
     }
-    list_given(board, blank, table, candidates, l, sets)
+    if !all_literals(board.symbols, candidates) {
+        return refused(Refusal::BadLiteral);
+    }
+    list_given(board, table, candidates, l, sets)
 }

@@ -6,16 +6,17 @@ ghost use Prim.Native.Nat.{_*_, _^_, _<_, _≤_};
 ghost use lib.ListN.{length};
 ghost use lib.Dec.{ltb};
 ghost use Rattle.meaning.specs.Tests.{all};
-ghost use Rattle.meaning.specs.Sets.{bit};
 ghost use Rattle.literals.specs.Literal.{inRange, placeOf};
 ghost use Rattle.board.specs.Faults.{goodBoard};
 ghost use Rattle.board.specs.Ranking.{rowsOn};
 ghost use Rattle.board.specs.Asking.{askedWhole};
-ghost use Rattle.smallest.specs.Listing.{mostCandidates};
+ghost use Rattle.candidates.specs.Given.{mostCandidates};
 ghost use Rattle.smallest.specs.Search.{aloneOn, notesOf, stopsFewer, standingNote};
 use board::Board;
 use board::asking::Standing;
 use board::asking::ask_whole;
+use candidates::sets::has;
+use candidates::sets::power;
 
 // The notes: the search goes on beyond the set, or stops at it, or stops at it and the set is listed.
 pub const GOES_ON: u8 = 0;
@@ -46,22 +47,6 @@ fn alone(board: Board, places: &[usize], set: usize) -> Board
         first,
         second: [false; 400],
     }
-}
-
-// Whether the set has the candidate i.
-fn has(set: usize, i: usize) -> bool
-    requires { ⌜ i < 64 ⌝ }
-    ensures { λ r. ⌜ r ≡ bit i set ⌝ }
-{
-    (set >> i) & 1 == 1
-}
-
-// How many sets n candidates have, which is the number of the set of candidate n alone.
-pub fn power(n: usize) -> usize
-    requires { ⌜ n ≤ mostCandidates ⌝ }
-    ensures { λ r. ⌜ r ≡ 2 ^ n ⌝ }
-{
-    1 << n
 }
 
 // Whether the search stops at a set with one candidate fewer.

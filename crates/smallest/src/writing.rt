@@ -8,9 +8,10 @@ ghost use lib.ListN.{length};
 ghost use lib.Seq.{sets};
 ghost use Rattle.meaning.specs.Tests.{keep, from};
 ghost use Rattle.meaning.specs.Sets.{size};
-ghost use Rattle.smallest.specs.Listing.{mostCandidates};
+ghost use Rattle.candidates.specs.Given.{mostCandidates};
 ghost use Rattle.smallest.specs.Search.{listedIn, listedOfSize, listedBelow};
 use crate::search::LISTED;
+use candidates::sets::size_of;
 
 // How many sets are listed.
 pub fn count_listed(notes: &[u8]) -> usize
@@ -23,22 +24,6 @@ pub fn count_listed(notes: &[u8]) -> usize
             count += 1;
         }
         set += 1;
-    }
-    count
-}
-
-// How many of n candidates a set has.
-fn size_of(set: usize, n: usize) -> usize
-    requires { ⌜ n ≤ mostCandidates ⌝ }
-    ensures { λ r. ⌜ r ≡ size n set ⌝ }
-{
-    let mut count = 0;
-    let mut rest = set;
-    let mut i = 0;
-    while i < n {
-        count += rest % 2;
-        rest = rest / 2;
-        i += 1;
     }
     count
 }

@@ -18,7 +18,7 @@ use Rattle.board.specs.Ranking.{rowsOn}
 use Rattle.board.specs.Asking.{askFaults, standing, asked, standingWhole, askedWhole}
 use Rattle.board.specs.declared.asking.Standing.{Standing}
 use Rattle.board.proofs.TwoSets.{held-long}
-use Rattle.board.proofs.Arguments.{range-facts}
+use Rattle.literals.proofs.Arguments.{range-facts}
 use Rattle.board.proofs.Placing.{PlacedAt, placed-at, placed-refused}
 use Rattle.board.proofs.Lending.{rows-fit, RanksIn, ranks-room, ranks-long, ranks-back}
 use Rattle.board.proofs.asking.answer.Statement.{statement}

@@ -9,7 +9,7 @@ use Rattle.literals.specs.Literal.{placeOf}
 use Rattle.literals.proofs.Signed.{back-abs}
 use Rattle.literals.proofs.Places.{place-bound}
 use Rattle.findings.proofs.RankTables.{below-rank}
-use Rattle.board.proofs.Arguments.{place-is}
+use Rattle.literals.proofs.Arguments.{place-is}
 use Rattle.board.proofs.asking.is_ranked.Statement.{statement}
 use Rattle.board.proofs.asking.is_ranked.Tie as tie
 

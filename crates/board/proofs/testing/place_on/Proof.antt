@@ -11,7 +11,7 @@ use Rattle.board.specs.Faults.{goodBoard}
 use Rattle.board.specs.Placing.{placed}
 use Rattle.board.specs.declared.testing.Placed.the-variants as placing
 use Rattle.board.proofs.Goodness.{good-is}
-use Rattle.board.proofs.Arguments.{place-is, range-facts, range-is}
+use Rattle.literals.proofs.Arguments.{place-is, range-facts, range-is}
 use Rattle.board.proofs.testing.place_on.Statement.{statement}
 use Rattle.board.proofs.testing.place_on.Tie as tie
 

@@ -42,7 +42,7 @@ list-placed-requires c κs =
     let s = start e in
     let a = s .args in
     let given = ap (λ (z : ℤ). all (inRange (a .board .symbols)) (z ∷ a .candidates .now)) (toZ-ofZ (s .fits .l)) ∙ s .pre .1 in
-    (s .pre .0, (given, omega arith, part e))
+    ((s .pre .0, given), (omega arith, part e))
 
 returns-2 : tie.Need-returns-2
 returns-2 c =
@@ -52,11 +52,11 @@ returns-2 c =
     let a = s .args in
     let told : ℤ → Type 0 = λ z.
     Told (firstFault (candidateFaults false (a .table .now) (a .board) (a .candidates .now) z (length (a .sets .now))))
-    (smallestOn (a .table .now) (a .board) (a .candidates .now) z) (a .sets .now) (n .list-placed .last .1 .1 .1 .1 .1 .1 .0) (n .list-placed .result) in
+    (smallestOn (a .table .now) (a .board) (a .candidates .now) z) (a .sets .now) (n .list-placed .last .1 .1 .1 .1 .1 .0) (n .list-placed .result) in
     let as-read = subst told (toZ-ofZ (s .fits .l)) record { answered = n .list-placed .ensures .0; written = n .list-placed .ensures .1 } in
     let by = not-many (a .table .now) (a .board) (a .candidates .now) (a .l) (length (a .sets .now)) (omega arith) in
     let list = smallestOn (a .table .now) (a .board) (a .candidates .now) (a .l) in
-    let t = subst (λ (o : Outcome). Told o list (a .sets .now) (n .list-placed .last .1 .1 .1 .1 .1 .1 .0) (n .list-placed .result)) (sym by) as-read in
+    let t = subst (λ (o : Outcome). Told o list (a .sets .now) (n .list-placed .last .1 .1 .1 .1 .1 .0) (n .list-placed .result)) (sym by) as-read in
     (t .answered, t .written)
 
 pub list-given-spec : {M : Type 1} → statement M

@@ -14,8 +14,11 @@ use Rattle.meaning.proofs.Tests.{both-true}
 use Rattle.literals.specs.Literal.{inRange, placeOf}
 use Rattle.literals.specs.declared.refusal.Refusal.the-variants.{BadCandidates}
 use Rattle.board.specs.declared.Outcome.{Outcome}
-use Rattle.smallest.specs.Listing.{placesOf, repeats, smallestAt, smallestOn}
-use Rattle.smallest.proofs.Answers.{Told, byRoom, told-refused, places-low, repeated-fault, different}
+use Rattle.board.proofs.Goodness.{good-is}
+use Rattle.candidates.specs.Given.{placesOf, repeats}
+use Rattle.candidates.proofs.Places.{places-low, in-range-more}
+use Rattle.smallest.specs.Listing.{smallestAt, smallestOn}
+use Rattle.smallest.proofs.Answers.{Told, byRoom, told-refused, repeated-fault, different}
 use Rattle.smallest.proofs.call.list_placed.Statement.{statement}
 use Rattle.smallest.proofs.call.list_placed.Tie as tie
 
@@ -27,7 +30,7 @@ abbrev start : tie.After-write-places → tie.Start
 start c = c .before .before .before .before
 
 abbrev places : tie.After-write-places → List ℕ
-places c = c .write-places .last .1 .1 .1 .0
+places c = c .write-places .last .1 .0
 
 placed : (c : tie.After-write-places) → places c ≡ placesOf (start c .args .candidates .now)
 placed c = c .write-places .ensures
@@ -35,7 +38,7 @@ placed c = c .write-places .ensures
 -- the literal to explain, and the candidates, are literals of the board
 ranges : (s : tie.Start) → let a = s .args in
     (inRange (a .board .symbols) (a .l) ≡ true) × (all (inRange (a .board .symbols)) (a .candidates .now) ≡ true)
-ranges s = let a = s .args in both-true (inRange (a .board .symbols) (a .l)) (all (inRange (a .board .symbols)) (a .candidates .now)) (s .pre .1 .0)
+ranges s = let a = s .args in both-true (inRange (a .board .symbols) (a .l)) (all (inRange (a .board .symbols)) (a .candidates .now)) (s .pre .0 .1)
 
 repeats-is : (c : tie.After-repeated) → repeats (placesOf (start (placing c) .args .candidates .now)) ≡ c .repeated .result
 repeats-is c = sym (c .repeated .ensures ∙ ap repeats (placed (placing c)))
@@ -44,7 +47,8 @@ write-places-requires : tie.Need-write-places-requires
 write-places-requires c κs =
     let s = c .before .before .before in
     let a = s .args in
-    (s .pre .0 .1, ap (λ (S : ℕ). all (inRange S) (a .candidates .now)) (s .pre .0 .2) ∙ ranges s .1, s .pre .1 .2)
+    let g = good-is (a .table .now) (a .board) (s .pre .0 .0) in
+    (in-range-more (a .board .symbols) 200 (a .candidates .now) (g .sound .symbols) (ranges s .1), s .pre .1 .1)
 
 returns : tie.Need-returns
 returns c =
@@ -61,7 +65,7 @@ list-requires c κs =
     let a = s .args in (
       (s .pre .0 .0, ap (inRange (a .board .symbols)) (toZ-ofZ (s .fits .l)) ∙ ranges s .0),
       (
-        omega (arith, ap length (placed w), length-map (a .candidates .now) placeOf, s .pre .1 .1),
+        omega (arith, ap length (placed w), length-map (a .candidates .now) placeOf, s .pre .1 .0),
         ap (all (λ p. ltb p (2 * a .board .symbols))) (placed w) ∙ places-low (a .board .symbols) (a .candidates .now) (ranges s .1),
       ),
     )

@@ -1,5 +1,5 @@
 -- `alone` meets its contract. The invariant: with what is left of the set from candidate i on, the flags are the set's.
-use mathlib.Core.Path.{_≡_, refl, ap, _∙_}
+use mathlib.Core.Path.{_≡_, refl, sym, ap, _∙_}
 use mathlib.Core.Logic.{⊎-elim}
 use mathlib.Core.Bool.{Bool, false}
 use mathlib.Core.List.{List}
@@ -11,7 +11,8 @@ use lib.ListN.{length, getD, drop, replicate, length-set}
 use Rattle.meaning.specs.Sets.{chosen}
 use Rattle.meaning.proofs.Tests.{in-at, all-at}
 use Rattle.smallest.specs.Search.{holding}
-use Rattle.smallest.proofs.Turns.{hold-one, hold-none, hold-end, board-alone}
+use Rattle.candidates.proofs.Turns.{chosen-one, chosen-next, chosen-end}
+use Rattle.smallest.proofs.Turns.{board-alone}
 use Rattle.smallest.proofs.search.alone.Statement.{statement}
 use Rattle.smallest.proofs.search.alone.Tie as tie
 
@@ -39,13 +40,13 @@ loop-again c =
       omega arith,
       ap length (w .2) ∙ simp length-set (l .loop .inv .1),
       ap (λ (held : List Bool). holding held (chosen (drop (i + 1) places) (l .loop .rest / 2))) (w .2)
-          ∙ hold-one places i (l .loop .rest) (l .loop .first) (omega arith) (eq-eqb _ 1 (w .0 .taken)) ∙ l .loop .inv .2,
+          ∙ sym (ap (holding (l .loop .first)) (chosen-one places i (l .loop .rest) (omega arith) (eq-eqb _ 1 (w .0 .taken)))) ∙ l .loop .inv .2,
     ))
     (λ w. (
       omega arith,
       ap length (w .1) ∙ l .loop .inv .1,
       ap (λ (held : List Bool). holding held (chosen (drop (i + 1) places) (l .loop .rest / 2))) (w .1)
-          ∙ hold-none places i (l .loop .rest) (l .loop .first) (omega arith) (ne-eqb _ 1 (w .0 .left)) ∙ l .loop .inv .2,
+          ∙ sym (ap (holding (l .loop .first)) (chosen-next places i (l .loop .rest) (omega arith) (ne-eqb _ 1 (w .0 .left)))) ∙ l .loop .inv .2,
     ))
     (c .if1 .came)
 
@@ -54,7 +55,7 @@ returns c =
     let l = c .before in
     let a = l .before .args in
     board-alone (a .board) (a .places .now) (a .set) (l .loop .first)
-    (hold-end (a .places .now) (l .loop .i) (l .loop .rest) (l .loop .first) (omega arith) ∙ l .loop .inv .2)
+    (sym (ap (holding (l .loop .first)) (chosen-end (a .places .now) (l .loop .i) (l .loop .rest) (omega arith))) ∙ l .loop .inv .2)
 
 pub alone-spec : {M : Type 1} → statement M
 alone-spec =

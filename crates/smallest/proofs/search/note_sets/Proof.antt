@@ -4,7 +4,6 @@ use mathlib.Core.Bool.{true, cond}
 use Prim.Native.Nat.{ℕ, _*_, _-_, _^_, _≤_, _<_}
 use native.Mathlib.Nat.{not-suc-le-zero}
 use native.Mathlib.Omega.{arith}
-use borrow.Author.Tests.{lt-ltb, ltb-true}
 use mir.Syntax.{w16}
 use mir.Val.{toZ}
 use mir.Facts.{toZ-ofZ}
@@ -12,12 +11,12 @@ use lib.Dec.{ltb}
 use lib.IntN.{ℤ}
 use lib.ListN.{length, getD, length-set}
 use Rattle.meaning.specs.Tests.{all}
-use Rattle.meaning.proofs.Tests.{all-imp}
 use Rattle.meaning.proofs.Tables.{filled-more, tabulate-ext}
 use Rattle.literals.specs.Literal.{inRange, placeOf}
 use Rattle.literals.proofs.Signed.{back}
 use Rattle.board.specs.Ranking.{rowsOn}
 use Rattle.board.proofs.Goodness.{good-is}
+use Rattle.candidates.proofs.Places.{low-more}
 use Rattle.smallest.specs.Search.{noteOf, notesOf, stopsFewer, standingNote}
 use Rattle.smallest.proofs.Holding.{asked-alone}
 use Rattle.smallest.proofs.Notes.{note-is}
@@ -40,8 +39,7 @@ low : (s : tie.Start Inv-loop μ-loop) → all (λ p. ltb p 400) (s .args .place
 low s =
     let a = s .args in
     let high = good-is (a .table .now) (a .board) (s .pre .0 .0) .sound .symbols in
-    all-imp (λ p. ltb p (2 * a .board .symbols)) (λ p. ltb p 400) (a .places .now)
-    (λ p m e. lt-ltb p 400 (omega (arith, ltb-true p (2 * a .board .symbols) e, high))) (s .pre .1 .1)
+    low-more (2 * a .board .symbols) 400 (a .places .now) (omega arith) (s .pre .1 .1)
 
 loop-again : tie.Need-loop-again Inv-loop μ-loop
 loop-again c =

@@ -12,7 +12,8 @@ use Rattle.meaning.specs.Tests.{any, from}
 use Rattle.meaning.specs.Sets.{bit}
 use Rattle.meaning.proofs.Sets.{bit-low}
 use Rattle.smallest.specs.Search.{stopsFewer}
-use Rattle.smallest.proofs.Turns.{sub-none, any-next, any-end}
+use Rattle.candidates.proofs.Turns.{sub-none}
+use Rattle.smallest.proofs.Turns.{any-next, any-end}
 use Rattle.smallest.proofs.search.stops_fewer.Statement.{statement}
 use Rattle.smallest.proofs.search.stops_fewer.Tie as tie
 

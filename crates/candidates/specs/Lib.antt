@@ -1,0 +1,3 @@
+-- 02, Tickets 10 and 12: the candidates that a call is given.
+pub mod Given
+pub mod Promises
