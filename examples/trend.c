@@ -165,6 +165,7 @@ static const char *refusal_word(uint8_t refusal) {
         [TUP_BAD_FURNACE] = "no such furnace",
         [TUP_BAD_CANDIDATES] = "bad candidates",
         [TUP_CONFLICT_STAYS] = "conflict stays",
+        [TUP_BAD_POSITIONS] = "bad positions",
     };
     bool is_known = refusal < sizeof known / sizeof known[0] && known[refusal];
     return is_known ? known[refusal] : "unknown refusal";

@@ -1,14 +1,15 @@
 /* Tupahineka: a proved truth-maintenance board behind a trend screen. The nine calls of document 01 for C and C++, with the places of
  * document 02's first ticket, the two calls for DIMACS text of its second, blame as its fourth has it, the three calls for formulae in plain text
  * of its fifth, the two furnaces of its sixth, without refusal 14, which its seventh took out, with the number of its rule in each row, as its
- * eighth asks, the shift desk's smallest sets of its tenth, ask by symbol, with the old answer as a call of its own, as its eleventh asks, and the
- * foreman's least to withdraw of its twelfth.
+ * eighth asks, the shift desk's smallest sets of its tenth, ask by symbol, with the old answer as a call of its own, as its eleventh asks, the
+ * foreman's least to withdraw of its twelfth, and the valves with several positions of its thirteenth.
  *
  * Changed in version 6.0: tup_ask answers TUP_CONFLICT only for a literal whose own symbol is in conflict. Before, it did so for every literal while
  * the furnace was in conflict anywhere; a program that relies on that, to find out whether there is a conflict at all, calls tup_ask_whole instead.
  * Nothing else moved: every struct, number and refusal was what it had been.
  *
- * New in version 6.1: tup_least, tup_withdrawal and refusal 18. Nothing that was there moved.
+ * New in version 6.1: tup_least, tup_withdrawal and refusal 18. New in version 6.2: tup_add_positions, tup_add_pairs and refusal 19. Nothing that was
+ * there moved.
  *
  * Two furnaces run the same rules: a board has one S and one table of rows, and for each furnace a set of premises of its own. A call that changes
  * premises, or answers by them, names its furnace, 1 or 2, right after the table and its count. What is held and withdrawn for one furnace changes
@@ -46,6 +47,8 @@ enum {
     TUP_MOST_ROWS = 2048,      /* rows used of a longer table */
     TUP_MOST_RULES = 32767,    /* rules accepted since the board was opened */
     TUP_MOST_CANDIDATES = 12,  /* literals that tup_smallest and tup_least may choose from */
+    TUP_LEAST_POSITIONS = 2,   /* positions that a variable of tup_add_positions has at least, */
+    TUP_MOST_POSITIONS = 7,    /* and at most */
     TUP_MOST_SETS = 4096,      /* no list that tup_smallest writes is longer */
     TUP_NONE = 65535,          /* no rank, no support, no row, no set */
     TUP_MOST_TEXT = 86031,     /* no text that tup_write_dimacs writes has more bytes */
@@ -67,8 +70,8 @@ enum {
     TUP_TOO_DEEP = 5,         /* an operand is due at depth 17 */
     TUP_BYTES_LEFT_OVER = 6,  /* bytes follow the complete formula */
     TUP_TOO_MANY_SYMBOLS = 7, /* more than 8 different symbols */
-    TUP_NO_ASSIGNMENT = 8,    /* no assignment satisfies the rule */
-    TUP_TABLE_FULL = 9,       /* rows in use plus its prime implicates exceed rows lent, or 32,767 rules are counted */
+    TUP_NO_ASSIGNMENT = 8,    /* no assignment satisfies the rule; a pair table allows no pair */
+    TUP_TABLE_FULL = 9,       /* rows in use plus its prime implicates exceed rows lent, or more than 32,767 rules would be counted */
     TUP_ALREADY_HELD = 10,
     TUP_NOT_HELD = 11,
     TUP_NOTHING_TO_SHOW = 12, /* explain: not derived, or held; ground: not derived; blame: no conflict */
@@ -77,7 +80,8 @@ enum {
                                * formula text that breaks its form, or opens a seventeenth bracket */
     TUP_BAD_FURNACE = 16,     /* a furnace number other than 1 or 2 */
     TUP_BAD_CANDIDATES = 17,  /* more than 12 candidates, or one given twice */
-    TUP_CONFLICT_STAYS = 18   /* least: withdrawing all of the candidates leaves the conflict */
+    TUP_CONFLICT_STAYS = 18,  /* least: withdrawing all of the candidates leaves the conflict */
+    TUP_BAD_POSITIONS = 19    /* a count of positions outside 2 to 7, or a pair table whose two variables share a symbol */
 };
 
 /* How a literal stands: see tup_ask. */
@@ -104,7 +108,7 @@ typedef struct tup_change {
  * see tup_spelling. */
 typedef struct tup_addition {
     uint8_t refusal;
-    size_t place;   /* TUP_NO_PLACE where done, and for refusals 1, 7, 8 and 9 */
+    size_t place;   /* TUP_NO_PLACE where done, for refusals 1, 7, 8 and 9, and from tup_add_positions and tup_add_pairs always */
     uint16_t added; /* rows appended, from row board.rows of the board given on; 0 where refused */
     tup_board board;
 } tup_addition;
@@ -193,6 +197,24 @@ tup_addition tup_rule_text(tup_board board, int16_t *table, size_t numbers, cons
  * tup_read_text it gives the same bytes. Refused: 1, 2 to 6 (each with its place, as tup_rule gives them), 13 (the text is longer than `room`). */
 tup_spelling tup_write_text(tup_board board, const int16_t *table, size_t numbers, const uint8_t *formula, size_t bytes,
                             uint8_t *text, size_t room);
+
+/* Valves with several positions. A position variable is `count` consecutive symbols from `first` on, a symbol for each position, of which exactly one
+ * is true; a pair table says which positions of two variables may stand together. On a board with only such rules, where no two variables share a
+ * symbol, pair tables join entered variables and the premises of a furnace are of their symbols: the furnace is in conflict exactly when removing
+ * positions without an allowed partner, repeated until none is left to remove, empties some variable; otherwise tup_ask rules out a position exactly
+ * when it is removed. (A premise +s removes the other positions of its variable, -s its own.) */
+
+/* Enters a position variable, as one rule: appends its prime implicates, which are that one position at least is taken and, of any two, that not both
+ * are: count * (count - 1) / 2 + 1 rows. Refused: 1; 2 (the first symbol is 0 or beyond S, or the last one, first + count - 1, is beyond S); 19 (a
+ * count outside 2 to 7); 9. */
+tup_addition tup_add_positions(tup_board board, int16_t *table, size_t numbers, uint16_t first, uint16_t count);
+
+/* Enters a pair table between two variables, wholly or not at all: for each position of the first, and then of the second, the clause that it is
+ * false or some allowed position of the other is true, each as a rule of its own with one row, count + other_count in all. Bit 7i + j of `pairs`, from
+ * the lowest, allows position i of the first with position j of the second, both from 0; other bits are ignored. The variables need not have been
+ * entered. Refused: 1; 2 (of either variable, as above); 19 (of either variable, as above, or the two share a symbol); 8 (no pair is allowed); 9. */
+tup_addition tup_add_pairs(tup_board board, int16_t *table, size_t numbers, uint16_t first, uint16_t count,
+                           uint16_t other_first, uint16_t other_count, uint64_t pairs);
 
 /* The smallest sets of candidates that carry a literal. Writes a number for each set of candidates that, held alone under the rows in use, derives
  * the literal without conflict, while no smaller set inside it derives the literal, in conflict or not. Bit i of a set's number, from the lowest,

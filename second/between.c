@@ -17,8 +17,9 @@ static Step draw_refused(Trial *trial, unsigned *refusal) {
     static const struct {
         unsigned refusal;
         Kind kind;
-    } sorts[] = {{11, WITHDRAW}, {16, WITHDRAW}, {2, WITHDRAW}, {1, WITHDRAW}, {13, SETTLE}, {13, GROUND}, {13, BLAME}, {8, TEXT_RULE}, {9, RULE}};
-    unsigned symbols = trial->board.symbols, rows = trial->board.rows, sort = random_below(&trial->random, rows == 0 ? 3 : 9);
+    } sorts[] = {{11, WITHDRAW}, {16, WITHDRAW}, {2, WITHDRAW}, {1, WITHDRAW}, {13, SETTLE}, {13, GROUND}, {13, BLAME}, {8, TEXT_RULE}, {9, RULE},
+                 {19, POSITIONS}};
+    unsigned symbols = trial->board.symbols, rows = trial->board.rows, sort = random_below(&trial->random, rows == 0 ? 3 : 10);
     unsigned place = random_below(&trial->random, 2 * symbols);
     bool held = sort == 0 && premises_of(&trial->model, trial->furnace)[place];
     Step step = trial_step(trial, held ? HOLD : sorts[sort].kind, trial->furnace, literal_at(place));
@@ -29,6 +30,7 @@ static Step draw_refused(Trial *trial, unsigned *refusal) {
     if (*refusal == 13) step.lent[0] = symbols - 1;
     if (*refusal == 8) step.text = (const uint8_t *)"1&-1", step.bytes = step.standing = 4;
     if (*refusal == 9) step.numbers = WIDTH * rows;
+    if (*refusal == 19) step.variables[0].count = 1;
     return step;
 }
 

@@ -31,17 +31,31 @@ static void enter_clauses(Book *book, const Step *step, const int16_t *rows) {
     }
 }
 
-/* The rule that a step added, as its bytes or as its text has it. */
+/* Puts each clause of a pair table into the book as a rule. */
+static void enter_pairs(Book *book, const Step *step, const int16_t *rows) {
+    for (unsigned n = 0; n < pair_clauses(step->variables); n++) {
+        Clause clause = pair_clause(step->variables, step->pairs, n, book->symbols);
+        enter(book, clause_rule(&clause), &rows, 1);
+    }
+}
+
+/* The rule that a step added, as its bytes, its text or its variable has it. */
 static Rule rule_added(const Step *step) {
+    if (step->kind == POSITIONS) return positions_rule(&step->variables[0]);
     if (step->kind == RULE) return rule_of(step->formula, step->bytes);
     Spelt spelt = spelt_by(step->text, step->bytes);
     return rule_of(spelt.bytes, spelt.count);
 }
 
+/* The rules that a call has added: of a text its clauses, of a pair table one for each position, else one. */
+static unsigned rules_added(const Play *play, const Step *step) {
+    return step->kind == READ ? play->last.clauses : step->kind == PAIRS ? pair_clauses(step->variables) : 1;
+}
+
 /* Puts what a call has added into the book, with its rows. A book without room, where the caller took rows back, is closed. */
 static void enter_added(Play *play, const Step *step) {
     Book *book = &play->book;
-    unsigned added = play->last.added, rules = step->kind == READ ? play->last.clauses : 1;
+    unsigned added = play->last.added, rules = rules_added(play, step);
     const int16_t *rows = play->ours.table + GUARD + WIDTH * (play->board.rows - added);
     if (book->count + rules > MOST_RULES || book->rows + added > MOST_ROWS) {
         book->symbols = 0;
@@ -49,16 +63,17 @@ static void enter_added(Play *play, const Step *step) {
     }
     if (book->symbols == 0) return;
     if (step->kind == READ) enter_clauses(book, step, rows);
+    else if (step->kind == PAIRS) enter_pairs(book, step, rows);
     else enter(book, rule_added(step), &rows, added);
 }
 
-/* Keeps the book after a call: a good open starts it and a refused one leaves none, an accepted rule or text goes in with its rows. */
+/* Keeps the book after a call: a good open starts it and a refused one leaves none, an accepted rule, text, variable or
+ * pair table goes in with its rows. */
 void keep_book(Play *play, const Step *step) {
-    bool adds = step->kind == RULE || step->kind == TEXT_RULE || step->kind == READ;
     if (step->kind == OPEN) {
         book_start(&play->book);
         play->book.symbols = play->last.refusal == 0 ? (unsigned)step->value : 0;
-    } else if (adds && play->last.refusal == 0) {
+    } else if (adds_rows(step->kind) && play->last.refusal == 0) {
         enter_added(play, step);
     }
 }

@@ -55,7 +55,7 @@ static const unsigned possible[CALLS][NUMBERS] = {
     [SETTLE] = {1, 16, 13},    [WITHDRAW] = {1, 16, 2, 11},          [GROUND] = {1, 16, 2, 13, 12}, [ASK] = {1, 16, 2},
     [BLAME] = {1, 16, 13, 12}, [EXPLAIN] = {1, 16, 2, 12},           [WRITE] = {1, 13},             [TEXT_RULE] = {1, 2, 5, 7, 8, 9, 15},
     [TO_BYTES] = {1, 2, 5, 13, 15}, [TO_TEXT] = {1, 2, 3, 4, 5, 6, 13}, [SMALLEST] = {1, 2, 17, 13}, [ASK_WHOLE] = {1, 16, 2},
-    [LEAST] = {1, 16, 2, 17, 11, 18}};
+    [LEAST] = {1, 16, 2, 17, 11, 18}, [POSITIONS] = {1, 2, 19, 9}, [PAIRS] = {1, 2, 19, 8, 9}};
 
 static unsigned long calls[CALLS], refusals[CALLS][NUMBERS], damaged[BAD_BOARDS][CALLS], cases[CASES];
 static unsigned long broken[BREAKS][SPOTS];
@@ -259,6 +259,7 @@ void cover_step(const Play *play, const Step *step) {
     if (step->kind == SMALLEST) cover_sets(play, step);
     if (step->kind == LEAST) cover_least(play, step), cover_held(play, step);
     if (gives_candidates(step->kind)) cover_candidates(play, step);
+    if (gives_variables(step->kind)) cover_positions(play, step);
     if (step->kind == SETTLE || asks(step->kind)) cover_answers(play, step);
     cover_rules(play, step);
     cases[TWO_FAULTS] += step->faults > 1;
@@ -356,6 +357,8 @@ void cover_print(void) {
     cover_sets_print();
     cover_held_print();
     cover_least_print();
+    cover_positions_print();
+    cover_arcs_print();
     cover_texts_print();
     cover_spelt_print();
     printf("labels 0, 1, 2, 3: %lu %lu %lu %lu\n", labels_seen[0], labels_seen[1], labels_seen[2], labels_seen[3]);
@@ -369,6 +372,8 @@ void cover_print(void) {
     cover_outside_close();
     cover_sets_close();
     cover_least_close();
+    cover_positions_close();
+    cover_arcs_close();
     cover_texts_close();
     cover_spelt_close();
 }
@@ -403,6 +408,8 @@ bool cover_is_whole(void) {
     whole &= cover_sets_are_whole();
     whole &= cover_held_is_whole();
     whole &= cover_least_is_whole();
+    whole &= cover_positions_are_whole();
+    whole &= cover_arcs_are_whole();
     whole &= cover_texts_are_whole();
     whole &= cover_spelt_is_whole();
     for (unsigned k = 0; k < CALLS; k++) {

@@ -2,10 +2,11 @@
 #ifndef COVER_H
 #define COVER_H
 
+#include "network.h"
 #include "outside.h"
 #include "steps.h"
 
-enum { NUMBERS = 19 }; /* of refusals, and 0 for a call that is done */
+enum { NUMBERS = 20 }; /* of refusals, and 0 for a call that is done */
 
 void cover_step(const Play *play, const Step *step);
 void cover_print(void);
@@ -76,6 +77,19 @@ bool cover_least_is_whole(void);
 void cover_held(const Play *play, const Step *step);
 void cover_held_print(void);
 bool cover_held_is_whole(void);
+
+/* coverpositions.c: the position variables and pair tables that calls in the sequences were given. */
+void cover_positions(const Play *play, const Step *step);
+void cover_positions_print(void);
+void cover_positions_close(void);
+bool cover_positions_are_whole(void);
+
+/* coverarcs.c: the networks of position variables on which positions were removed. */
+void cover_network(const Network *network);
+void cover_seen(const Network *network, const Seen *seen);
+void cover_arcs_print(void);
+void cover_arcs_close(void);
+bool cover_arcs_are_whole(void);
 
 /* covertext.c: the texts read and written. */
 void cover_text(const Play *play, const Step *step);

@@ -6,6 +6,7 @@
 #include "drawclashes.h"
 #include "drawfurnace.h"
 #include "drawleast.h"
+#include "drawpositions.h"
 #include "drawrows.h"
 #include "drawsets.h"
 #include "drawspelt.h"
@@ -13,11 +14,11 @@
 #include "formulae.h"
 
 /* Styles of sequences. */
-enum { FREE, CLASHES, PLANTS, CIRCLE, CHAIN, ROWS, FULL, TIGHT, BROAD, PACKED, TEXTS, KNOTS, CAUSES, STYLES };
+enum { FREE, CLASHES, PLANTS, CIRCLE, CHAIN, ROWS, FULL, TIGHT, BROAD, PACKED, TEXTS, KNOTS, CAUSES, VALVES, STYLES };
 
 static const unsigned style_weights[STYLES] = {
     [FREE] = 290, [CLASHES] = 80, [PLANTS] = 190, [CIRCLE] = 80, [CHAIN] = 30, [ROWS] = 160, [FULL] = 14, [TIGHT] = 120, [BROAD] = 70, [PACKED] = 14,
-    [TEXTS] = 120, [KNOTS] = 60, [CAUSES] = 60};
+    [TEXTS] = 120, [KNOTS] = 60, [CAUSES] = 60, [VALVES] = 75};
 
 /* Which sorts of formulae a style has, in the order PLANT, TREE, SPINE, WIDE, PARITY, LITERALS, NEVER, ALWAYS, LONG, NOISE,
  * PARITY_OF_8, ANY_TRUTH, WIDE_TRUTH, TOO_MANY. */
@@ -34,21 +35,28 @@ static const unsigned sort_weights[STYLES][SORTS] = {
     [TEXTS] = {800, 50, 5, 1, 5, 10, 5, 5, 0, 5, 0, 20, 1, 15},
     [KNOTS] = {500, 200, 20, 2, 20, 50, 20, 20, 4, 20, 0, 60, 2, 20},
     [CAUSES] = {800, 50, 5, 1, 5, 10, 5, 5, 0, 5, 0, 20, 1, 15},
-    [CLASHES] = {800, 50, 5, 1, 5, 10, 5, 5, 0, 5, 0, 20, 1, 15}};
+    [CLASHES] = {800, 50, 5, 1, 5, 10, 5, 5, 0, 5, 0, 20, 1, 15},
+    [VALVES] = {800, 50, 5, 1, 5, 10, 5, 5, 0, 5, 0, 20, 1, 15}};
 
-/* How often each call comes: at first, later on, among causes of marks, and among clashes of premises. */
-enum { AT_FIRST, LATER, AMONG_CAUSES, AMONG_CLASHES, TIMES };
+/* How often each call comes: at first, later on, among causes of marks, among clashes of premises, and among valves with several positions. */
+enum { AT_FIRST, LATER, AMONG_CAUSES, AMONG_CLASHES, AMONG_VALVES, TIMES };
 
 static const unsigned call_weights[TIMES][CALLS] = {
-    {[OPEN] = 3, [RULE] = 90, [TEXT_RULE] = 40, [READ] = 30, [HOLD] = 74, [WITHDRAW] = 14, [SETTLE] = 20, [ASK] = 10, [ASK_WHOLE] = 8,
-     [EXPLAIN] = 10, [GROUND] = 10, [BLAME] = 5, [LEAST] = 5, [SMALLEST] = 8, [WRITE] = 10, [TO_BYTES] = 16, [TO_TEXT] = 14},
-    {[OPEN] = 5, [RULE] = 20, [TEXT_RULE] = 14, [READ] = 20, [HOLD] = 44, [WITHDRAW] = 26, [SETTLE] = 40, [ASK] = 28, [ASK_WHOLE] = 20,
-     [EXPLAIN] = 26, [GROUND] = 26, [BLAME] = 16, [LEAST] = 13, [SMALLEST] = 20, [WRITE] = 16, [TO_BYTES] = 16,
+    {[OPEN] = 3, [RULE] = 90, [TEXT_RULE] = 40, [READ] = 30, [POSITIONS] = 10, [PAIRS] = 12, [HOLD] = 74, [WITHDRAW] = 14, [SETTLE] = 20,
+     [ASK] = 10, [ASK_WHOLE] = 8, [EXPLAIN] = 10, [GROUND] = 10, [BLAME] = 5, [LEAST] = 5, [SMALLEST] = 8, [WRITE] = 10, [TO_BYTES] = 16,
      [TO_TEXT] = 14},
-    {[OPEN] = 1, [RULE] = 10, [TEXT_RULE] = 6, [READ] = 4, [HOLD] = 40, [WITHDRAW] = 20, [SETTLE] = 12, [ASK] = 10, [ASK_WHOLE] = 6,
-     [EXPLAIN] = 8, [GROUND] = 12, [BLAME] = 8, [LEAST] = 8, [SMALLEST] = 180, [WRITE] = 2, [TO_BYTES] = 2, [TO_TEXT] = 2},
-    {[OPEN] = 1, [RULE] = 8, [TEXT_RULE] = 6, [READ] = 4, [HOLD] = 36, [WITHDRAW] = 40, [SETTLE] = 12, [ASK] = 8, [ASK_WHOLE] = 10,
-     [EXPLAIN] = 8, [GROUND] = 8, [BLAME] = 14, [LEAST] = 180, [SMALLEST] = 4, [WRITE] = 2, [TO_BYTES] = 2, [TO_TEXT] = 2}};
+    {[OPEN] = 5, [RULE] = 20, [TEXT_RULE] = 14, [READ] = 20, [POSITIONS] = 6, [PAIRS] = 8, [HOLD] = 44, [WITHDRAW] = 26, [SETTLE] = 40,
+     [ASK] = 28, [ASK_WHOLE] = 20, [EXPLAIN] = 26, [GROUND] = 26, [BLAME] = 16, [LEAST] = 13, [SMALLEST] = 20, [WRITE] = 16, [TO_BYTES] = 16,
+     [TO_TEXT] = 14},
+    {[OPEN] = 1, [RULE] = 10, [TEXT_RULE] = 6, [READ] = 4, [POSITIONS] = 2, [PAIRS] = 3, [HOLD] = 40, [WITHDRAW] = 20, [SETTLE] = 12,
+     [ASK] = 10, [ASK_WHOLE] = 6, [EXPLAIN] = 8, [GROUND] = 12, [BLAME] = 8, [LEAST] = 8, [SMALLEST] = 180, [WRITE] = 2, [TO_BYTES] = 2,
+     [TO_TEXT] = 2},
+    {[OPEN] = 1, [RULE] = 8, [TEXT_RULE] = 6, [READ] = 4, [POSITIONS] = 2, [PAIRS] = 3, [HOLD] = 36, [WITHDRAW] = 40, [SETTLE] = 12,
+     [ASK] = 8, [ASK_WHOLE] = 10, [EXPLAIN] = 8, [GROUND] = 8, [BLAME] = 14, [LEAST] = 180, [SMALLEST] = 4, [WRITE] = 2, [TO_BYTES] = 2,
+     [TO_TEXT] = 2},
+    {[OPEN] = 1, [RULE] = 6, [TEXT_RULE] = 4, [READ] = 4, [POSITIONS] = 40, [PAIRS] = 80, [HOLD] = 50, [WITHDRAW] = 26, [SETTLE] = 40,
+     [ASK] = 12, [ASK_WHOLE] = 10, [EXPLAIN] = 10, [GROUND] = 10, [BLAME] = 8, [LEAST] = 4, [SMALLEST] = 4, [WRITE] = 2, [TO_BYTES] = 2,
+     [TO_TEXT] = 2}};
 
 /* A count of symbols that suits the style. */
 static unsigned draw_symbols(Random *random, unsigned style) {
@@ -63,6 +71,7 @@ static unsigned draw_symbols(Random *random, unsigned style) {
     case CLASHES:
         if (random_chance(random, 10)) return MOST_SYMBOLS;
         return random_chance(random, 60) ? random_between(random, 2, 12) : random_between(random, 14, 24);
+    case VALVES: return random_chance(random, 8) ? MOST_SYMBOLS : random_between(random, 4, random_chance(random, 70) ? 20 : 50);
     case BROAD: return random_between(random, 8, 14);
     case PACKED: return random_between(random, 8, 10);
     case TIGHT: return random_chance(random, 30) ? random_between(random, 9, 14) : random_between(random, 1, 8);
@@ -89,6 +98,7 @@ static unsigned draw_setup(Random *random, unsigned style, unsigned symbols) {
         if (symbols == MOST_SYMBOLS && random_chance(random, 12)) return MOST_ROWS;
         return random_between(random, 1, random_chance(random, 80) ? 24 : 160);
     case PACKED: return 16;
+    case VALVES: return 1;
     case CAUSES: return random_between(random, 2, random_chance(random, 60) ? 16 : 40);
     case CLASHES: return random_between(random, 1, random_chance(random, 70) ? 8 : 16);
     case TEXTS: return random_chance(random, 85) ? random_between(random, 1, 60) : random_between(random, 60, random_chance(random, 80) ? 400 : 3000);
@@ -305,6 +315,7 @@ static void draw_call(Draft *draft, const Play *play, Step *step, unsigned no_fu
     case OPEN: step->value = draw_opening(draft); break;
     case RULE: case TEXT_RULE: case TO_BYTES: case TO_TEXT: draw_rule(draft, play, step); break;
     case READ: draw_read(draft, play, step); break;
+    case POSITIONS: case PAIRS: draw_variables_given(draft, play, step); break;
     case SMALLEST: draw_smallest(draft, play, step, draft->style == CAUSES && random_chance(&draft->random, 60)); break;
     case LEAST: draw_least(draft, play, step, draft->style == CLASHES && random_chance(&draft->random, 70)); break;
     case SETTLE: case BLAME: case WRITE: break;
@@ -328,7 +339,7 @@ static void add_damaged_call(Draft *draft, const Play *play) {
 
 /* Adds a count of rules that leaves few before the last one, 32,767, or none; it stays. */
 static void add_high_count(Draft *draft, const Play *play) {
-    unsigned rules = MOST_RULES - random_below(&draft->random, 5);
+    unsigned rules = MOST_RULES - random_below(&draft->random, draft->style == VALVES ? 20 : 5);
     if (play->board.rules < rules) add_step(draft, SET_RULES)->value = (int)rules;
 }
 
@@ -337,7 +348,7 @@ static void add_call(Draft *draft, const Play *play) {
     Random *random = &draft->random;
     if (random_chance(random, 20) && add_echo(draft)) return;
     if (random_chance(random, 3)) add_odd_bytes(draft, play);
-    if (random_chance(random, 1)) add_high_count(draft, play);
+    if (random_chance(random, draft->style == VALVES ? 4 : 1)) add_high_count(draft, play);
     if (play->board.symbols == 0 && random_chance(random, 70)) {
         add_step(draft, OPEN)->value = (int)draft->symbols;
     } else if (random_chance(random, 17)) {
@@ -345,8 +356,10 @@ static void add_call(Draft *draft, const Play *play) {
     } else {
         bool later = draft->style != PACKED && (draft->calls < 12 || draft->style == ROWS || draft->style == FULL || draft->style == KNOTS);
         unsigned time = draft->style == CAUSES ? AMONG_CAUSES : draft->style == CLASHES ? AMONG_CLASHES : later ? LATER : AT_FIRST;
+        if (draft->style == VALVES) time = AMONG_VALVES;
         Step *step = add_step(draft, (Kind)random_weighted(random, call_weights[time], CALLS));
         draw_call(draft, play, step, 5);
+        if (gives_variables(step->kind) && random_chance(random, 5)) add_last_rules(draft, play);
     }
 }
 
@@ -405,6 +418,17 @@ static bool add_turn(Draft *draft, const Play *play) {
     return false;
 }
 
+/* Sets up the styles that come with premises of their own; false for the others. */
+static bool add_with_premises(Draft *draft) {
+    switch (draft->style) {
+    case KNOTS: add_knot(draft, draft->setup); return true;
+    case CAUSES: add_causes(draft, draft->setup); return true;
+    case CLASHES: add_clashes(draft, draft->setup); return true;
+    case VALVES: add_network(draft); return true;
+    default: return false;
+    }
+}
+
 /* Sets up the style's rules or rows; says whether premises are wanted. */
 static bool add_setup(Draft *draft, const Play *play) {
     Random *random = &draft->random;
@@ -413,18 +437,7 @@ static bool add_setup(Draft *draft, const Play *play) {
         add_reading(draft, play, draft->setup);
         return true;
     }
-    if (draft->style == KNOTS) {
-        add_knot(draft, draft->setup);
-        return false;
-    }
-    if (draft->style == CAUSES) {
-        add_causes(draft, draft->setup);
-        return false;
-    }
-    if (draft->style == CLASHES) {
-        add_clashes(draft, draft->setup);
-        return false;
-    }
+    if (add_with_premises(draft)) return false;
     bool links = random_chance(random, 50), falling = random_chance(random, 50);
     for (unsigned i = 0; i < draft->setup; i++) {
         unsigned from = falling ? symbols - i : i + 1, to = from < symbols ? from + 1 : 1;

@@ -48,6 +48,23 @@ static Outcome call_read(const Step *step, tup_board *board, int16_t *table, con
     return (Outcome){.refusal = reading.refusal, .clauses = reading.clauses, .added = reading.added};
 }
 
+/* Enters a position variable. */
+static Outcome call_positions(const Step *step, tup_board *board, int16_t *table) {
+    const Variable *its = &step->variables[0];
+    tup_addition addition = tup_add_positions(*board, table, step->numbers, (uint16_t)its->first, (uint16_t)its->count);
+    *board = addition.board;
+    return (Outcome){.refusal = addition.refusal, .added = addition.added, .place = addition.place};
+}
+
+/* Enters a pair table. */
+static Outcome call_pairs(const Step *step, tup_board *board, int16_t *table) {
+    const Variable *its = &step->variables[0], *others = &step->variables[1];
+    tup_addition addition = tup_add_pairs(*board, table, step->numbers, (uint16_t)its->first, (uint16_t)its->count, (uint16_t)others->first,
+                                          (uint16_t)others->count, step->pairs);
+    *board = addition.board;
+    return (Outcome){.refusal = addition.refusal, .added = addition.added, .place = addition.place};
+}
+
 /* Writes a text. */
 static Outcome call_write(const Step *step, const tup_board *board, const int16_t *table, uint8_t *text) {
     tup_writing writing = tup_write_dimacs(*board, table, step->numbers, LENT(text, step->lent[0], step), step->lent[0]);
@@ -109,6 +126,8 @@ Outcome library_call(const Step *step, tup_board *board, Tables *tables) {
     case TO_BYTES: return call_to_bytes(step, board, table, text, formula);
     case TO_TEXT: return call_to_text(step, board, table, formula, text);
     case READ: return call_read(step, board, table, text);
+    case POSITIONS: return call_positions(step, board, table);
+    case PAIRS: return call_pairs(step, board, table);
     case WRITE: return call_write(step, board, table, text);
     case SMALLEST: return call_smallest(step, board, table, tables);
     case LEAST: return call_least(step, board, table, tables);

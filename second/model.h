@@ -1,4 +1,4 @@
-/* Document 01 with Tickets 1, 2, 4 to 8 and 10 to 12 of document 02 by brute force, for the independent second program.
+/* Document 01 with Tickets 1, 2, 4 to 8 and 10 to 13 of document 02 by brute force, for the independent second program.
  *
  * Written from these documents and include/tupahineka.h alone. No other code of the project was read for it: what this
  * program and the library share is the documents and nothing else. Slow and by definition, wherever a definition is there. */
@@ -28,7 +28,9 @@ enum {
     MOST_SPELLING = 196603, /* bytes of their text: three digits each, the marks, brackets round all of these forms but the whole */
     MOST_OPEN = 16,         /* brackets open at once in formula text */
     MOST_CANDIDATES = 12,
-    ALL_SETS = 4096         /* sets of so many candidates, the empty one included */
+    ALL_SETS = 4096,        /* sets of so many candidates, the empty one included */
+    LEAST_POSITIONS = 2,    /* of a position variable */
+    MOST_POSITIONS = 7
 };
 
 /* Where no byte place is told: the largest size_t, by the C interface. */
@@ -97,6 +99,11 @@ typedef struct Clause {
     bool beyond, has[PLACES];
     size_t words;
 } Clause;
+
+/* A position variable as a call is given it: its first symbol, and how many it has. Any 16-bit numbers, so that no sum of the two is too large. */
+typedef struct Variable {
+    unsigned first, count;
+} Variable;
 
 /* What propagation finds, by place. */
 typedef struct Findings {
@@ -178,6 +185,18 @@ Outcome model_smallest(const Board *board, const int16_t *table, size_t numbers,
 const Withdrawn *last_withdrawn(void);
 Board board_without(const Board *board, unsigned furnace, const int16_t *candidates, unsigned count, unsigned set);
 Outcome model_least(const Board *board, const int16_t *table, size_t numbers, unsigned furnace, const int16_t *candidates, size_t count);
+
+/* positions.c: position variables and pair tables, two calls more. */
+bool variable_is_on_board(const Variable *variable, unsigned symbols);
+bool variable_has_positions(const Variable *variable);
+bool variables_share(const Variable both[2]);
+bool pair_is_allowed(uint64_t pairs, unsigned i, unsigned j);
+bool allows_a_pair(const Variable both[2], uint64_t pairs);
+Rule positions_rule(const Variable *variable);
+unsigned pair_clauses(const Variable both[2]);
+Clause pair_clause(const Variable both[2], uint64_t pairs, unsigned number, unsigned symbols);
+Outcome model_positions(Board *board, int16_t *table, size_t numbers, const Variable *variable);
+Outcome model_pairs(Board *board, int16_t *table, size_t numbers, const Variable both[2], uint64_t pairs);
 
 /* reduced.c: the form of formula text a second way, and the place of a 15 by its definition. */
 bool text_is_of_form(const uint8_t *text, size_t length);

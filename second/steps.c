@@ -54,6 +54,16 @@ bool spells(Kind kind) {
     return kind == TEXT_RULE || kind == TO_BYTES;
 }
 
+/* True if the call is given a position variable or two. */
+bool gives_variables(Kind kind) {
+    return kind == POSITIONS || kind == PAIRS;
+}
+
+/* True if the call adds rules, and with them rows. */
+bool adds_rows(Kind kind) {
+    return kind >= RULE && kind <= PAIRS;
+}
+
 /* Bytes of the text's table that a call may see, and the guards of one that is written. */
 size_t text_window(const Step *step) {
     if (gives_text(step->kind)) return GUARD + step->standing;
@@ -129,6 +139,8 @@ static Outcome model_call(const Step *step, Board *board, Tables *tables) {
     case TO_BYTES: return model_to_bytes(board, table, step->numbers, text, step->bytes, formula, step->lent[0]);
     case TO_TEXT: return model_to_text(board, table, step->numbers, formula, step->bytes, text, step->lent[0]);
     case READ: return model_read(board, table, step->numbers, text, step->bytes);
+    case POSITIONS: return model_positions(board, table, step->numbers, &step->variables[0]);
+    case PAIRS: return model_pairs(board, table, step->numbers, step->variables, step->pairs);
     case WRITE: return model_write(board, table, step->numbers, text, step->lent[0]);
     case SMALLEST:
         return model_smallest(board, table, step->numbers, tables->candidates + GUARD, step->bytes, step->value, tables->sets + GUARD, step->lent[0]);

@@ -18,13 +18,13 @@ enum {
     PLACE_WORD = 24                            /* bytes for a place in words */
 };
 
-/* The seventeen calls, those that hand a board back first; then what the caller may do between them. READ and WRITE are of DIMACS text; TEXT_RULE,
- * TO_BYTES and TO_TEXT of formula text: a rule added from it, it read to bytes, and bytes written as it. ASK answers by symbol, ASK_WHOLE with the
- * old answer, conflict for every literal while the furnace is in conflict. LEAST tells the least of candidates to withdraw, SMALLEST lists sets of
- * them. */
+/* The nineteen calls, those that hand a board back first; then what the caller may do between them. READ and WRITE are of DIMACS text; TEXT_RULE,
+ * TO_BYTES and TO_TEXT of formula text: a rule added from it, it read to bytes, and bytes written as it. POSITIONS enters a position variable, PAIRS
+ * a pair table between two. ASK answers by symbol, ASK_WHOLE with the old answer, conflict for every literal while the furnace is in conflict. LEAST
+ * tells the least of candidates to withdraw, SMALLEST lists sets of them. */
 typedef enum Kind {
-    OPEN, RULE, TEXT_RULE, READ, HOLD, WITHDRAW, SETTLE, ASK, ASK_WHOLE, EXPLAIN, GROUND, BLAME, LEAST, SMALLEST, WRITE, TO_BYTES,
-    TO_TEXT,
+    OPEN, RULE, TEXT_RULE, READ, POSITIONS, PAIRS, HOLD, WITHDRAW, SETTLE, ASK, ASK_WHOLE, EXPLAIN, GROUND, BLAME, LEAST, SMALLEST, WRITE,
+    TO_BYTES, TO_TEXT,
     CALLS,
     SET_SYMBOLS = CALLS, /* the caller writes S = value into the board */
     SET_ROWS,            /* the caller writes rows in use = value */
@@ -47,6 +47,8 @@ typedef struct Step {
     const uint8_t *formula;  /* of a rule, or to be written as text */
     const uint8_t *text;     /* to be read, of either sort */
     const int16_t *candidates;
+    Variable variables[2];   /* the position variable, or the two of a pair table */
+    uint64_t pairs;          /* that the table allows */
     size_t bytes, standing;  /* bytes given, or candidates, and those that stand there: the ones past those given must not be read */
     uint64_t noise;          /* what stands in the tables to be written, before the call */
     unsigned damage, faults; /* for the counts only: what was spoilt ahead of this call, and how many things */
@@ -107,6 +109,8 @@ bool gives_literal(Kind kind);
 bool gives_literals(const Step *step, unsigned symbols);
 bool gives_formula(Kind kind);
 bool gives_text(Kind kind);
+bool gives_variables(Kind kind);
+bool adds_rows(Kind kind);
 bool spells(Kind kind);
 size_t text_window(const Step *step);
 size_t formula_window(const Step *step);

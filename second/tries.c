@@ -43,7 +43,8 @@ bool try_hold(Play *play, unsigned furnace, const int *literals, unsigned most) 
     return good;
 }
 
-/* A call with so many places of each table to write; where it is given a formula, a text or candidates, that is symbol 1 alone. */
+/* A call with so many places of each table to write; where it is given a formula, a text or candidates, that is symbol 1 alone, and where it is given
+ * variables, these are of two positions each, from symbol 1 on. */
 Step try_lent(Kind kind, unsigned furnace, int value, size_t places) {
     static const uint8_t formula[] = {0x10, 1}, clause[] = "p cnf 1 1\n1 0\n", symbol[] = "1";
     static const int16_t candidate[] = {1};
@@ -54,6 +55,8 @@ Step try_lent(Kind kind, unsigned furnace, int value, size_t places) {
     step.candidates = gives_candidates(kind) ? candidate : NULL;
     step.bytes = spells(kind) || gives_candidates(kind) ? 1 : gives_formula(kind) ? sizeof formula : kind == READ ? sizeof clause - 1 : 0;
     step.standing = step.bytes;
+    for (unsigned v = 0; v < 2; v++) step.variables[v] = (Variable){1 + 2 * v, 2};
+    step.pairs = 1;
     return step;
 }
 

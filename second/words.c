@@ -4,8 +4,8 @@
 #include "steps.h"
 
 static const char *const words[KINDS] = {
-    "open", "rule", "add text", "read", "hold", "withdraw", "settle", "ask", "ask whole", "explain", "ground", "blame", "least", "smallest",
-    "write", "to bytes", "to text", "set S", "set rows used", "set rules", "set a held byte", "set a number", "append a row"};
+    "open", "rule", "add text", "read", "positions", "pairs", "hold", "withdraw", "settle", "ask", "ask whole", "explain", "ground", "blame",
+    "least", "smallest", "write", "to bytes", "to text", "set S", "set rows used", "set rules", "set a held byte", "set a number", "append a row"};
 
 /* The word for a kind of step. */
 const char *kind_word(Kind kind) {
@@ -73,6 +73,17 @@ static void print_candidates(const Step *step) {
     if (step->standing > step->bytes) printf(" (numbers of the caller's go on after them)");
 }
 
+/* Prints a position variable, or a pair table's two and its number with the pairs that it allows of their positions. */
+static void print_variables(const Step *step) {
+    const Variable *its = &step->variables[0], *others = &step->variables[1];
+    printf("%u from symbol %u on", its->count, its->first);
+    if (step->kind == POSITIONS) return;
+    printf(" and %u from symbol %u on, allowed 0x%016llX:", others->count, others->first, (unsigned long long)step->pairs);
+    for (unsigned i = 0; i < its->count && i < MOST_POSITIONS; i++)
+        for (unsigned j = 0; j < others->count && j < MOST_POSITIONS; j++)
+            if (pair_is_allowed(step->pairs, i, j)) printf(" %u with %u", its->first + i, others->first + j);
+}
+
 /* Prints the literals of a row. */
 static void print_row(const int16_t *row) {
     unsigned last = ROW_LITERALS;
@@ -103,6 +114,7 @@ void print_step(const Step *step, size_t ordinal) {
     case APPEND_ROW: printf("the caller counts %u rules more, and appends the row", step->rules), print_row(step->row); break;
     case RULE: case TO_TEXT: printf("%s ", words[step->kind]), print_formula(step), print_lent(step); break;
     case READ: case TEXT_RULE: case TO_BYTES: printf("%s ", words[step->kind]), print_text(step->text, step->bytes), print_lent(step); break;
+    case POSITIONS: case PAIRS: printf("%s ", words[step->kind]), print_variables(step), print_lent(step); break;
     case OPEN: printf("open %d", step->value); break;
     case WRITE: printf("write"), print_lent(step); break;
     case LEAST: case SMALLEST: printf("%s ", words[step->kind]), print_candidates(step), print_lent(step); break;
@@ -117,7 +129,7 @@ void print_outcome(const char *who, Kind kind, const Outcome *outcome) {
     static const char *const standings[] = {"open", "stands", "ruled out", "conflict"};
     printf("  %s: ", who);
     if (outcome->refusal != 0) printf("refusal %u", outcome->refusal);
-    else if (kind == RULE || kind == TEXT_RULE || kind == READ) printf("%u rows added", outcome->added);
+    else if (adds_rows(kind)) printf("%u rows added", outcome->added);
     else if (kind == WRITE || kind == TO_BYTES || kind == TO_TEXT) printf("%zu bytes written", outcome->written);
     else if (asks(kind)) printf("%s", outcome->standing < 4 ? standings[outcome->standing] : "no standing");
     else if (kind == SMALLEST) printf("%u sets listed", outcome->listed);
@@ -125,7 +137,7 @@ void print_outcome(const char *who, Kind kind, const Outcome *outcome) {
     else printf("done");
     if (kind == LEAST) printf(", set %u", outcome->set);
     if (kind == READ) printf(", %u clauses before the fault or the end", outcome->clauses);
-    if ((gives_formula(kind) || spells(kind)) && outcome->place != NO_PLACE) printf(", at byte %zu", outcome->place);
+    if ((gives_formula(kind) || spells(kind) || gives_variables(kind)) && outcome->place != NO_PLACE) printf(", at byte %zu", outcome->place);
     printf("\n");
 }
 

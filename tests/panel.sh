@@ -1,5 +1,5 @@
 #!/usr/bin/env bash
-# Proves and builds the C boundary, and runs what stands on it: the trend demo, the independent second program, and the journals and texts that
+# Proves and builds the C boundary, and runs what stands on it: the trend demo, the valves, the independent second program, and the journals and texts that
 # the second program writes. SEED and COUNT choose the second program's sequences.
 set -euo pipefail
 cd "$(dirname "$0")/.."
@@ -9,7 +9,7 @@ if [ "${TUP_WITHOUT_C:-}" = 1 ] && [ -z "$(c_compiler)" ]; then
     exit 0
 fi
 need_c
-make -s target/trend target/second
+make -s target/trend target/valves target/second
 room=$(mktemp -d)
 trap 'rm -rf "$room"' EXIT
 
@@ -25,6 +25,14 @@ grep -q 'stands on a reading to blame' "$room/trend.svg"
 grep -q 'least to withdraw: TC-3 high and damper shut' "$room/trend.svg"
 [ "$(grep -c 'class="on-blame"' "$room/trend.svg")" -eq 7 ] # under three marks of each furnace, and in the legend
 echo "demo: it printed what examples/trend.expected has, and drew the shift"
+
+# the valves check each answer by removing positions without the board; what they print is stored
+run_c target/valves >"$room/valves.txt" || {
+    tail -1 "$room/valves.txt"
+    exit 1
+}
+diff "$room/valves.txt" examples/valves.expected
+echo "valves: they printed what examples/valves.expected has, with $(tail -1 "$room/valves.txt" | cut -d ' ' -f 1) checks of their own"
 
 run_c target/second "${SEED:-1}" "${COUNT:-20000}"
 

@@ -24,6 +24,13 @@ lines=$(sed -n 's/^    \([0-9][0-9]:[0-9][0-9] .*\)/\1/p' README.md)
     exit 1
 }
 
+# those of the valves
+lines=$(sed -n 's/^    \( *furnace [12], .*\)/\1/p' README.md)
+[ "$(wc -l <<<"$lines")" -eq 3 ] && ! grep -vxFf examples/valves.expected <<<"$lines" || {
+    echo "README.md: examples/valves.expected does not have its three lines of the valves"
+    exit 1
+}
+
 for target in $(grep -o 'make [a-z]*' README.md | sort -u | cut -d ' ' -f 2); do
     grep -q "^$target:" Makefile || {
         echo "README.md: 'make $target' is no target of the Makefile"

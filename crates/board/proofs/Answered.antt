@@ -2,7 +2,7 @@
 use mathlib.Core.Path.{_≡_, refl}
 use mathlib.Core.Logic.{_≢_}
 use mathlib.Core.Bool.{Bool, true, false, cond, not, false≢true}
-use mathlib.Core.List.{List, [], _∷_, map}
+use mathlib.Core.List.{List, [], _∷_, _++_, map}
 use Prim.Native.Nat.{ℕ, zero, suc, _<_}
 use native.Mathlib.Omega.{arith}
 use lib.IntN.{ℤ}
@@ -22,6 +22,17 @@ use Rattle.board.specs.declared.rules.Addition.{Addition}
 
 pub refused-not-done : {X : Type 0} {why : Refusal} → Refused why ≡ Done → X
 refused-not-done e = let z : _≡_ {A = ℕ} 0 1 = cc in absurd (omega arith)
+
+-- the faults of two lists: the first of the first, and only where there is none the first of the second
+pub first-append : (fs gs : List Fault) → firstFault (fs ++ gs) ≡ ifDone (firstFault fs) (firstFault gs) (λ why. Refused why)
+first-append [] gs = refl
+first-append (f ∷ fs) gs = go (f .given) (first-append fs gs)
+  where
+    go : (b : Bool) → firstFault (fs ++ gs) ≡ ifDone (firstFault fs) (firstFault gs) (λ why. Refused why)
+        → cond b (Refused (f .refusal)) (firstFault (fs ++ gs))
+        ≡ ifDone (cond b (Refused (f .refusal)) (firstFault fs)) (firstFault gs) (λ why. Refused why)
+    go true e = refl
+    go false e = e
 
 -- an answer made by `ifDone` tells the outcome it was made by, if both its parts do
 pub told-by : {A : Type 0} (tell : A → Outcome) (done : A) (refused : Refusal → A) (o : Outcome) → (o ≡ Done → tell done ≡ o)

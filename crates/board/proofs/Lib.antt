@@ -3,7 +3,6 @@ pub mod TwoSets
 pub mod Goodness
 pub mod Placing
 pub mod Ranked
-pub mod Copying
 pub mod Lending
 pub mod Traced
 pub mod Answered

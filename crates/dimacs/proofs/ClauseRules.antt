@@ -1,5 +1,5 @@
 -- The rows of a clause as a rule: the clause itself, or none if it has a literal and its opposite.
-use mathlib.Core.Path.{_≡_, refl, sym, ap, _∙_, subst}
+use mathlib.Core.Path.{_≡_, sym, ap, _∙_, subst}
 use mathlib.Core.Logic.{⊎-elim}
 use mathlib.Core.Bool.{Bool, true, false, cond, not, _&&_, Bool·beq}
 use mathlib.Core.List.{List, [], _∷_, map, Memᴰ·map, Memᴰ·of-map}
@@ -13,12 +13,12 @@ use lib.ListN.{length, length-map}
 use Rattle.meaning.specs.Tests.{any, all, keep, member, from}
 use Rattle.meaning.specs.Literals.{place, opp}
 use Rattle.meaning.specs.Formulae.{look, occurs, ruleOf, symbolsOf}
-use Rattle.meaning.specs.Clauses.{falsifies, rowOf}
+use Rattle.meaning.specs.Clauses.{rowOf}
 use Rattle.meaning.proofs.Tests.{any-at, any-found, any-not, any-same, both-true, clash, false-of, from-in, in-member, keep-same, member-in}
 use Rattle.meaning.proofs.Tests.{one-true, or-left, or-right, same-test, true-or-false}
 use Rattle.meaning.proofs.Literals.{opp-place, place-same}
 use Rattle.meaning.proofs.Formulae.{look-self, symbols-ascend}
-use Rattle.meaning.proofs.ClauseRows.{against, always-rows, clause-alone, unless}
+use Rattle.meaning.proofs.ClauseRows.{against, always-rows, clause-alone, falsifies-map, unless}
 use Rattle.literals.specs.Literal.{inRange, placeOf}
 use Rattle.dimacs.specs.Clauses.{oneOf, rowsOfClause}
 use Rattle.dimacs.specs.Gathering.{gatheredRows, gathered}
@@ -28,11 +28,6 @@ use Rattle.dimacs.proofs.GatheredPlaces.{always-opposite, gathered-in}
 use Rattle.dimacs.proofs.PlacedRows.{either, row-again, row-places}
 use Rattle.dimacs.proofs.ClauseValues.{always-holds, clause-occurs, clause-value, denied, denied-is, deniedAt}
 use Rattle.dimacs.proofs.ClauseValues.{literal-place, nonzero, test-symbols}
-
--- a clause that denies each symbol the value `f` is false where they have it
-falsifies-map : (f e : ℕ → Bool) (symbols : List ℕ) → falsifies (against (map f symbols)) (map e symbols) ≡ all (λ s. Bool·beq (f s) (e s)) symbols
-falsifies-map f e [] = refl
-falsifies-map f e (s ∷ symbols) = ap (λ (b : Bool). Bool·beq (f s) (e s) && b) (falsifies-map f e symbols)
 
 -- ---- its one row
 

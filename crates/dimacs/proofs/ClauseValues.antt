@@ -8,15 +8,14 @@ use Prim.Native.Nat.{ℕ, suc, _≤_}
 use borrow.Author.Tests.{eq-eqb, eqb-true}
 use lib.Dec.{eqb}
 use lib.IntN.{ℤ, pos, negsuc, natAbs}
-use lib.ListN.{length-map}
 use Rattle.meaning.specs.Tests.{any, all, member}
 use Rattle.meaning.specs.Literals.{place, opp}
 use Rattle.meaning.specs.Formulae.{occurs, ruleOf, symbolsOf, value}
 use Rattle.meaning.specs.Clauses.{satisfiable}
 use Rattle.meaning.proofs.Tests.{all-at, all-of, any-at, any-found, clash, false-of, in-member, member-in, one-true, or-left, same-test}
 use Rattle.meaning.proofs.Literals.{opp-place, place-same}
-use Rattle.meaning.proofs.Formulae.{accepts-value, in-symbols, symbol-occurs}
-use Rattle.meaning.proofs.Implicates.{assignment-listed}
+use Rattle.meaning.proofs.Formulae.{in-symbols, symbol-occurs}
+use Rattle.meaning.proofs.Implicates.{satisfied-by}
 use Rattle.literals.specs.Literal.{inRange, placeOf}
 use Rattle.dimacs.specs.Clauses.{claim, oneOf}
 use Rattle.dimacs.specs.Promises.{hasOpposite}
@@ -96,9 +95,8 @@ module _ (S : ℕ) (first : ℤ) (others : List ℤ) (range : all (inRange S) (f
   -- it is satisfied where its first literal is true
   pub clause-satisfied : satisfiable (ruleOf S (oneOf c)) ≡ true
   clause-satisfied =
-      any-at (ruleOf S (oneOf c) .accepts) (rw (length-map symbols e) at (assignment-listed (map e symbols)))
-      (accepts-value S (oneOf c) e (inside-clause S first others ∙ range)
-      ∙ clause-value e first others
+      satisfied-by S (oneOf c) e (inside-clause S first others ∙ range)
+      (clause-value e first others
       ∙ or-left (not (Bool·beq (denied first) (e (natAbs first)))) (any (λ m. not (Bool·beq (denied m) (e (natAbs m)))) others)
       (true-at (denied first)))
     where

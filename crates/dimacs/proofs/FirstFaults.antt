@@ -22,19 +22,8 @@ use Rattle.implicates.proofs.Rules.{fits-facts}
 use Rattle.board.specs.Faults.{Fault, firstFault, ifDone}
 use Rattle.board.specs.declared.Outcome.{Outcome}
 use Rattle.board.specs.declared.Outcome.the-variants.{Done, Refused}
-use Rattle.board.proofs.Answered.{refused-not-done, none-given}
+use Rattle.board.proofs.Answered.{refused-not-done, first-append, none-given}
 use Rattle.dimacs.specs.Clauses.{claim, oneOf, rowsOfClause, clauseFaults, clausesFaults, passed}
-
--- the faults of two lists: the first of the first, and only where there is none the first of the second
-pub first-append : (fs gs : List Fault) → firstFault (fs ++ gs) ≡ ifDone (firstFault fs) (firstFault gs) (λ why. Refused why)
-first-append [] gs = refl
-first-append (f ∷ fs) gs = go (f .given) (first-append fs gs)
-  where
-    go : (b : Bool) → firstFault (fs ++ gs) ≡ ifDone (firstFault fs) (firstFault gs) (λ why. Refused why)
-        → cond b (Refused (f .refusal)) (firstFault (fs ++ gs))
-        ≡ ifDone (cond b (Refused (f .refusal)) (firstFault fs)) (firstFault gs) (λ why. Refused why)
-    go true e = refl
-    go false e = e
 
 -- where none is given, none of either
 done-append : (fs gs : List Fault) → firstFault (fs ++ gs) ≡ Done → (firstFault fs ≡ Done) × (firstFault gs ≡ Done)

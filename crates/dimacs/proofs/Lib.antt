@@ -21,7 +21,6 @@ mod PlacedRows
 pub mod ClauseRules
 pub mod FoundFaults
 -- the two passes, and what a reading answers
-pub mod Encoded
 pub mod Clauses
 pub mod SmallPlaces
 pub mod Judging

@@ -22,12 +22,13 @@ use Rattle.board.specs.Rules.{withRules}
 use Rattle.board.specs.declared.Board.{Board}
 use Rattle.board.specs.declared.Outcome.the-variants.{Done}
 use Rattle.board.proofs.Goodness.{Good, empty-good, good-is}
+use Rattle.board.proofs.Answered.{first-append}
 use Rattle.dimacs.specs.Form.{good, parseText}
 use Rattle.dimacs.specs.Clauses.{clauseFaults, clausesFaults, oneOf, passed}
 use Rattle.dimacs.specs.Reading.{formulaeIn, readAnswer, readFaults, readTable, rowsOfText, textFaults}
 use Rattle.dimacs.specs.Writing.{clausesAt, literalsOf, textOn}
 use Rattle.dimacs.specs.Promises.{SameRows}
-use Rattle.dimacs.proofs.FirstFaults.{clauses-passed, first-append}
+use Rattle.dimacs.proofs.FirstFaults.{clauses-passed}
 use Rattle.dimacs.proofs.LastPass.{numberedRows}
 use Rattle.dimacs.proofs.OwnRows.{row-faultless, row-rows}
 use Rattle.dimacs.proofs.SoundTables.{table-back}

@@ -16,13 +16,13 @@ use Rattle.literals.specs.declared.refusal.Refusal.{Refusal}
 use Rattle.board.specs.Faults.{firstFault, ifDone}
 use Rattle.board.specs.declared.Outcome.{Outcome}
 use Rattle.board.specs.declared.Outcome.the-variants.{Done, Refused}
+use Rattle.board.proofs.Answered.{first-append}
 use Rattle.dimacs.specs.Form.{Parsed, good, broken, clauseThen, counted}
 use Rattle.dimacs.specs.Clauses.{oneOf, rowsOfClause, clauseFaults, clausesFaults, passed}
 use Rattle.dimacs.specs.Reading.{surveyed, textFaults}
 use Rattle.dimacs.specs.Gathering.{gatheredRows, foundFault}
 use Rattle.dimacs.specs.Surveying.{brokenForm, withClause}
 use Rattle.dimacs.specs.declared.survey.Survey.{Survey}
-use Rattle.dimacs.proofs.FirstFaults.{first-append}
 use Rattle.dimacs.proofs.ClauseRules.{clause-rows}
 use Rattle.dimacs.proofs.FoundFaults.{clause-fault}
 use Rattle.dimacs.proofs.Judging.{faultless}

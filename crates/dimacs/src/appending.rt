@@ -2,14 +2,12 @@
 
 ghost use mathlib.Core.Path.{_≡_};
 ghost use mathlib.Core.Bool.{true};
-ghost use Prim.Native.Nat.{suc, _+_, _*_, _<_, _≤_};
+ghost use Prim.Native.Nat.{suc, _+_, _*_, _≤_};
 ghost use lib.Dec.{ltb};
-ghost use lib.ListN.{getD, length, take};
-ghost use lib.IntN.{pos};
+ghost use lib.ListN.{length, take};
 ghost use Rattle.meaning.specs.Tests.{all};
 ghost use Rattle.meaning.specs.SecondWay.{rulesOf};
-ghost use Rattle.literals.specs.Literal.{literalAt};
-ghost use Rattle.literals.specs.Row.{encode, mostLiterals, mostRules, ofRule, ofRules, rowsLent, width};
+ghost use Rattle.literals.specs.Row.{mostLiterals, mostRules, ofRule, ofRules, rowsLent, width};
 ghost use Rattle.implicates.specs.Appending.{appended};
 ghost use Rattle.board.specs.Faults.{firstFault};
 ghost use Rattle.dimacs.specs.Reading.{formulaeIn, textFaults};
@@ -18,43 +16,7 @@ use crate::gathering::Kept;
 use crate::gathering::gather;
 use crate::words::next_word;
 use board::Outcome;
-use literals::MOST_LITERALS;
-use literals::WIDTH;
-
-// The literal at a place.
-fn literal_for(p: usize) -> i16
-    requires { ⌜ p < 400 ⌝ }
-    ensures { λ r. ⌜ r ≡ literalAt p ⌝ }
-{
-    let s = (p / 2 + 1) as i16;
-    if p % 2 == 0 {
-        return s;
-    }
-    -s
-}
-
-// Number k of a row of `count` places: a literal, or 0.
-fn number_of(row: &[usize], count: usize, k: usize) -> i16
-    requires { ⌜ (count ≤ length (now row)) × (count ≤ mostLiterals) × (k < mostLiterals) × (all (λ p. ltb p 400) (take count (now row)) ≡ true) ⌝ }
-    ensures { λ r. ⌜ r ≡ getD (encode (take count (now (row .entry)))) k (pos 0) ⌝ }
-{
-    if k < count {
-        return literal_for(row[k]);
-    }
-    0
-}
-
-// Writes a row of `count` places to a row's eight numbers in the table: the literals, and then zeros.
-fn write_row(part: &mut [i16], row: &[usize], count: usize)
-    requires { ⌜ (length (now part) ≡ mostLiterals) × (count ≤ length (now row)) × (count ≤ mostLiterals) × (all (λ p. ltb p 400) (take count (now row)) ≡ true) ⌝ }
-    ensures { λ _. ⌜ now (part .exit) ≡ encode (take count (now (row .entry))) ⌝ }
-{
-    let mut k = 0;
-    while k < part.len() {
-        part[k] = number_of(row, count, k);
-        k += 1;
-    }
-}
+use implicates::one_row::append_row;
 
 // Appends the row of a clause of which this is kept, at `row`, if it has one, with its rule's number. Returns the next free row.
 fn append_clause(table: &mut [i16], row: usize, rule: usize, places: &[usize], k: Kept) -> usize
@@ -66,9 +28,7 @@ fn append_clause(table: &mut [i16], row: usize, rule: usize, places: &[usize], k
     if k.always {
         return row;
     }
-    let at = WIDTH * row;
-    write_row(&mut table[at..at + MOST_LITERALS], places, k.count);
-    table[at + MOST_LITERALS] = rule as i16;
+    append_row(table, row, rule, places, k.count);
     row + 1
 }
 

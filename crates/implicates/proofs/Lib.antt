@@ -6,6 +6,7 @@ pub mod Table
 pub mod Lone
 pub mod Putting
 pub mod Appending
+pub mod Encoded
 pub mod Turns
 pub mod Rules
 mod Unique

@@ -113,7 +113,7 @@ told-fit rule used rules lent n e = go (satisfiable rule) (fits used rules lent 
 
 -- ---- the truth table of a rule tells the rule
 
-length-assignments : (n : ℕ) → length (assignments n) ≡ 2 ^ n
+pub length-assignments : (n : ℕ) → length (assignments n) ≡ 2 ^ n
 length-assignments zero = refl
 length-assignments (suc n) = simp (length-append, length-map, length-assignments n) (omega arith)
 

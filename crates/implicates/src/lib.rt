@@ -1,6 +1,7 @@
 // All prime implicates of a rule over at most eight symbols, from its truth table to rows.
 
 mod hits;
+pub mod one_row;
 mod rows;
 
 ghost use mathlib.Core.Path.{_≡_};

@@ -10,6 +10,7 @@ pub mod Decoding
 pub mod Differing
 pub mod Encoding
 pub mod Counting
+pub mod Copying
 pub mod Scanning
 pub mod Refusals
 mod Examples

@@ -3,7 +3,7 @@ use Prim.Native.Nat.{_≤_}
 use native.Mathlib.Omega.{arith}
 use Rattle.literals.specs.Refusals.{numberOf}
 use Rattle.literals.specs.declared.refusal.Refusal.{Refusal}
-use Rattle.literals.specs.declared.refusal.Refusal.the-variants.{BadBoard, BadLiteral, CutShort, UnknownKind, TooDeep, BytesLeftOver, TooManySymbols, NoAssignment, TableFull, AlreadyHeld, NotHeld, NothingToShow, TableTooShort, BadText, BadFurnace, BadCandidates, ConflictStays}
+use Rattle.literals.specs.declared.refusal.Refusal.the-variants.{BadBoard, BadLiteral, CutShort, UnknownKind, TooDeep, BytesLeftOver, TooManySymbols, NoAssignment, TableFull, AlreadyHeld, NotHeld, NothingToShow, TableTooShort, BadText, BadFurnace, BadCandidates, ConflictStays, BadPositions}
 
 pub number-some : (why : Refusal) → 1 ≤ numberOf why
 number-some BadBoard = omega arith
@@ -23,3 +23,4 @@ number-some BadText = omega arith
 number-some BadFurnace = omega arith
 number-some BadCandidates = omega arith
 number-some ConflictStays = omega arith
+number-some BadPositions = omega arith

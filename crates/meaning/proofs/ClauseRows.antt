@@ -2,15 +2,16 @@
 -- that is always true: none.
 use mathlib.Core.Path.{_≡_, refl, sym, ap, _∙_, subst, subst₂}
 use mathlib.Core.Logic.{⊎-elim}
-use mathlib.Core.Bool.{Bool, true, false, not}
+use mathlib.Core.Bool.{Bool, true, false, not, _&&_, Bool·beq}
 use mathlib.Core.List.{List, [], _∷_, map}
 use mathlib.Core.List.{List·Memᴰ as In, List·Memᴰ·head as here-in, List·Memᴰ·tail as there, List·Memᴰ·not-nil as in-nil}
 use Prim.Native.Nat.{ℕ, zero, suc, _<_}
 use native.Mathlib.Omega.{arith}
 use lib.ListN.{length, length-map}
 use borrow.Author.Tests.{not-true}
-use Rattle.meaning.specs.Tests.{from}
+use Rattle.meaning.specs.Tests.{all, from}
 use Rattle.meaning.specs.BySize.{BySize, EachBefore}
+use Rattle.meaning.specs.Literals.{place}
 use Rattle.meaning.specs.Formulae.{Rule}
 use Rattle.meaning.specs.Clauses.{Digit, denies, out, falsifies, hit, prime, lone, clauses, size, primesInOrder, rowOf, rowsOf}
 use Rattle.meaning.specs.Clauses.{RowBefore, here, later}
@@ -23,10 +24,10 @@ use Rattle.meaning.proofs.Order.{all-primes}
 use Rattle.meaning.proofs.OrderOfRows.{Sorted, clauses-each}
 
 -- a clause that is not hit, while leaving out any one literal makes it hit, is prime; and a prime one is not hit
-prime-of : (sat : List Bool → Bool) (v : List Digit) → hit sat v ≡ false → lone (hit sat) v ≡ true → prime sat v ≡ true
+pub prime-of : (sat : List Bool → Bool) (v : List Digit) → hit sat v ≡ false → lone (hit sat) v ≡ true → prime sat v ≡ true
 prime-of sat v h l = prime-lone sat v ∙ and-intro (not (hit sat v)) (lone (hit sat) v) (not-intro (hit sat v) h) l
 
-not-hit : (sat : List Bool → Bool) (v : List Digit) → prime sat v ≡ true → hit sat v ≡ false
+pub not-hit : (sat : List Bool → Bool) (v : List Digit) → prime sat v ≡ true → hit sat v ≡ false
 not-hit sat v p = not-true (hit sat v) (both-true (not (hit sat v)) (lone (hit sat) v) (sym (prime-lone sat v) ∙ p) .0)
 
 -- ---- a rule that is always true is hit by every clause
@@ -59,6 +60,17 @@ against x = map denies x
 
 abbrev pub unless : List Bool → List Bool → Bool
 unless x a = not (falsifies (against x) a)
+
+-- a clause that denies each symbol the value `f` is false where they have it,
+pub falsifies-map : (f e : ℕ → Bool) (symbols : List ℕ)
+    → falsifies (against (map f symbols)) (map e symbols) ≡ all (λ s. Bool·beq (f s) (e s)) symbols
+falsifies-map f e [] = refl
+falsifies-map f e (s ∷ symbols) = ap (λ (b : Bool). Bool·beq (f s) (e s) && b) (falsifies-map f e symbols)
+
+-- and its row says of each the other value
+pub row-map : (f : ℕ → Bool) (symbols : List ℕ) → rowOf symbols (against (map f symbols)) ≡ map (λ s. place s (not (f s))) symbols
+row-map f [] = refl
+row-map f (s ∷ symbols) = ap (λ (row : List ℕ). place s (not (f s)) ∷ row) (row-map f symbols)
 
 -- a clause that leaves out the first literal is hit
 out-hit : (b : Bool) (x : List Bool) (v : List Digit) → hit (unless (b ∷ x)) (out ∷ v) ≡ true
@@ -114,7 +126,7 @@ once R u [] n c m f = absurd (in-nil m)
 once R u (v ∷ []) n c m f = ap (λ (w : List Digit). w ∷ []) (f v (here-in refl))
 once R u (v ∷ w ∷ vs) n c m f = absurd (n (subst₂ R (f v (here-in refl)) (f w (there (here-in refl))) (c .0 w (here-in refl))))
 
-from-ascends : (m k n : ℕ) → m < k → Ascending m (from k n)
+pub from-ascends : (m k n : ℕ) → m < k → Ascending m (from k n)
 from-ascends m k zero l = tt
 from-ascends m k (suc n) l = (l, from-ascends k (suc k) n (omega arith))
 

@@ -46,10 +46,10 @@ demand-three-computed S fs held ok =
 
 -- a set of literals that is a computed one has a conflict just where that one has
 module _ (Known : ℕ → Type 0) (known : List Bool) (is : (p : ℕ) → Known p ↔ (has known p ≡ true)) where
-  conflict-words : conflict known ≡ true → Conflict Known
+  pub conflict-words : conflict known ≡ true → Conflict Known
   conflict-words h = let r = conflict-found known h in (r .0, is (r .0) .1 (r .1), is (opp (r .0)) .1 (r .2))
 
-  conflict-of : Conflict Known → conflict known ≡ true
+  pub conflict-of : Conflict Known → conflict known ≡ true
   conflict-of c = conflict-at known (c .0) (is (c .0) .0 (c .1)) (is (opp (c .0)) .0 (c .2))
 
 pub demand-three : DemandThree

@@ -1,17 +1,18 @@
 -- Laws of formulae: which symbols a rule has, that its value depends on them alone, and that an assignment is what it gives them.
-use mathlib.Core.Path.{_≡_, refl, sym, ap, ap₂, _∙_}
+use mathlib.Core.Path.{_≡_, refl, sym, ap, ap₂, _∙_, subst}
 use mathlib.Core.Logic.{_⊎_, inl, inr, ⊎-elim}
 use mathlib.Core.Bool.{Bool, true, false, not, _&&_, _||_, Bool·beq, cond}
 use mathlib.Core.List.{List, [], _∷_, map}
-use mathlib.Core.List.{List·Memᴰ as In, List·Memᴰ·cases-cons as in-cons, List·Memᴰ·not-nil as in-nil}
+use mathlib.Core.List.{List·Memᴰ as In, List·Memᴰ·head as here, List·Memᴰ·tail as there, List·Memᴰ·cases-cons as in-cons}
+use mathlib.Core.List.{List·Memᴰ·not-nil as in-nil}
 use Prim.Native.Nat.{ℕ, zero, suc, _≤_, _<_}
 use native.Mathlib.Omega.{arith}
 use lib.Dec.{eqb, leb}
 use lib.ListN.{length}
-use borrow.Author.Tests.{eqb-true, eq-eqb, ne-eqb, leb-true}
+use borrow.Author.Tests.{eqb-true, eq-eqb, ne-eqb, leb-true, le-leb}
 use Rattle.meaning.specs.Tests.{keep, from}
 use Rattle.meaning.specs.Formulae.{Formula, symbol, neg, and, or, imp, same, value, occurs, inside, symbolsOf, look, ruleOf}
-use Rattle.meaning.proofs.Tests.{one-true, or-left, or-right, both-true, clash, in-keep, keep-in, from-in, in-from, map-same}
+use Rattle.meaning.proofs.Tests.{one-true, or-left, or-right, both-true, and-intro, clash, in-keep, keep-in, from-in, in-from, map-same}
 
 -- ---- which symbols a rule has
 
@@ -45,6 +46,23 @@ inside-bounds S (and f g) s i o = two S f g s i o (inside-bounds S f s) (inside-
 inside-bounds S (or f g) s i o = two S f g s i o (inside-bounds S f s) (inside-bounds S g s)
 inside-bounds S (imp f g) s i o = two S f g s i o (inside-bounds S f s) (inside-bounds S g s)
 inside-bounds S (same f g) s i o = two S f g s i o (inside-bounds S f s) (inside-bounds S g s)
+
+-- and where each that occurs is, all are
+both-inside : (S : ℕ) (f g : Formula) → (((s : ℕ) → occurs s f ≡ true → (zero < s) × (s ≤ S)) → inside S f ≡ true)
+    → (((s : ℕ) → occurs s g ≡ true → (zero < s) × (s ≤ S)) → inside S g ≡ true)
+    → ((s : ℕ) → occurs s f || occurs s g ≡ true → (zero < s) × (s ≤ S)) → inside S f && inside S g ≡ true
+both-inside S f g first second h =
+    and-intro (inside S f) (inside S g) (first (λ s o. h s (or-left (occurs s f) (occurs s g) o)))
+    (second (λ s o. h s (or-right (occurs s f) (occurs s g) o)))
+
+pub inside-of : (S : ℕ) (f : Formula) → ((s : ℕ) → occurs s f ≡ true → (zero < s) × (s ≤ S)) → inside S f ≡ true
+unfolding inside occurs
+inside-of S (symbol t) h = let b = h t (eq-eqb t t refl) in and-intro (leb 1 t) (leb t S) (le-leb 1 t (b .0)) (le-leb t S (b .1))
+inside-of S (neg f) h = inside-of S f h
+inside-of S (and f g) h = both-inside S f g (inside-of S f) (inside-of S g) h
+inside-of S (or f g) h = both-inside S f g (inside-of S f) (inside-of S g) h
+inside-of S (imp f g) h = both-inside S f g (inside-of S f) (inside-of S g) h
+inside-of S (same f g) h = both-inside S f g (inside-of S f) (inside-of S g) h
 
 -- where all are, each symbol that occurs is listed
 pub in-symbols : (S : ℕ) (f : Formula) (s : ℕ) → inside S f ≡ true → occurs s f ≡ true → In s (symbolsOf S f)
@@ -113,6 +131,27 @@ keep-ascends test m k (suc n) h = go (test k) (keep-ascends test k (suc k) n (om
 pub symbols-ascend : (S : ℕ) (f : Formula) → Ascending 0 (symbolsOf S f)
 unfolding symbolsOf
 symbols-ascend S f = keep-ascends (λ (s : ℕ). occurs s f) 0 1 S (omega arith)
+
+-- two lists that ascend and have the same members are the same
+ascending-same : (m : ℕ) (k l : List ℕ) → Ascending m k → Ascending m l → ((s : ℕ) → In s k → In s l) → ((s : ℕ) → In s l → In s k) → k ≡ l
+ascending-same m [] [] a b f g = refl
+ascending-same m [] (t ∷ l) a b f g = absurd (in-nil (g t (here refl)))
+ascending-same m (s ∷ k) [] a b f g = absurd (in-nil (f s (here refl)))
+ascending-same m (s ∷ k) (t ∷ l) a b f g =
+    let first : s ≡ t = ⊎-elim (λ e. e) (λ i. ⊎-elim sym (λ j. absurd (crossed i j)) (in-cons (g t (here refl)))) (in-cons (f s (here refl))) in
+    ap₂ (λ (x : ℕ) (y : List ℕ). x ∷ y) first
+    (ascending-same s k l (a .1) (subst (λ (x : ℕ). Ascending x l) (sym first) (b .1))
+    (λ r i. ⊎-elim (λ e. absurd (omega (arith, e, first, ascending-above s k r (a .1) i))) (λ j. j) (in-cons (f r (there i))))
+    (λ r i. ⊎-elim (λ e. absurd (omega (arith, e, first, ascending-above t l r (b .1) i))) (λ j. j) (in-cons (g r (there i)))))
+  where
+    crossed : In s l → In t k → ⊥
+    crossed i j = omega (arith, ascending-above t l s (b .1) i, ascending-above s k t (a .1) j)
+
+-- so the symbols are any list that rises and has those that occur
+pub symbols-are : (S : ℕ) (f : Formula) (l : List ℕ) → inside S f ≡ true → Ascending 0 l → ((s : ℕ) → occurs s f ≡ true → In s l)
+    → ((s : ℕ) → In s l → occurs s f ≡ true) → symbolsOf S f ≡ l
+symbols-are S f l i a to back =
+    ascending-same 0 (symbolsOf S f) l (symbols-ascend S f) a (λ s m. to s (symbol-occurs S f m)) (λ s m. in-symbols S f s i (back s m))
 
 -- an assignment is what it gives its symbols, in order
 pub look-self : (m : ℕ) (symbols : List ℕ) (a : List Bool) → Ascending m symbols → length a ≡ length symbols → map (look symbols a) symbols ≡ a

@@ -1,15 +1,17 @@
--- Assignments are all listed, and what an implicate says of them.
+-- Assignments are all listed, so a formula that is true of some truth values is satisfiable; and what an implicate says of them.
 use mathlib.Core.Path.{_≡_, refl, sym, ap, _∙_}
 use mathlib.Core.Logic.{⊎-elim}
 use mathlib.Core.Bool.{Bool, true, false, not, _&&_}
 use mathlib.Core.List.{List, [], _∷_, map, Memᴰ·append-left, Memᴰ·append-right, List·Memᴰ·append-cases, Memᴰ·map, Memᴰ·of-map}
 use mathlib.Core.List.{List·Memᴰ as In, List·Memᴰ·head as here, List·Memᴰ·eq-of-singleton as in-one}
 use Prim.Native.Nat.{ℕ, zero, suc}
-use lib.ListN.{length}
+use lib.ListN.{length, length-map}
 use borrow.Author.Tests.{not-true}
 use Rattle.meaning.specs.Tests.{all}
-use Rattle.meaning.specs.Clauses.{Digit, assignments, falsifies, hit, implicate, shorter, prime}
+use Rattle.meaning.specs.Formulae.{Formula, value, inside, symbolsOf, ruleOf}
+use Rattle.meaning.specs.Clauses.{Digit, assignments, falsifies, hit, implicate, shorter, prime, satisfiable}
 use Rattle.meaning.proofs.Tests.{both-true, and-intro, not-intro, false-of, clash, any-found, any-at}
+use Rattle.meaning.proofs.Formulae.{accepts-value}
 
 -- the assignments to n symbols are the lists of n Booleans
 pub assignment-listed : (a : List Bool) → In a (assignments (length a))
@@ -27,6 +29,10 @@ assignment-length zero a m = ap length (in-one m)
 assignment-length (suc n) a m =
     ⊎-elim (one-longer false n a (assignment-length n)) (one-longer true n a (assignment-length n))
     (List·Memᴰ·append-cases (map (λ (b : List Bool). false ∷ b) (assignments n)) m)
+
+pub satisfied-by : (S : ℕ) (f : Formula) (e : ℕ → Bool) → inside S f ≡ true → value e f ≡ true → satisfiable (ruleOf S f) ≡ true
+satisfied-by S f e i h =
+    any-at (ruleOf S f .accepts) (rw (length-map (symbolsOf S f) e) at (assignment-listed (map e (symbolsOf S f)))) (accepts-value S f e i ∙ h)
 
 module _ (sat : List Bool → Bool) where
   -- no assignment that satisfies the rule makes an implicate false

@@ -32,6 +32,16 @@ pub mod TwoWays
 mod Words
 pub mod Forced
 pub mod DemandThree
+pub mod PositionRules
+mod ExactlyOne
+pub mod VariableRows
+pub mod PairRules
+pub mod PositionRows
+mod RowKinds
+mod RemovedDerived
+pub mod Positions
+pub mod Removal
 mod Boards
 mod SetBoards
+mod PositionBoards
 pub mod Answers

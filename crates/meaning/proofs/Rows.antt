@@ -1,8 +1,8 @@
 -- The literals of a row: what they have to do with the clause's symbols and with assignments; and the rows of several rules.
-use mathlib.Core.Path.{_≡_, refl}
+use mathlib.Core.Path.{_≡_, refl, sym, ap, _∙_}
 use mathlib.Core.Logic.{_⊎_, inl, inr, ⊎-elim}
 use mathlib.Core.Bool.{Bool, true, false, not, _&&_, true≢false}
-use mathlib.Core.List.{List, [], _∷_, Memᴰ·append-left, Memᴰ·append-right, List·Memᴰ·append-cases, Memᴰ·map, Memᴰ·of-map}
+use mathlib.Core.List.{List, [], _∷_, _++_, append-assoc, Memᴰ·append-left, Memᴰ·append-right, List·Memᴰ·append-cases, Memᴰ·map, Memᴰ·of-map}
 use mathlib.Core.List.{List·Memᴰ as In, List·Memᴰ·head as here, List·Memᴰ·tail as there, List·Memᴰ·cases-cons as in-cons, List·Memᴰ·not-nil as in-nil}
 use Prim.Native.Nat.{ℕ}
 use native.Mathlib.Omega.{arith}
@@ -81,3 +81,8 @@ pub all-rows-in : (rules : List Rule) (row : List ℕ) → In row (allRows rules
 all-rows-in [] row m = absurd (in-nil m)
 all-rows-in (r ∷ rules) row m =
     ⊎-elim (λ n. (r, here refl, n)) (λ n. let k = all-rows-in rules row n in (k .0, there (k .1), k .2)) (List·Memᴰ·append-cases (rowsOf r) m)
+
+pub all-rows-append : (rules more : List Rule) → allRows (rules ++ more) ≡ allRows rules ++ allRows more
+all-rows-append [] more = refl
+all-rows-append (r ∷ rules) more =
+    ap (λ (rows : List (List ℕ)). rowsOf r ++ rows) (all-rows-append rules more) ∙ sym (append-assoc (rowsOf r) (allRows rules) (allRows more))

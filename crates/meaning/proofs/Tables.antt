@@ -74,7 +74,7 @@ le-or-lt a b = go (leb a b) refl
     go false e = inr (leb-false a b e)
 
 -- what holds below n and at n holds below suc n
-below-suc : (P : ℕ → Type 0) (n : ℕ) → ((i : ℕ) → i < n → P i) → P n → (i : ℕ) → i < suc n → P i
+pub below-suc : (P : ℕ → Type 0) (n : ℕ) → ((i : ℕ) → i < n → P i) → P n → (i : ℕ) → i < suc n → P i
 below-suc P n all here i h = ⊎-elim (λ e. subst P (sym e) here) (λ l. all i l) (eq-or-lt-of-le (le-of-suc-le-suc h))
 
 -- r is the least number below n that passes the test, or none where there is none

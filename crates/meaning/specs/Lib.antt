@@ -9,6 +9,8 @@ pub mod Ground
 pub mod Sets
 pub mod Smallest
 pub mod Least
+pub mod Positions
+pub mod Removal
 pub mod LeavingOff
 pub mod SecondWay
 pub mod Promises

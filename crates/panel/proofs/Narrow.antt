@@ -7,6 +7,7 @@ use native.Mathlib.Omega.{arith}
 use borrow.Author.Tests.{not-false}
 use lib.IntN.{ℤ}
 use lib.ListN.{length}
+use Rattle.meaning.specs.Positions.{Entry}
 use Rattle.literals.specs.Row.{mostRules, rowsLent}
 use Rattle.literals.specs.declared.refusal.Refusal.the-variants.{BadText}
 use Rattle.board.specs.Furnaces.{withHeld}
@@ -20,6 +21,8 @@ use Rattle.board.specs.declared.Outcome.{Outcome}
 use Rattle.board.specs.declared.Outcome.the-variants.{Done, Refused}
 use Rattle.board.proofs.Answered.{none-given}
 use Rattle.board.proofs.Goodness.{good-is}
+use Rattle.positions.specs.Entering.{entryFaults, entered}
+use Rattle.positions.proofs.Answers.{entry-passed}
 use Rattle.dimacs.specs.Reading.{readAnswer, readFaults}
 use Rattle.dimacs.proofs.ClauseCount.{read-fits, read-rules, told-few}
 use Rattle.chains.specs.Form.{wholeText}
@@ -95,3 +98,14 @@ module _ (table : List ℤ) (b : Board) (n : Narrow b) where
   -- its clauses are not more than a header can count
   pub narrow-read : (text : List ℕ) → let r = readAnswer table b text in Narrow (r .board) × (r .clauses < 65536) × (r .added < 65536)
   narrow-read text = (read-rows text .0, omega (arith, told-few table b text), read-rows text .1)
+
+  -- the rows and the rules of an entry fit wholly
+  pub narrow-entered : (e : Entry) → Narrow (entered table b e .board) × (entered table b e .added < 65536)
+  unfolding entered
+  narrow-entered e = go (firstFault (entryFaults table b e)) refl
+    where
+      go : (o : Outcome) → firstFault (entryFaults table b e) ≡ o → Narrow (entered table b e .board) × (entered table b e .added < 65536)
+      go Done d =
+          let p = entry-passed table b e d in
+          rw d (record { symbols = n .symbols; rows = omega (arith, p .rows); rules = omega (arith, p .rules) }, omega (arith, p .rows))
+      go (Refused why) d = rw d (n, omega arith)

@@ -53,3 +53,9 @@ one-smallest κs a x y = (cc, refl & refl & refl & refl & (cc) & refl)
 
 one-least : One panel.tup_least.ended panel.tup_least.Reads.Post
 one-least κs a x y = (cc, refl & refl & refl & refl)
+
+one-add-positions : One panel.tup_add_positions.ended panel.tup_add_positions.Reads.Post
+one-add-positions κs a x y = (cc, refl & (cc) & refl & refl)
+
+one-add-pairs : One panel.tup_add_pairs.ended panel.tup_add_pairs.Reads.Post
+one-add-pairs κs a x y = (cc, refl & (cc) & refl & refl & refl & refl & refl)

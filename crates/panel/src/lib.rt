@@ -1,5 +1,5 @@
-// The C boundary: each exported function is a call of `board`, `smallest`, `least`, `dimacs` or `text` and nothing else. include/tupahineka.h declares
-// them.
+// The C boundary: each exported function is a call of `board`, `positions`, `smallest`, `least`, `dimacs` or `text` and nothing else.
+// include/tupahineka.h declares them.
 
 mod crossing;
 
@@ -11,6 +11,7 @@ ghost use Rattle.board.specs.Rules.{ruled, ruledTable};
 ghost use Rattle.board.specs.Settling.{settleOutcome, settledLabels, settledRanks, settledSupports, RanksBounded};
 ghost use Rattle.board.specs.Asking.{asked, askedWhole, reasoned, explained};
 ghost use Rattle.board.specs.Grounds.{groundOutcome, groundMarks, blameOutcome, blameMarks};
+ghost use Rattle.positions.specs.Entering.{variableOf, pairsOf, entered, enteredTable};
 ghost use Rattle.smallest.specs.Listing.{smallestAnswer, smallestSets};
 ghost use Rattle.least.specs.Withdrawing.{leastAnswer};
 ghost use Rattle.dimacs.specs.Reading.{readAnswer, readTable};
@@ -180,6 +181,50 @@ pub extern "C" fn tup_write_text(
 {
     let spelling = text::writing::write(board_in(given), table, bytes, out);
     spelling_out(spelling)
+}
+
+#[no_mangle]
+pub extern "C" fn tup_add_positions(
+    given: PanelBoard,
+    table: &mut [i16],
+    first: u16,
+    count: u16,
+) -> PanelAddition
+    ensures { λ r. ⌜ r ≡ additionOut given (entered (now (table .entry)) (boardIn given) (variableOf first count)) ⌝ }
+    ensures { λ _. ⌜ now (table .exit) ≡ enteredTable (now (table .entry)) (boardIn given) (variableOf first count) ⌝ }
+{
+    let addition = positions::variables::add_positions(
+        board_in(given),
+        table,
+        first as usize,
+        count as usize,
+    );
+    addition_out(given, addition)
+}
+
+#[no_mangle]
+pub extern "C" fn tup_add_pairs(
+    given: PanelBoard,
+    table: &mut [i16],
+    first: u16,
+    count: u16,
+    other: u16,
+    others: u16,
+    pairs: u64,
+) -> PanelAddition
+    ensures { λ r. ⌜ r ≡ additionOut given (entered (now (table .entry)) (boardIn given) (pairsOf first count other others pairs)) ⌝ }
+    ensures { λ _. ⌜ now (table .exit) ≡ enteredTable (now (table .entry)) (boardIn given) (pairsOf first count other others pairs) ⌝ }
+{
+    let addition = positions::pairs::add_pairs(
+        board_in(given),
+        table,
+        first as usize,
+        count as usize,
+        other as usize,
+        others as usize,
+        pairs as usize,
+    );
+    addition_out(given, addition)
 }
 
 #[no_mangle]

@@ -10,6 +10,7 @@ use lib.Dec.{eqb}
 use lib.IntN.{ℤ}
 use lib.ListN.{length, set}
 use Rattle.meaning.specs.Formulae.{Formula}
+use Rattle.meaning.specs.Positions.{Entry}
 use Rattle.meaning.proofs.Tests.{clash}
 use Rattle.literals.specs.Literal.{placeOf}
 use Rattle.literals.specs.Row.{rowsLent}
@@ -18,7 +19,7 @@ use Rattle.formula.specs.Parse.{wholeOf}
 use Rattle.board.specs.Furnaces.{heldBy, withHeld}
 use Rattle.board.specs.Faults.{premisesFit, goodBoard, firstFault, ifDone}
 use Rattle.board.specs.Changes.{withFlag, flagFaults, flagChanged}
-use Rattle.board.specs.Rules.{breaksAt, placeTold, rowsOfBytes, ruleFaults, ruled}
+use Rattle.board.specs.Rules.{noPlace, breaksAt, placeTold, rowsOfBytes, ruleFaults, ruled}
 use Rattle.board.specs.Settling.{settleFaults, settleOutcome, settledLabels, settledRanks, settledSupports}
 use Rattle.board.specs.Asking.{askFaults, asked, askedWhole, explainFaults, reasoned, explained}
 use Rattle.board.specs.Grounds.{groundFaults, groundOutcome, groundMarks, blameFaults, blameOutcome, blameMarks}
@@ -27,6 +28,7 @@ use Rattle.board.specs.declared.Outcome.{Outcome}
 use Rattle.board.specs.declared.Outcome.the-variants.{Done, Refused}
 use Rattle.board.proofs.Goodness.{flag-fits}
 use Rattle.board.proofs.TwoSets.{held-own, held-other}
+use Rattle.positions.specs.Entering.{rowsOfEntry, entryFaults, entered}
 use Rattle.smallest.specs.Listing.{smallestAt, smallestFaults, smallestOutcome, smallestAnswer, smallestSets}
 use Rattle.least.specs.Withdrawing.{leastOn, leastFaults, leastAnswer}
 use Rattle.dimacs.specs.Form.{clausesOf, parseText}
@@ -37,14 +39,14 @@ use Rattle.chains.specs.Form.{wholeText}
 use Rattle.text.specs.Reading.{bytesIn, readTextFaults, readTextOutcome, readTextAnswer, readTextBytes}
 use Rattle.text.specs.Adding.{textRefused, ruledText}
 use Rattle.text.specs.Writing.{writeTextFaults, writeTextOutcome, writeTextAnswer, writeTextBytes}
-use Rattle.promises.specs.Calls.{Call, opens, adds, holds, withdraws, asks, asksWhole, explains, settles, grounds, blames, lists, asksLeast, reads, writes, readsText, addsText, writesText}
+use Rattle.promises.specs.Calls.{Call, opens, adds, enters, holds, withdraws, asks, asksWhole, explains, settles, grounds, blames, lists, asksLeast, reads, writes, readsText, addsText, writesText}
 use Rattle.promises.specs.Calls.{ofAddition, ofReading, World, front, answer, outcomeOf, outcome, after, run, formulaIn, notOpen, names, changes, without}
 use Rattle.promises.specs.Demands.{Alike, FurnacesApart}
 use Rattle.promises.proofs.Refusals.{done-or-refused, refused-untouched, so-after}
 use Rattle.promises.proofs.Changes.{Flagged, hold-flagged, withdraw-flagged}
-use Rattle.promises.proofs.Tested.{Added, rule-added, rule-text-added, text-added}
+use Rattle.promises.proofs.Tested.{Added, rule-added, entry-added, rule-text-added, text-added}
 
--- ---- what a rule and a reading tell, but for the board
+-- ---- what a rule, an entry and a reading tell, but for the board
 
 rule-tells : (table : List ℤ) (b : Board) (bytes : List ℕ) → let a = ruled table b bytes in let o = firstFault (ruleFaults table b bytes) in
     ofAddition (a .outcome) (a .place) (a .added)
@@ -58,6 +60,18 @@ rule-tells table b bytes = go (firstFault (ruleFaults table b bytes)) refl
         (ifDone (firstFault (ruleFaults table b bytes)) (length (rowsOfBytes (b .symbols) bytes)) (λ _. 0))
     go Done e = rw e
     go (Refused why) e = rw e
+
+entry-tells : (table : List ℤ) (b : Board) (e : Entry) → let a = entered table b e in let o = firstFault (entryFaults table b e) in
+    ofAddition (a .outcome) (a .place) (a .added) ≡ ofAddition o noPlace (ifDone o (length (rowsOfEntry (b .symbols) e)) (λ _. 0))
+unfolding entered
+entry-tells table b e = go (firstFault (entryFaults table b e)) refl
+  where
+    go : (o : Outcome) → firstFault (entryFaults table b e) ≡ o → let a = entered table b e in
+        ofAddition (a .outcome) (a .place) (a .added)
+        ≡ ofAddition (firstFault (entryFaults table b e)) noPlace
+        (ifDone (firstFault (entryFaults table b e)) (length (rowsOfEntry (b .symbols) e)) (λ _. 0))
+    go Done d = rw d
+    go (Refused why) d = rw d
 
 text-tells : (table : List ℤ) (b : Board) (text : List ℕ) → let a = ruledText table b text in let r = ruled table b (bytesIn text) in
     ofAddition (a .outcome) (a .place) (a .added)
@@ -112,9 +126,12 @@ module _ {f : ℕ} {v u : World} (s : Same f v u) where
 
   -- the same answer to every call that does not name the furnace
   same-answer : (c : Call) → names f c ≡ false → answer v c ≡ answer u c
-  unfolding answer flagChanged flagFaults asked askedWhole askFaults reasoned explained explainFaults settleOutcome settledLabels settledRanks settledSupports settleFaults groundOutcome groundMarks groundFaults blameOutcome blameMarks blameFaults smallestAnswer smallestSets smallestOutcome smallestFaults smallestAt leastAnswer leastFaults leastOn readFaults writeAnswer writeBytes writeOutcome writeFaults textOn readTextAnswer readTextBytes readTextOutcome readTextFaults writeTextAnswer writeTextBytes writeTextOutcome writeTextFaults
+  unfolding answer flagChanged flagFaults asked askedWhole askFaults reasoned explained explainFaults settleOutcome settledLabels settledRanks settledSupports settleFaults groundOutcome groundMarks groundFaults blameOutcome blameMarks blameFaults smallestAnswer smallestSets smallestOutcome smallestFaults smallestAt leastAnswer leastFaults leastOn entryFaults readFaults writeAnswer writeBytes writeOutcome writeFaults textOn readTextAnswer readTextBytes readTextOutcome readTextFaults writeTextAnswer writeTextBytes writeTextOutcome writeTextFaults
   same-answer (opens S) n = refl
   same-answer (adds lent bytes) n = rule-same lent bytes
+  same-answer (enters lent e) n =
+      entry-tells (front v lent) (v .board) e
+      ∙ rw (good lent, a .symbols, a .rows, a .rules, a .table, ← entry-tells (front u lent) (u .board) e)
   same-answer (holds lent g l) n = rw (good lent, a .premises g (eqb-false g f n), a .symbols)
   same-answer (withdraws lent g l) n = rw (good lent, a .premises g (eqb-false g f n), a .symbols)
   same-answer (asks lent g l) n = rw (good lent, a .premises g (eqb-false g f n), a .symbols, a .rows, a .table)
@@ -198,6 +215,8 @@ module _ {f : ℕ} {v u : World} (s : Same f v u) where
       (subst (λ (S : ℕ). Added v (after v (adds lent bytes)) lent (formulaIn S bytes ∷ []) (ruled (front v lent) (v .board) bytes .added)) (a .symbols)
       (rule-added v lent bytes e))
       (rule-added u lent bytes d))
+  same-after (enters lent entry) n =
+      so-both (enters lent entry) refl refl (λ e d. same-added (entry-added v lent entry e) (entry-added u lent entry d))
   same-after (holds lent g l) n =
       so-both (holds lent g l) refl n (λ e d. same-flagged (eqb-false g f n) (hold-flagged v lent g l e) (hold-flagged u lent g l d))
   same-after (withdraws lent g l) n =
@@ -240,6 +259,7 @@ module _ {f : ℕ} {v u : World} (s : Same f v u) where
   after-apart : (c : Call) → changes c && names f c ≡ true → Same f v (after u c)
   after-apart (opens S) n = clash n refl
   after-apart (adds lent bytes) n = clash n refl
+  after-apart (enters lent e) n = clash n refl
   after-apart (holds lent g l) n =
       so-after (Same f v) u (holds lent g l) refl s (λ e. flagged-apart (eqb-true g f n) (hold-flagged u lent g l e))
   after-apart (withdraws lent g l) n =

@@ -127,7 +127,7 @@ stands-on w lent some furnace l calls e sparing d =
 -- ---- the old answer
 
 -- where there is no conflict, none is of the literal's symbol
-none-here : (known : List Bool) (p : ℕ) → conflict known ≡ false → has known p && has known (opp p) ≡ false
+pub none-here : (known : List Bool) (p : ℕ) → conflict known ≡ false → has known p && has known (opp p) ≡ false
 none-here known p quiet =
     false-of (has known p && has known (opp p)) (λ c. (let both = both-true _ _ c in clash (conflict-at known p (both .0) (both .1)) quiet))
 

@@ -5,15 +5,17 @@ use mathlib.Core.List.{List, _++_}
 use Prim.Native.Nat.{ℕ}
 use lib.IntN.{ℤ}
 use lib.ListN.{drop}
+use Rattle.meaning.specs.Positions.{Entry}
 use Rattle.board.specs.Changes.{opened, held, withdrawn}
 use Rattle.board.specs.Rules.{ruled, ruledTable}
 use Rattle.board.specs.declared.Board.{Board}
 use Rattle.board.specs.declared.Change.{Change}
 use Rattle.board.specs.declared.rules.Addition.{Addition}
+use Rattle.positions.specs.Entering.{entered, enteredTable}
 use Rattle.dimacs.specs.Reading.{readAnswer, readTable}
 use Rattle.dimacs.specs.declared.reading.Reading.{Reading}
 use Rattle.text.specs.Adding.{ruledText, ruledTextTable}
-use Rattle.promises.specs.Calls.{opens, adds, holds, withdraws, asks, asksWhole, explains, settles, grounds, blames, lists, asksLeast, reads, writes}
+use Rattle.promises.specs.Calls.{opens, adds, enters, holds, withdraws, asks, asksWhole, explains, settles, grounds, blames, lists, asksLeast, reads, writes}
 use Rattle.promises.specs.Calls.{readsText, addsText, writesText, World, front, after}
 
 module _ (w : World) where
@@ -34,6 +36,11 @@ module _ (w : World) where
         → t ≡ ruledTable (front w lent) (w .board) bytes → with-part (r .board) t ≡ after w (adds lent bytes)
     unfolding after with-part
     rule-carried bytes r t e f = ap₂ (λ (a : Addition). with-part (a .board)) e f
+
+    enter-carried : (e : Entry) (r : Addition) (t : List ℤ) → r ≡ entered (front w lent) (w .board) e
+        → t ≡ enteredTable (front w lent) (w .board) e → with-part (r .board) t ≡ after w (enters lent e)
+    unfolding after with-part
+    enter-carried e r t is left = ap₂ (λ (a : Addition). with-part (a .board)) is left
 
     read-carried : (text : List ℕ) (r : Reading) (t : List ℤ) → r ≡ readAnswer (front w lent) (w .board) text
         → t ≡ readTable (front w lent) (w .board) text → with-part (r .board) t ≡ after w (reads lent text)

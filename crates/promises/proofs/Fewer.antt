@@ -17,7 +17,7 @@ use Rattle.board.specs.Faults.{premisesFit}
 use Rattle.board.specs.Changes.{withFlag}
 use Rattle.board.proofs.TwoSets.{held-own, held-other}
 use Rattle.board.proofs.Goodness.{flag-fits}
-use Rattle.promises.specs.Calls.{Call, opens, adds, holds, withdraws, asks, asksWhole, explains, settles, grounds, blames, lists, asksLeast, reads, writes}
+use Rattle.promises.specs.Calls.{Call, opens, adds, enters, holds, withdraws, asks, asksWhole, explains, settles, grounds, blames, lists, asksLeast, reads, writes}
 use Rattle.promises.specs.Calls.{readsText, addsText, writesText, World, after, run, Each, notOpen}
 use Rattle.promises.specs.Demands.{premisesOf, Spares, BringsNothing}
 use Rattle.promises.proofs.Refusals.{so-after}
@@ -63,6 +63,7 @@ module _ (furnace : ℕ) (w : World) (is-furnace : isFurnace furnace ≡ true) w
     unfolding after
     step (opens S) n nothing = clash n refl
     step (adds lent bytes) n nothing = so-after (Fewer furnace w) v (adds lent bytes) refl f (λ d. clash refl (nothing d))
+    step (enters lent e) n nothing = so-after (Fewer furnace w) v (enters lent e) refl f (λ d. clash refl (nothing d))
     step (holds lent named l) n nothing =
         so-after (Fewer furnace w) v (holds lent named l) refl f
         (λ d. flagged (hold-flagged v lent named l d) (λ is. clash (eq-eqb named furnace is) (nothing d)))

@@ -26,12 +26,12 @@ use Rattle.board.specs.Faults.{premisesFit, goodBoard}
 use Rattle.board.specs.Changes.{openFaults, opened}
 use Rattle.board.specs.Rules.{withRules}
 use Rattle.board.proofs.Goodness.{by-rows, empty-good, flag-good}
-use Rattle.promises.specs.Calls.{Call, opens, adds, holds, withdraws, asks, asksWhole, explains, settles, grounds, blames, lists, asksLeast, reads, writes}
+use Rattle.promises.specs.Calls.{Call, opens, adds, enters, holds, withdraws, asks, asksWhole, explains, settles, grounds, blames, lists, asksLeast, reads, writes}
 use Rattle.promises.specs.Calls.{readsText, addsText, writesText, World, front, after, run, notOpen}
 use Rattle.promises.specs.Demands.{StaysGood}
 use Rattle.promises.proofs.Refusals.{so-after}
 use Rattle.promises.proofs.Changes.{Flagged, hold-flagged, withdraw-flagged}
-use Rattle.promises.proofs.Tested.{ruledFor, Added, rule-added, rule-text-added, text-added}
+use Rattle.promises.proofs.Tested.{ruledFor, Added, rule-added, entry-added, rule-text-added, text-added}
 use Rattle.promises.proofs.Lent.{numbers-front, numbers-lent}
 use Rattle.promises.proofs.Stored.{its-places, after-it, kept, after-them, whole, kept-long, rows-appended, new-room, new-row}
 
@@ -184,6 +184,7 @@ module _ (w : World) (g : Whole w) where
   unfolding after
   step (opens S) n = clash n refl
   step (adds lent bytes) n = so-after Whole w (adds lent bytes) refl g (λ e. added-good (rule-added w lent bytes e))
+  step (enters lent entry) n = so-after Whole w (enters lent entry) refl g (λ e. added-good (entry-added w lent entry e))
   step (holds lent furnace l) n = so-after Whole w (holds lent furnace l) refl g (λ e. flagged-good (hold-flagged w lent furnace l e))
   step (withdraws lent furnace l) n = so-after Whole w (withdraws lent furnace l) refl g (λ e. flagged-good (withdraw-flagged w lent furnace l e))
   step (asks lent furnace l) n = g

@@ -18,12 +18,12 @@ use Rattle.board.specs.Furnaces.{withHeld}
 use Rattle.board.specs.Faults.{firstFault, ifDone}
 use Rattle.board.specs.Changes.{emptyBoard, openFaults, opened, withFlag}
 use Rattle.board.specs.declared.Outcome.the-variants.{Done}
-use Rattle.promises.specs.Calls.{Call, opens, adds, holds, withdraws, asks, asksWhole, explains, settles, grounds, blames, lists, asksLeast, reads, writes}
+use Rattle.promises.specs.Calls.{Call, opens, adds, enters, holds, withdraws, asks, asksWhole, explains, settles, grounds, blames, lists, asksLeast, reads, writes}
 use Rattle.promises.specs.Calls.{readsText, addsText, writesText, World, outcome, after, run, rulesAfter, rulesAfterAll, notOpen}
 use Rattle.promises.specs.Demands.{rowsOfWorld, ruledRows, since, acceptedSince}
 use Rattle.promises.proofs.Refusals.{done-or-refused, so-refused, so-after}
 use Rattle.promises.proofs.Changes.{hold-puts, withdraw-takes}
-use Rattle.promises.proofs.Tested.{Added, rule-added, rule-text-added, text-added}
+use Rattle.promises.proofs.Tested.{Added, rule-added, entry-added, rule-text-added, text-added}
 use Rattle.promises.proofs.Stored.{appends}
 
 pub record Keeps (w : World) (fs : List Formula) : Type 0 where
@@ -79,6 +79,7 @@ module _ (w : World) (fs : List Formula) (k : Keeps w fs) where
   unfolding after rulesAfter
   step (opens S) = open-step w S
   step (adds lent bytes) = adding (adds lent bytes) refl (rule-added w lent bytes)
+  step (enters lent e) = adding (enters lent e) refl (entry-added w lent e)
   step (holds lent furnace l) = so-after Same w (holds lent furnace l) refl k (λ e. rw (hold-puts w lent furnace l e) (flagged furnace l true))
   step (withdraws lent furnace l) =
       so-after Same w (withdraws lent furnace l) refl k (λ e. rw (withdraw-takes w lent furnace l e) (flagged furnace l false))

@@ -24,6 +24,7 @@ mod History
 pub mod Numbered
 pub mod Good
 pub mod Ways
+pub mod Valves
 pub mod Apart
 mod Boards
 mod TwoFurnaces
@@ -32,4 +33,5 @@ mod GroundBoards
 mod AskedBoards
 mod ListedBoards
 mod WithdrawnBoards
+mod ValveBoards
 mod Carried

@@ -12,6 +12,7 @@ use Rattle.meaning.specs.Clauses.{hit, implicate, prime}
 use Rattle.meaning.specs.Rounds.{gives, next, reached, rankBy, firstGiver, supportAt, supportOf}
 use Rattle.meaning.specs.Smallest.{alone, derives, clashes, smallerDerives, carries, smallest}
 use Rattle.meaning.specs.Least.{ends, least}
+use Rattle.meaning.specs.Positions.{noneOf, exactlyOne, formulaeOf, symbolsFit, wellFormed, possible}
 use Rattle.literals.specs.Literal.{placeOf, literalAt}
 use Rattle.literals.specs.Row.{numbersAt, ruleAt, zeros, rising, rowSound, ruleBefore, ruleSound, rowsSound, decode, rowsIn, encode, Ruled, ruledIn}
 use Rattle.formula.specs.Parse.{symbolAt, secondOf, bodyOf, parse, wholeOf}
@@ -23,6 +24,7 @@ use Rattle.board.specs.Rules.{ruleFaults, ruled, ruledTable}
 use Rattle.board.specs.Settling.{settleFaults, settleOutcome}
 use Rattle.board.specs.Asking.{askFaults, asked, askedWhole, explainFaults, reasoned}
 use Rattle.board.specs.Grounds.{groundFaults, groundOutcome, blameFaults, blameOutcome}
+use Rattle.positions.specs.Entering.{variableOf, entryFaults, entered}
 use Rattle.smallest.specs.Listing.{smallestAt, smallestFaults, smallestOutcome, smallestAnswer}
 use Rattle.least.specs.Withdrawing.{leastOn, leastFaults, leastAnswer}
 use Rattle.spelling.specs.Text.{decimal, digitsOf}
@@ -32,7 +34,7 @@ use Rattle.dimacs.specs.Form.{pastComments, startsWith, countsIn, headerIn, cla
 use Rattle.dimacs.specs.Clauses.{oneOf, clauseFaults, clausesFaults, passed}
 use Rattle.dimacs.specs.Reading.{textFaults, readFaults, readAnswer, readTable}
 use Rattle.dimacs.specs.Writing.{spaced, clauseLines, textOf, literalsOf, clausesAt, textOn, writeFaults, writeOutcome, writeAnswer}
-use Rattle.promises.specs.Calls.{Call, opens, adds, holds, withdraws, asks, asksWhole, explains, settles, grounds, blames, lists, asksLeast, reads, writes}
+use Rattle.promises.specs.Calls.{Call, opens, adds, enters, holds, withdraws, asks, asksWhole, explains, settles, grounds, blames, lists, asksLeast, reads, writes}
 use Rattle.promises.specs.Calls.{World, answer, outcome, after, run}
 use Rattle.promises.specs.Demands.{ruledRows}
 use Rattle.promises.proofs.Boards.{lent, fresh, blank, forth, back, answers}
@@ -82,6 +84,7 @@ nine =
 abbrev each : List Call
 each =
     forth
+    ∷ enters lent (variableOf 1 2)
     ∷ holds lent 1 (pos 1)
     ∷ withdraws lent 1 (pos 1)
     ∷ asks lent 1 (pos 1)
@@ -99,7 +102,7 @@ each =
 -- what these answer where the board is good, and 1 is held: it is held already and has nothing to explain, there is no conflict, and 20 bytes are too
 -- few for the text of two rows
 abbrev taken : List ℕ
-taken = 0 ∷ 10 ∷ 0 ∷ 0 ∷ 0 ∷ 12 ∷ 0 ∷ 0 ∷ 12 ∷ 0 ∷ 0 ∷ 0 ∷ 13 ∷ []
+taken = 0 ∷ 0 ∷ 10 ∷ 0 ∷ 0 ∷ 0 ∷ 12 ∷ 0 ∷ 0 ∷ 12 ∷ 0 ∷ 0 ∷ 0 ∷ 13 ∷ []
 
 -- two rows, 1 implies 2 and 2 implies 1, whose rules have these numbers, where so many rules are counted; 1 is held
 abbrev numbered-so : (first second : ℤ) → (rules : ℕ) → World
@@ -113,7 +116,7 @@ numbered-so first second rules =
     }
 
 -- no rows, of so many rules
-abbrev counted-so : (symbols rules : ℕ) → World
+abbrev pub counted-so : (symbols rules : ℕ) → World
 counted-so symbols rules =
     record {
       board = record { symbols = symbols; rows = 0; rules = rules; first = replicate 400 false; second = replicate 400 false };
@@ -162,10 +165,10 @@ boards =
     -- rule 7 of 9; but not a falling number, one that is 0 or below, or one beyond the count
     ∷ (numbered-so (pos 1) (pos 2) 2, [], (numbers each, these taken) ∷ (rule-of (pos 2), these (1 ∷ [])) ∷ [])
     ∷ (numbered-so (pos 7) (pos 7) 9, [], (numbers each, these taken) ∷ (rule-of (pos 2), these (7 ∷ [])) ∷ [])
-    ∷ (numbered-so (pos 2) (pos 1) 2, [], (numbers each, these (replicate 13 1)) ∷ [])
-    ∷ (numbered-so (pos 0) (pos 2) 2, [], (numbers each, these (replicate 13 1)) ∷ [])
-    ∷ (numbered-so (negsuc 0) (pos 2) 2, [], (numbers each, these (replicate 13 1)) ∷ [])
-    ∷ (numbered-so (pos 1) (pos 3) 2, [], (numbers each, these (replicate 13 1)) ∷ [])
+    ∷ (numbered-so (pos 2) (pos 1) 2, [], (numbers each, these (replicate 14 1)) ∷ [])
+    ∷ (numbered-so (pos 0) (pos 2) 2, [], (numbers each, these (replicate 14 1)) ∷ [])
+    ∷ (numbered-so (negsuc 0) (pos 2) 2, [], (numbers each, these (replicate 14 1)) ∷ [])
+    ∷ (numbered-so (pos 1) (pos 3) 2, [], (numbers each, these (replicate 14 1)) ∷ [])
     -- "1 also for a count above 32,767; 9 also when it is 32,767": the 32,767th rule is accepted, and the 32,768th is not, with rows or without; 7
     -- and 8 come before
     ∷ (
@@ -180,7 +183,7 @@ boards =
     ∷ (counted-so 2 32766, always ∷ [], (count, these (32767 ∷ [])) ∷ (rows, these-rows []) ∷ [])
     ∷ (counted-so 2 32766, [], (stops (ascii "p cnf 2 2\n1 -1 0\n-2 1 0\n"), these (9 ∷ 1 ∷ [])) ∷ [])
     ∷ (counted-so 9 32767, [], (numbers (nine ∷ forth ∷ []), these (7 ∷ 9 ∷ [])) ∷ [])
-    ∷ (counted-so 2 32768, [], (numbers each, these (replicate 13 1)) ∷ [])
+    ∷ (counted-so 2 32768, [], (numbers each, these (replicate 14 1)) ∷ [])
     ∷ []
 
 -- what the calls made answer, 0 for each, and then what is asked
@@ -191,5 +194,5 @@ abbrev due : World × List Call × List (Question × Found) → List ℕ × List
 due b = (map (λ c. 0) (b .1), map (λ q. q .1) (b .2))
 
 numbered-boards-hold : map found boards ≡ map due boards
-unfolding tell outcome answer after opp value occurs symbolsOf hit implicate prime ofSize gives next reached rankBy firstGiver supportAt supportOf placeOf literalAt numbersAt ruleAt zeros rising rowSound ruleBefore ruleSound rowsSound decode rowsIn encode ruledIn symbolAt secondOf bodyOf parse wholeOf appended isFurnace heldBy withHeld premisesFit goodBoard openFaults opened flagFaults flagChanged ruleFaults ruled ruledTable settleFaults settleOutcome askFaults asked askedWhole explainFaults reasoned groundFaults groundOutcome blameFaults blameOutcome alone derives clashes smallerDerives carries smallest smallestAt smallestFaults smallestOutcome smallestAnswer ends least leastOn leastFaults leastAnswer digitsOf upTo since wordsIn decimal numberOf literalOf pastComments startsWith countsIn headerIn clausesIn parseText oneOf clauseFaults clausesFaults passed textFaults readFaults readAnswer readTable spaced clauseLines textOf literalsOf clausesAt textOn writeFaults writeOutcome writeAnswer
+unfolding tell outcome answer after opp value occurs symbolsOf hit implicate prime ofSize gives next reached rankBy firstGiver supportAt supportOf placeOf literalAt numbersAt ruleAt zeros rising rowSound ruleBefore ruleSound rowsSound decode rowsIn encode ruledIn symbolAt secondOf bodyOf parse wholeOf appended isFurnace heldBy withHeld premisesFit goodBoard openFaults opened flagFaults flagChanged ruleFaults ruled ruledTable noneOf exactlyOne formulaeOf symbolsFit wellFormed possible entryFaults entered settleFaults settleOutcome askFaults asked askedWhole explainFaults reasoned groundFaults groundOutcome blameFaults blameOutcome alone derives clashes smallerDerives carries smallest smallestAt smallestFaults smallestOutcome smallestAnswer ends least leastOn leastFaults leastAnswer digitsOf upTo since wordsIn decimal numberOf literalOf pastComments startsWith countsIn headerIn clausesIn parseText oneOf clauseFaults clausesFaults passed textFaults readFaults readAnswer readTable spaced clauseLines textOf literalsOf clausesAt textOn writeFaults writeOutcome writeAnswer
 numbered-boards-hold = refl

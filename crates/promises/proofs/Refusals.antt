@@ -8,6 +8,7 @@ use Prim.Native.Nat.{ℕ, _<_}
 use native.Mathlib.Omega.{arith}
 use lib.ListN.{take-append-drop}
 use Rattle.meaning.specs.Literals.{opp, has, conflict}
+use Rattle.meaning.specs.Positions.{Entry}
 use Rattle.literals.specs.Literal.{placeOf}
 use Rattle.literals.specs.declared.refusal.Refusal.{Refusal}
 use Rattle.board.specs.Faults.{Fault, firstFault, numberIn}
@@ -19,8 +20,10 @@ use Rattle.board.specs.Asking.{askFaults, standingIf, asked, askedWhole, explai
 use Rattle.board.specs.Grounds.{groundOutcome, groundMarks, blameOutcome, blameMarks}
 use Rattle.board.specs.declared.Outcome.{Outcome}
 use Rattle.board.specs.declared.asking.Reason.{Reason}
+use Rattle.board.specs.declared.rules.Addition.{Addition}
 use Rattle.board.specs.declared.Outcome.the-variants.{Done, Refused}
 use Rattle.board.proofs.Answered.{refused-not-done, told-by, rule-told}
+use Rattle.positions.specs.Entering.{entryFaults, entered, enteredTable}
 use Rattle.smallest.specs.Listing.{smallestOutcome, smallestAnswer, smallestSets}
 use Rattle.least.specs.Withdrawing.{leastAnswer}
 use Rattle.dimacs.specs.Reading.{readFaults, readAnswer, readTable}
@@ -29,7 +32,7 @@ use Rattle.dimacs.specs.declared.reading.Reading.{Reading}
 use Rattle.text.specs.Reading.{bytesIn, readTextOutcome, readTextAnswer, readTextBytes}
 use Rattle.text.specs.Adding.{textRefused, ruledText, ruledTextTable}
 use Rattle.text.specs.Writing.{writeTextOutcome, writeTextAnswer, writeTextBytes}
-use Rattle.promises.specs.Calls.{Call, opens, adds, holds, withdraws, asks, asksWhole, explains, settles, grounds, blames, lists, asksLeast, reads, writes}
+use Rattle.promises.specs.Calls.{Call, opens, adds, enters, holds, withdraws, asks, asksWhole, explains, settles, grounds, blames, lists, asksLeast, reads, writes}
 use Rattle.promises.specs.Calls.{readsText, addsText, writesText, World, front, faults, askOutcome, answer, outcome, after, notOpen}
 use Rattle.promises.specs.Demands.{FirstGiven, here, later, RefusedExactly, DoneExactly, RefusedUntouched, RefusedUnwritten, RefusedHandsBack}
 use Rattle.promises.proofs.RuleTexts.{rule-text-told}
@@ -44,9 +47,11 @@ stands-done false false true = refl
 stands-done false false false = refl
 
 pub first-case : (w : World) (c : Call) → outcome w c ≡ firstFault (faults w c)
-unfolding answer outcome faults opened flagChanged asked askedWhole reasoned settleOutcome groundOutcome blameOutcome smallestAnswer smallestOutcome leastAnswer readAnswer writeAnswer writeOutcome readTextAnswer readTextOutcome writeTextAnswer writeTextOutcome
+unfolding answer outcome faults opened entered flagChanged asked askedWhole reasoned settleOutcome groundOutcome blameOutcome smallestAnswer smallestOutcome leastAnswer readAnswer writeAnswer writeOutcome readTextAnswer readTextOutcome writeTextAnswer writeTextOutcome
 first-case w (opens S) = refl
 first-case w (adds lent bytes) = rule-told (front w lent) (w .board) bytes
+first-case w (enters lent e) =
+    told-by (λ (a : Addition). a .outcome) _ _ (firstFault (entryFaults (front w lent) (w .board) e)) (λ d. refl) (λ why d. refl)
 first-case w (holds lent furnace l) = refl
 first-case w (withdraws lent furnace l) = refl
 first-case w (asks lent furnace l) =
@@ -124,7 +129,13 @@ rule-refused : (w : World) (lent : ℕ) (bytes : List ℕ) (why : Refusal) → o
 unfolding after faults ruled ruledTable
 rule-refused w lent bytes why e = rw (cases w (adds lent bytes) e, take-append-drop) (refl, refl)
 
--- and so does one from text, be it for the text or for its bytes
+-- so does a refused entry,
+entry-refused : (w : World) (lent : ℕ) (e : Entry) (why : Refusal) → outcome w (enters lent e) ≡ Refused why
+    → (entered (front w lent) (w .board) e .added ≡ 0) × (after w (enters lent e) ≡ w)
+unfolding after faults entered enteredTable
+entry-refused w lent e why r = rw (cases w (enters lent e) r, take-append-drop) (refl, refl)
+
+-- and so does a rule from text, be it for the text or for its bytes
 rule-text-refused : (w : World) (lent : ℕ) (text : List ℕ) (why : Refusal) → outcome w (addsText lent text) ≡ Refused why
     → (ruledText (front w lent) (w .board) text .added ≡ 0) × (after w (addsText lent text) ≡ w)
 unfolding answer outcome after ruledText ruledTextTable
@@ -139,6 +150,7 @@ pub refused-untouched : RefusedUntouched
 unfolding after faults opened flagChanged readAnswer readTable
 refused-untouched w (opens S) why e = rw (cases w (opens S) e)
 refused-untouched w (adds lent bytes) why e = rule-refused w lent bytes why e .1
+refused-untouched w (enters lent entry) why e = entry-refused w lent entry why e .1
 refused-untouched w (holds lent furnace l) why e = rw (cases w (holds lent furnace l) e)
 refused-untouched w (withdraws lent furnace l) why e = rw (cases w (withdraws lent furnace l) e)
 refused-untouched w (asks lent furnace l) why e = refl
@@ -187,6 +199,7 @@ unfolding faults reasoned explained smallestAnswer leastAnswer readAnswer answer
 refused-hands-back w lent why =
     record {
       rule = λ bytes e. rule-refused w lent bytes why e .0;
+      enter = λ entry e. entry-refused w lent entry why e .0;
       explain = λ furnace l e. (let f = cases w (explains lent furnace l) e in (rw f, rw f, rw f, rw f, rw f));
       smallest = λ cands l sets e. rw e;
       least = λ furnace cands e. rw e;

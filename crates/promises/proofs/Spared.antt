@@ -17,12 +17,12 @@ use Rattle.board.specs.Furnaces.{isFurnace, heldBy, withHeld}
 use Rattle.board.specs.Changes.{withFlag}
 use Rattle.board.specs.declared.Outcome.the-variants.{Done}
 use Rattle.board.proofs.TwoSets.{held-own, held-other}
-use Rattle.promises.specs.Calls.{Call, opens, adds, holds, withdraws, asks, asksWhole, explains, settles, grounds, blames, lists, asksLeast, reads, writes}
+use Rattle.promises.specs.Calls.{Call, opens, adds, enters, holds, withdraws, asks, asksWhole, explains, settles, grounds, blames, lists, asksLeast, reads, writes}
 use Rattle.promises.specs.Calls.{readsText, addsText, writesText, World, outcome, after, run, Each, notOpen, takes}
 use Rattle.promises.specs.Demands.{rowsOfWorld, premisesOf, Appends, Spares}
 use Rattle.promises.proofs.Refusals.{so-after}
 use Rattle.promises.proofs.Changes.{hold-puts, withdraw-takes}
-use Rattle.promises.proofs.Stored.{rows-grown, rule-appends, text-appends, read-appends}
+use Rattle.promises.proofs.Stored.{rows-grown, rule-appends, text-appends, read-appends, enter-appends}
 
 -- v has the rows of w, and maybe others, and for the furnace these premises, and maybe others
 pub record Kept (w : World) (furnace : ℕ) (marked : List Bool) (v : World) : Type 0 where
@@ -82,6 +82,7 @@ module _ (w : World) (furnace : ℕ) (marked : List Bool) (premises : ℕ → Ty
     unfolding after
     step (opens S) n out = clash n refl
     step (adds lent bytes) n out = so-after Stays v (adds lent bytes) refl k (λ d. grown (rule-appends v lent bytes d))
+    step (enters lent e) n out = so-after Stays v (enters lent e) refl k (λ d. grown (enter-appends v lent e d))
     step (holds lent named l) n out =
         so-after Stays v (holds lent named l) refl k (λ d. rw (hold-puts v lent named l d) (flagged named l true (λ is. more-held l)))
     step (withdraws lent named l) n out =

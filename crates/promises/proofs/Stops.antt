@@ -20,7 +20,8 @@ use Rattle.board.specs.declared.Outcome.the-variants.{Done, Refused}
 use Rattle.dimacs.specs.Form.{Parsed, good, broken, isGood, clausesOf, parseText}
 use Rattle.dimacs.specs.Clauses.{oneOf, rowsOfClause, clauseFaults, clausesFaults, passed}
 use Rattle.dimacs.specs.Reading.{textFaults, readFaults, readAnswer}
-use Rattle.dimacs.proofs.FirstFaults.{first-append, clauses-passed}
+use Rattle.board.proofs.Answered.{first-append}
+use Rattle.dimacs.proofs.FirstFaults.{clauses-passed}
 use Rattle.dimacs.proofs.ClauseCount.{clauses-told, read-clauses, read-good}
 use Rattle.promises.specs.Calls.{reads, World, front, faults, outcome}
 use Rattle.promises.specs.Demands.{StopsAt, ReadStops, ReadCounts, ReadTellsNone}

@@ -22,8 +22,8 @@ use Rattle.implicates.proofs.Appending.{length-encodeAll}
 use Rattle.board.specs.Furnaces.{heldBy}
 use Rattle.board.specs.declared.Board.{Board}
 use Rattle.promises.specs.Calls.{World, front}
-use Rattle.promises.specs.Demands.{rowsOfWorld, ruledRows, Appends, RuleAppends, ReadAppends, TextAppends}
-use Rattle.promises.proofs.Tested.{ruledFor, Added, sound-rows, rule-added, rule-text-added, text-added}
+use Rattle.promises.specs.Demands.{rowsOfWorld, ruledRows, Appends, RuleAppends, ReadAppends, EnterAppends, TextAppends}
+use Rattle.promises.proofs.Tested.{ruledFor, Added, sound-rows, rule-added, entry-added, rule-text-added, text-added}
 use Rattle.promises.proofs.Lent.{ruled-front, ruled-lent}
 
 -- ---- the rows of a table, from the front
@@ -180,3 +180,6 @@ text-appends w lent text e = appends-one (rule-text-added w lent text e)
 
 pub read-appends : ReadAppends
 read-appends w lent text e = appends (text-added w lent text e)
+
+pub enter-appends : EnterAppends
+enter-appends w lent entry e = appends (entry-added w lent entry e)

@@ -1,4 +1,4 @@
--- What is known once a call that adds rules is done, one rule or those of a text: that each of its tests was passed, and what it left.
+-- What is known once a call that adds rules is done, one or those of an entry or a text: that each of its tests was passed, and what it left.
 use mathlib.Core.Path.{_≡_, refl, sym, subst}
 use mathlib.Core.Bool.{true, _&&_}
 use mathlib.Core.List.{List, [], _∷_, _++_, append-nil, Memᴰ·of-map, List·Memᴰ as In}
@@ -11,6 +11,7 @@ use Rattle.meaning.specs.Tests.{all}
 use Rattle.meaning.specs.Formulae.{Formula, inside, symbolsOf, Rule, ruleOf}
 use Rattle.meaning.specs.Clauses.{rowsOf, allRows, satisfiable}
 use Rattle.meaning.specs.SecondWay.{accepted, rulesOf}
+use Rattle.meaning.specs.Positions.{Entry, formulaeOf, suits}
 use Rattle.meaning.proofs.Tests.{and-intro, all-at, clash}
 use Rattle.meaning.proofs.Rows.{all-rows-in}
 use Rattle.meaning.proofs.SoundRows.{SoundRow, rows-sound}
@@ -27,6 +28,8 @@ use Rattle.board.specs.Rules.{ruleFaults, withRules, ruled, ruledTable}
 use Rattle.board.specs.declared.Outcome.the-variants.{Done}
 use Rattle.board.proofs.Goodness.{Good, good-is}
 use Rattle.board.proofs.Answered.{none-given}
+use Rattle.positions.specs.Entering.{entryFaults, entered, enteredTable}
+use Rattle.positions.proofs.Answers.{Passed, entry-passed}
 use Rattle.dimacs.specs.Form.{clausesOf, parseText}
 use Rattle.dimacs.specs.Clauses.{oneOf}
 use Rattle.dimacs.specs.Reading.{formulaeIn, readFaults, readAnswer, readTable}
@@ -36,9 +39,10 @@ use Rattle.chains.specs.Form.{wholeText}
 use Rattle.text.specs.Reading.{bytesIn, readIn}
 use Rattle.text.specs.Adding.{ruledText}
 use Rattle.text.proofs.Back.{says-same}
-use Rattle.promises.specs.Calls.{adds, reads, addsText, World, front, faults, answer, outcome, after, formulaIn}
+use Rattle.promises.specs.Calls.{adds, enters, reads, addsText, World, front, faults, answer, outcome, after, formulaIn}
 use Rattle.promises.proofs.RuleTexts.{done-same}
 use Rattle.promises.proofs.Refusals.{cases}
+use Rattle.meaning.proofs.PairRules.{entry-accepted}
 
 -- the rows of rules, with the numbers that they get on a world's board
 abbrev pub ruledFor : World → List Formula → List Ruled
@@ -130,6 +134,35 @@ rule-text-added w lent text e =
     let said = formula-said S text (added .good .sound .symbols) (not-false (isGood (wholeOf S bytes)) (given 1)) in
     let told = ruledText (front w lent) (w .board) text .added in
     subst (λ (f : Formula). Added w (after w (addsText lent text)) lent (f ∷ []) told) said (rw (same .0, same .1) added)
+
+-- ---- a position variable or a pair table
+
+module _ (w : World) (lent : ℕ) (e : Entry) (d : outcome w (enters lent e) ≡ Done) where
+  entry-done : firstFault (entryFaults (front w lent) (w .board) e) ≡ Done
+  unfolding faults
+  entry-done = cases w (enters lent e) d
+
+  passed : Passed (front w lent) (w .board) e
+  passed = entry-passed (front w lent) (w .board) e entry-done
+
+  -- it is of the board's symbols, and has the form that is asked for
+  pub entry-suits : suits (w .board .symbols) e ≡ true
+  entry-suits = passed .suits
+
+  pub entry-added : Added w (after w (enters lent e)) lent (formulaeOf e) (entered (front w lent) (w .board) e .added)
+  unfolding after entered enteredTable
+  entry-added =
+      let S = w .board .symbols in
+      let long = length-of-rules (suc (w .board .rules)) (rulesOf S (formulaeOf e)) in
+      record {
+        good = passed .good;
+        accepted = entry-accepted S e entry-suits;
+        fits = rw long (passed .rows);
+        counted = passed .rules;
+        told = rw (entry-done, long);
+        board = rw (entry-done, long);
+        table = rw entry-done;
+      }
 
 -- ---- a text
 

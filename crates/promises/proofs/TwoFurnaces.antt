@@ -11,6 +11,7 @@ use Rattle.meaning.specs.Formulae.{value, occurs, symbolsOf}
 use Rattle.meaning.specs.BySize.{ofSize}
 use Rattle.meaning.specs.Clauses.{hit, implicate, prime}
 use Rattle.meaning.specs.Rounds.{gives, next, reached, rankBy, firstGiver, supportAt, supportOf, ranksOf, supportsOf, labelsOf}
+use Rattle.meaning.specs.Positions.{noneOf, exactlyOne, formulaeOf, symbolsFit, wellFormed, possible}
 use Rattle.literals.specs.Literal.{placeOf, literalAt}
 use Rattle.literals.specs.Row.{numbersAt, ruleAt, zeros, rising, rowSound, ruleBefore, ruleSound, rowsSound, decode, rowsIn, encode}
 use Rattle.formula.specs.Parse.{symbolAt, secondOf, bodyOf, parse, wholeOf}
@@ -26,6 +27,7 @@ use Rattle.board.specs.Grounds.{groundFaults, groundOutcome, blameFaults, blame
 use Rattle.board.specs.declared.Outcome.the-variants.{Done}
 use Rattle.board.specs.declared.asking.Standing.{Standing}
 use Rattle.board.specs.declared.asking.Standing.the-variants.{Conflict, Stands, Open}
+use Rattle.positions.specs.Entering.{variableOf, entryFaults, entered}
 use Rattle.spelling.specs.Text.{decimal, digitsOf}
 use Rattle.spelling.proofs.Ascii.{ascii}
 use Rattle.dimacs.specs.Words.{upTo, since, wordsIn, numberOf, literalOf}
@@ -38,7 +40,7 @@ use Rattle.chains.specs.Spelling.{unitText, spelled}
 use Rattle.text.specs.Reading.{readTextFaults, readTextOutcome, readTextAnswer}
 use Rattle.text.specs.Adding.{ruledText}
 use Rattle.text.specs.Writing.{writeTextFaults, writeTextOutcome, writeTextAnswer}
-use Rattle.promises.specs.Calls.{Call, opens, holds, withdraws, asks, asksWhole, explains, settles, grounds, blames, reads, writes, readsText}
+use Rattle.promises.specs.Calls.{Call, opens, enters, holds, withdraws, asks, asksWhole, explains, settles, grounds, blames, reads, writes, readsText}
 use Rattle.promises.specs.Calls.{addsText, writesText, World, Answer, ofSettle, ofAsk, answer, outcome, after, run}
 use Rattle.promises.proofs.Boards.{lent, fresh, blank, forth, answers}
 
@@ -112,6 +114,7 @@ misnamed l places = named 0 l places ++ named 3 l places ++ named 255 l places
 abbrev unnamed : List Call
 unnamed =
     forth
+    ∷ enters lent (variableOf 1 2)
     ∷ reads lent (ascii "p cnf 2 1\n-1 2 0\n")
     ∷ writes lent (blank 20)
     ∷ readsText lent (ascii "1>2") (blank 20)
@@ -164,12 +167,12 @@ boards =
     -- "just after 1": on a board that is not opened
     ∷ (fresh, [], (numbers (named 1 (pos 1) 4), these (replicate 8 1)) ∷ (numbers (misnamed (pos 0) 1), these (replicate 24 1)) ∷ [])
     -- and where "a held premise is of a symbol beyond S", also the other furnace's, and for calls that name none; 2 itself is not beyond
-    ∷ (holding 2 (pos 3), [], (numbers (named 1 (pos 1) 4), these (replicate 8 1)) ∷ (numbers unnamed, these (replicate 6 1)) ∷ [])
-    ∷ (holding 1 (pos 3), [], (numbers (named 2 (pos 1) 4), these (replicate 8 1)) ∷ (numbers unnamed, these (replicate 6 1)) ∷ [])
+    ∷ (holding 2 (pos 3), [], (numbers (named 1 (pos 1) 4), these (replicate 8 1)) ∷ (numbers unnamed, these (replicate 7 1)) ∷ [])
+    ∷ (holding 1 (pos 3), [], (numbers (named 2 (pos 1) 4), these (replicate 8 1)) ∷ (numbers unnamed, these (replicate 7 1)) ∷ [])
     ∷ (
       holding 2 (pos 2),
       [],
-      (numbers (named 1 (pos 1) 4), these (0 ∷ 11 ∷ 0 ∷ 0 ∷ 0 ∷ 12 ∷ 12 ∷ 12 ∷ [])) ∷ (numbers unnamed, these (replicate 6 0)) ∷ [],
+      (numbers (named 1 (pos 1) 4), these (0 ∷ 11 ∷ 0 ∷ 0 ∷ 0 ∷ 12 ∷ 12 ∷ 12 ∷ [])) ∷ (numbers unnamed, these (replicate 7 0)) ∷ [],
     )
     -- furnace 1 is in conflict, furnace 2 is not
     ∷ (
@@ -200,5 +203,5 @@ abbrev due : World × List Call × List (Question × Found) → List ℕ × List
 due b = (map (λ c. 0) (b .1), map (λ q. q .1) (b .2))
 
 two-furnaces-hold : map found boards ≡ map due boards
-unfolding tell outcome answer after opp value occurs symbolsOf hit implicate prime ofSize gives next reached rankBy firstGiver supportAt supportOf ranksOf supportsOf labelsOf placeOf literalAt numbersAt ruleAt zeros rising rowSound ruleBefore ruleSound rowsSound decode rowsIn encode symbolAt secondOf bodyOf parse wholeOf appended isFurnace heldBy withHeld premisesFit goodBoard openFaults opened flagFaults flagChanged ruleFaults ruled ruledTable settleFaults settleOutcome settledLabels settledRanks settledSupports askFaults asked askedWhole explainFaults reasoned groundFaults groundOutcome blameFaults blameOutcome digitsOf upTo since wordsIn decimal numberOf literalOf pastComments startsWith countsIn headerIn clausesIn parseText oneOf clauseFaults clausesFaults passed textFaults readFaults readAnswer spaced clauseLines textOf literalsOf clausesAt textOn writeFaults writeOutcome writeAnswer bytesOf lead unitOf fromMark goOn more atClose closed bracketAt wholeText unitText spelled readTextFaults readTextOutcome readTextAnswer ruledText writeTextFaults writeTextOutcome writeTextAnswer
+unfolding tell outcome answer after opp value occurs symbolsOf hit implicate prime ofSize gives next reached rankBy firstGiver supportAt supportOf ranksOf supportsOf labelsOf placeOf literalAt numbersAt ruleAt zeros rising rowSound ruleBefore ruleSound rowsSound decode rowsIn encode symbolAt secondOf bodyOf parse wholeOf appended isFurnace heldBy withHeld premisesFit goodBoard openFaults opened flagFaults flagChanged ruleFaults ruled ruledTable noneOf exactlyOne formulaeOf symbolsFit wellFormed possible entryFaults entered settleFaults settleOutcome settledLabels settledRanks settledSupports askFaults asked askedWhole explainFaults reasoned groundFaults groundOutcome blameFaults blameOutcome digitsOf upTo since wordsIn decimal numberOf literalOf pastComments startsWith countsIn headerIn clausesIn parseText oneOf clauseFaults clausesFaults passed textFaults readFaults readAnswer spaced clauseLines textOf literalsOf clausesAt textOn writeFaults writeOutcome writeAnswer bytesOf lead unitOf fromMark goOn more atClose closed bracketAt wholeText unitText spelled readTextFaults readTextOutcome readTextAnswer ruledText writeTextFaults writeTextOutcome writeTextAnswer
 two-furnaces-hold = refl

@@ -1,13 +1,14 @@
 -- "After every sequence of calls": the calls with all that each is lent, and what they do to the board and the caller's table, by the
--- very definitions that the contracts of `board`, `smallest`, `least`, `dimacs` and `text` cite.
+-- very definitions that the contracts of `board`, `positions`, `smallest`, `least`, `dimacs` and `text` cite.
 use Prim.Native.Nat.{ℕ}
-use mathlib.Core.Bool.{Bool, true, false, not, _&&_}
+use mathlib.Core.Bool.{Bool, true, false, cond, not, _&&_}
 use mathlib.Core.List.{List, [], _∷_, _++_}
 use lib.Dec.{eqb}
 use lib.IntN.{ℤ}
 use lib.ListN.{length, take, drop}
 use Rattle.meaning.specs.Tests.{keep}
 use Rattle.meaning.specs.Formulae.{Formula}
+use Rattle.meaning.specs.Positions.{Entry, formulaeOf}
 use Rattle.literals.specs.Literal.{placeOf}
 use Rattle.formula.specs.Parse.{wholeOf}
 use Rattle.formula.specs.Answers.{formulaOf}
@@ -17,6 +18,7 @@ use Rattle.board.specs.Rules.{ruleFaults, ruled, ruledTable}
 use Rattle.board.specs.Settling.{settleFaults, settleOutcome, settledLabels, settledRanks, settledSupports}
 use Rattle.board.specs.Asking.{askFaults, asked, askedWhole, explainFaults, reasoned, Span, explained}
 use Rattle.board.specs.Grounds.{groundFaults, groundOutcome, groundMarks, blameFaults, blameOutcome, blameMarks}
+use Rattle.positions.specs.Entering.{entryFaults, entered, enteredTable}
 use Rattle.smallest.specs.Listing.{smallestFaults, smallestAnswer, smallestSets}
 use Rattle.least.specs.Withdrawing.{leastFaults, leastAnswer}
 use Rattle.dimacs.specs.Form.{parseText}
@@ -38,10 +40,12 @@ use Rattle.dimacs.specs.declared.writing.Writing.{Writing}
 use Rattle.text.specs.declared.Spelling.{Spelling}
 
 -- Every call but open is lent the table "from its front": its first `lent` numbers, as many as the caller likes at each call. 02, Ticket 6: "Every
--- call but open and adding a rule names a furnace", "DIMACS and formula calls name no furnace"; Ticket 10: "no furnace is named".
+-- call but open and adding a rule names a furnace", "DIMACS and formula calls name no furnace"; Ticket 10: "no furnace is named". The two calls of
+-- Ticket 13 are one here, by what is entered: a position variable or a pair table.
 pub data Call : Type 0 where
   opens : (symbols : ℕ) → Call
   adds : (lent : ℕ) (bytes : List ℕ) → Call
+  enters : (lent : ℕ) (e : Entry) → Call
   holds withdraws asks asksWhole explains : (lent furnace : ℕ) (l : ℤ) → Call
   settles : (lent furnace : ℕ) (labels ranks supports : List ℕ) → Call
   grounds : (lent furnace : ℕ) (l : ℤ) (marks : List ℕ) → Call
@@ -67,6 +71,7 @@ front w lent = take lent (w .table)
 unfoldable pub faults : World → Call → List Fault
 faults w (opens S) = openFaults S
 faults w (adds lent bytes) = ruleFaults (front w lent) (w .board) bytes
+faults w (enters lent e) = entryFaults (front w lent) (w .board) e
 faults w (holds lent furnace l) = holdFaults (front w lent) (w .board) furnace l
 faults w (withdraws lent furnace l) = withdrawFaults (front w lent) (w .board) furnace l
 faults w (asks lent furnace l) = askFaults (front w lent) (w .board) furnace l
@@ -110,6 +115,7 @@ pub data Answer : Type 0 where
 unfoldable pub answer : World → Call → Answer
 answer w (opens S) = ofChange (opened S .outcome)
 answer w (adds lent bytes) = let a = ruled (front w lent) (w .board) bytes in ofAddition (a .outcome) (a .place) (a .added)
+answer w (enters lent e) = let a = entered (front w lent) (w .board) e in ofAddition (a .outcome) (a .place) (a .added)
 answer w (holds lent furnace l) = ofChange (held (front w lent) (w .board) furnace l .outcome)
 answer w (withdraws lent furnace l) = ofChange (withdrawn (front w lent) (w .board) furnace l .outcome)
 answer w (asks lent furnace l) = ofAsk (asked (front w lent) (w .board) furnace l)
@@ -160,6 +166,11 @@ after w (adds lent bytes) =
       board = ruled (front w lent) (w .board) bytes .board;
       table = ruledTable (front w lent) (w .board) bytes ++ drop lent (w .table);
     }
+after w (enters lent e) =
+    record {
+      board = entered (front w lent) (w .board) e .board;
+      table = enteredTable (front w lent) (w .board) e ++ drop lent (w .table);
+    }
 after w (holds lent furnace l) = record { board = held (front w lent) (w .board) furnace l .board; table = w .table }
 after w (withdraws lent furnace l) = record { board = withdrawn (front w lent) (w .board) furnace l .board; table = w .table }
 after w (asks lent furnace l) = w
@@ -200,10 +211,11 @@ abbrev pub formulaIn : ℕ → List ℕ → Formula
 formulaIn S bytes = formulaOf (wholeOf S bytes)
 
 -- the rules accepted since the last open, after one call more: an open forgets them, a good rule call adds its formula, in bytes or in text, a good
--- reading those of its clauses
+-- reading those of its clauses, and a good entering those of its entry
 unfoldable pub rulesAfter : World → List Formula → Call → List Formula
 rulesAfter w fs (opens S) = []
 rulesAfter w fs (adds lent bytes) = ifDone (outcome w (adds lent bytes)) (fs ++ (formulaIn (w .board .symbols) bytes ∷ [])) (λ _. fs)
+rulesAfter w fs (enters lent e) = ifDone (outcome w (enters lent e)) (fs ++ formulaeOf e) (λ _. fs)
 rulesAfter w fs (holds lent furnace l) = fs
 rulesAfter w fs (withdraws lent furnace l) = fs
 rulesAfter w fs (asks lent furnace l) = fs
@@ -229,6 +241,7 @@ rulesAfterAll w fs (c ∷ calls) = rulesAfterAll (after w c) (rulesAfter w fs c)
 abbrev pub notOpen : Call → Bool
 notOpen (opens S) = false
 notOpen (adds lent bytes) = true
+notOpen (enters lent e) = true
 notOpen (holds lent furnace l) = true
 notOpen (withdraws lent furnace l) = true
 notOpen (asks lent furnace l) = true
@@ -245,12 +258,44 @@ notOpen (readsText lent text out) = true
 notOpen (addsText lent text) = true
 notOpen (writesText lent bytes out) = true
 
+-- ---- what was entered since the last open (02, Ticket 13)
+
+-- the entry that a call is given
+abbrev pub entryOf : Call → List Entry
+entryOf (opens S) = []
+entryOf (adds lent bytes) = []
+entryOf (enters lent e) = e ∷ []
+entryOf (holds lent furnace l) = []
+entryOf (withdraws lent furnace l) = []
+entryOf (asks lent furnace l) = []
+entryOf (asksWhole lent furnace l) = []
+entryOf (explains lent furnace l) = []
+entryOf (settles lent furnace labels ranks supports) = []
+entryOf (grounds lent furnace l marks) = []
+entryOf (blames lent furnace marks) = []
+entryOf (lists lent cands l sets) = []
+entryOf (asksLeast lent furnace cands) = []
+entryOf (reads lent text) = []
+entryOf (writes lent out) = []
+entryOf (readsText lent text out) = []
+entryOf (addsText lent text) = []
+entryOf (writesText lent bytes out) = []
+
+-- an open forgets what was entered, and a call that is done adds its entry
+abbrev pub entriesAfter : World → List Entry → Call → List Entry
+entriesAfter w entries c = cond (notOpen c) (ifDone (outcome w c) (entries ++ entryOf c) (λ _. entries)) []
+
+abbrev pub entriesAfterAll : World → List Entry → List Call → List Entry
+entriesAfterAll w entries [] = entries
+entriesAfterAll w entries (c ∷ calls) = entriesAfterAll (after w c) (entriesAfter w entries c) calls
+
 -- ---- the furnaces
 
 -- the call names this furnace
 abbrev pub names : (furnace : ℕ) → Call → Bool
 names f (opens S) = false
 names f (adds lent bytes) = false
+names f (enters lent e) = false
 names f (holds lent furnace l) = eqb furnace f
 names f (withdraws lent furnace l) = eqb furnace f
 names f (asks lent furnace l) = eqb furnace f
@@ -271,6 +316,7 @@ names f (writesText lent bytes out) = false
 abbrev pub changes : Call → Bool
 changes (opens S) = false
 changes (adds lent bytes) = false
+changes (enters lent e) = false
 changes (holds lent furnace l) = true
 changes (withdraws lent furnace l) = true
 changes (asks lent furnace l) = false
@@ -291,6 +337,7 @@ changes (writesText lent bytes out) = false
 abbrev pub brings : (furnace : ℕ) → Call → Bool
 brings f (opens S) = false
 brings f (adds lent bytes) = true
+brings f (enters lent e) = true
 brings f (holds lent furnace l) = eqb furnace f
 brings f (withdraws lent furnace l) = false
 brings f (asks lent furnace l) = false
@@ -311,6 +358,7 @@ brings f (writesText lent bytes out) = false
 abbrev pub takes : (furnace h : ℕ) → Call → Bool
 takes f h (opens S) = true
 takes f h (adds lent bytes) = false
+takes f h (enters lent e) = false
 takes f h (holds lent furnace l) = false
 takes f h (withdraws lent furnace l) = eqb furnace f && eqb (placeOf l) h
 takes f h (asks lent furnace l) = false

@@ -16,7 +16,8 @@ use Rattle.meaning.specs.Rounds.{label}
 use Rattle.meaning.specs.Ground.{reaches, ground, blame}
 use Rattle.meaning.specs.Sets.{chosen, size}
 use Rattle.meaning.specs.SecondWay.{secondWay, rulesOf}
-use Rattle.meaning.specs.Promises.{Earliest, Derived, Forced, TwoWays, Inside, Carries, Least}
+use Rattle.meaning.specs.Positions.{Variable, symbolAt, Entry, positions, formulaeOf, formulaeOfAll, suits}
+use Rattle.meaning.specs.Promises.{Earliest, Derived, Forced, TwoWays, Inside, Carries, Least, Removed, Emptied, Fitting, SameRemoved}
 use Rattle.literals.specs.Literal.{placeOf}
 use Rattle.literals.specs.Row.{width, rowsLent, numbersAt, ruleAt, decode, Ruled, ruledIn, ofRule, ofRules, withNumber}
 use Rattle.literals.specs.Refusals.{numberOf}
@@ -35,6 +36,7 @@ use Rattle.board.specs.Grounds.{byteOf, groundMarks, blameMarks}
 use Rattle.board.specs.declared.Outcome.the-variants.{Done, Refused}
 use Rattle.board.specs.declared.asking.Standing.{Standing}
 use Rattle.board.specs.declared.asking.Standing.the-variants.{Conflict, Stands, RuledOut, Open}
+use Rattle.positions.specs.Entering.{entered}
 use Rattle.candidates.specs.Given.{placesOf, repeats}
 use Rattle.smallest.specs.Listing.{smallestOn, smallestAnswer, smallestSets}
 use Rattle.least.specs.Withdrawing.{leastAnswer}
@@ -47,8 +49,8 @@ use Rattle.chains.specs.Promises.{Says, Offends}
 use Rattle.text.specs.Reading.{bytesIn, readTextAnswer, readTextBytes}
 use Rattle.text.specs.Adding.{ruledText}
 use Rattle.text.specs.Writing.{textIn, writeTextAnswer, writeTextBytes}
-use Rattle.promises.specs.Calls.{Call, opens, adds, holds, withdraws, asks, asksWhole, explains, settles, grounds, blames, lists, asksLeast, reads, writes, readsText, addsText, writesText}
-use Rattle.promises.specs.Calls.{World, front, faults, outcome, after, run, Each, formulaIn, rulesAfterAll, notOpen, names, brings, takes, without, Answer, ofAsk, answer}
+use Rattle.promises.specs.Calls.{Call, opens, adds, enters, holds, withdraws, asks, asksWhole, explains, settles, grounds, blames, lists, asksLeast, reads, writes, readsText, addsText, writesText}
+use Rattle.promises.specs.Calls.{World, front, faults, outcome, after, run, Each, formulaIn, rulesAfterAll, entriesAfterAll, notOpen, names, brings, takes, without, Answer, ofAsk, answer}
 
 -- ---- demand 1: "Each refusal is given exactly in the case document 01 names, and leaves each table untouched."
 
@@ -94,11 +96,12 @@ pub record Unwritten (w : World) (lent : ℕ) (why : Refusal) : Type 0 where
 abbrev pub RefusedUnwritten : Type 0
 RefusedUnwritten = (w : World) (lent : ℕ) (why : Refusal) → Unwritten w lent why
 
--- what it hands back besides: a rule, in bytes or in text, and a DIMACS text read no rows; a DIMACS text written, and formula text read or written, no
--- bytes; the smallest sets none; the least to withdraw no set, which is 65535 and not the empty one; "A refused explain hands back the empty part at
--- the table's front, and 65535 for rank and row number", and 0 for the rule's (02, Ticket 8)
+-- what it hands back besides: a rule, in bytes or in text, an entry, and a DIMACS text read no rows; a DIMACS text written, and formula text read or
+-- written, no bytes; the smallest sets none; the least to withdraw no set, which is 65535 and not the empty one; "A refused explain hands back the
+-- empty part at the table's front, and 65535 for rank and row number", and 0 for the rule's (02, Ticket 8)
 pub record HandedBack (w : World) (lent : ℕ) (why : Refusal) : Type 0 where
   pub rule : (bytes : List ℕ) → outcome w (adds lent bytes) ≡ Refused why → ruled (front w lent) (w .board) bytes .added ≡ 0
+  pub enter : (e : Entry) → outcome w (enters lent e) ≡ Refused why → entered (front w lent) (w .board) e .added ≡ 0
   pub explain : (furnace : ℕ) (l : ℤ) → outcome w (explains lent furnace l) ≡ Refused why
       → (reasoned (front w lent) (w .board) furnace l .rank ≡ 65535) × (reasoned (front w lent) (w .board) furnace l .row ≡ 65535)
       × (reasoned (front w lent) (w .board) furnace l .rule ≡ 0)
@@ -239,6 +242,18 @@ ReadAppends =
     → let clauses = formulaeIn (parseText text) in
     Appends w (after w (reads lent text)) (length clauses) (ofRules (suc (w .board .rules)) (rulesOf (w .board .symbols) clauses))
     (readAnswer (front w lent) (w .board) text .added)
+
+-- 02, Ticket 13: a variable is "entered as one rule", of a pair table "each such clause counts as one rule"; the rows of all of them are added. (That
+-- nothing is where the call is refused, "wholly or not at all", is `RefusedUntouched`.)
+abbrev pub EnterAppends : Type 0
+EnterAppends =
+    (w : World) (lent : ℕ) (e : Entry) → outcome w (enters lent e) ≡ Done
+    → Appends w (after w (enters lent e)) (length (formulaeOf e)) (ofRules (suc (w .board .rules)) (rulesOf (w .board .symbols) (formulaeOf e)))
+    (entered (front w lent) (w .board) e .added)
+
+-- no answer of it has a place
+abbrev pub EnterNoPlace : Type 0
+EnterNoPlace = (w : World) (lent : ℕ) (e : Entry) → entered (front w lent) (w .board) e .place ≡ noPlace
 
 -- 02, Ticket 5: "Text and bytes of one formula add the same rows": the two calls answer the same and leave the same
 abbrev pub TextIsBytes : Type 0
@@ -780,6 +795,47 @@ pub record Stays (w : World) (lent furnace : ℕ) (cands : List ℤ) : Type 0 wh
 
 abbrev pub StaysExactly : Type 0
 StaysExactly = (w : World) (lent furnace : ℕ) (cands : List ℤ) → Stays w lent furnace cands
+
+-- ---- 02, Ticket 13: "Valves with several positions."
+
+-- what was entered since the last open
+abbrev pub enteredSince : World → ℕ → List Call → List Entry
+enteredSince w₀ S calls = entriesAfterAll w₀ [] (opens S ∷ calls)
+
+-- each entry is of the board's symbols and has the form that the calls ask for
+abbrev pub EntriesSuit : Type 0
+EntriesSuit = (w₀ : World) (S : ℕ) (calls : List Call) → all (suits (since w₀ S calls .board .symbols)) (enteredSince w₀ S calls) ≡ true
+
+-- "a board with only such rules": the rules accepted since the last open are those of what was entered since, and none came from bytes or a text
+abbrev pub OnlySuch : World → ℕ → List Call → Type 0
+OnlySuch w₀ S calls = acceptedSince w₀ S calls ≡ formulaeOfAll (enteredSince w₀ S calls)
+
+-- "where each variable is entered once, no two share a symbol, pair tables join entered variables and premises are of their symbols" (`Fitting`), the
+-- premises that the furnace holds: "conflict exactly when removing positions without an allowed partner, repeated until none is left to remove,
+-- empties some variable; otherwise a position is ruled out exactly when it is removed", as both compute
+abbrev pub ValvesRemove : Type 0
+ValvesRemove =
+    (w₀ : World) (S : ℕ) (calls : List Call) (furnace : ℕ)
+    → let w = since w₀ S calls in
+    let entries = enteredSince w₀ S calls in
+    OnlySuch w₀ S calls → Fitting entries (premisesOf w furnace)
+    → SameRemoved (w .board .symbols) entries (derivedSet w furnace) (premisesOf w furnace)
+
+-- and as the calls tell it: ask, of the whole board, a conflict; and otherwise ask, of a position, that it is ruled out
+pub record ToldOfValves (w : World) (lent furnace : ℕ) (entries : List Entry) : Type 0 where
+  pub conflict : (l : ℤ) → outcome w (asksWhole lent furnace l) ≡ Done
+      → (askedWhole (front w lent) (w .board) furnace l ≡ Conflict) ↔ Emptied entries (premisesOf w furnace)
+  pub ruled-out : ¬ Emptied entries (premisesOf w furnace) → (x : Variable) (i : ℕ) → In (positions x) entries → i < x .count
+      → let l = pos (symbolAt x i) in
+      outcome w (asks lent furnace l) ≡ Done
+      → (asked (front w lent) (w .board) furnace l ≡ RuledOut) ↔ Removed entries (premisesOf w furnace) x i
+
+abbrev pub ValvesTold : Type 0
+ValvesTold =
+    (w₀ : World) (S : ℕ) (calls : List Call) (lent furnace : ℕ)
+    → let w = since w₀ S calls in
+    OnlySuch w₀ S calls → Fitting (enteredSince w₀ S calls) (premisesOf w furnace)
+    → ToldOfValves w lent furnace (enteredSince w₀ S calls)
 
 -- ---- demand 1: a board that the calls made is a good one
 

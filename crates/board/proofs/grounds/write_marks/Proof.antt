@@ -7,7 +7,7 @@ use Prim.Native.Nat.{_-_, _≤_}
 use native.Mathlib.Omega.{arith}
 use lib.ListN.{length, getD, length-map, List·getD-map}
 use Rattle.board.specs.Grounds.{byteOf}
-use Rattle.board.proofs.Copying.{Copied, copied-more, copied-all}
+use Rattle.literals.proofs.Copying.{Copied, copied-more, copied-all}
 use Rattle.board.proofs.grounds.write_marks.Statement.{statement}
 use Rattle.board.proofs.grounds.write_marks.Tie as tie
 

@@ -1,4 +1,4 @@
--- `appending::write_row` meets its contract. The invariant: the first k numbers are written.
+-- `one_row::write_row` meets its contract. The invariant: the first k numbers are written.
 use mathlib.Core.Path.{_≡_, refl, _∙_}
 use mathlib.Core.List.{List}
 use Prim.Native.Nat.{_-_}
@@ -10,10 +10,10 @@ use mir.Facts.{toZ-ofZ}
 use borrow.Author.Needs.{sfits-of}
 use Rattle.literals.specs.Row.{encode}
 use Rattle.literals.proofs.Encoding.{length-encode}
-use Rattle.board.proofs.Copying.{Copied, copied-all, copied-more}
-use Rattle.dimacs.proofs.Encoded.{encode-all}
-use Rattle.dimacs.proofs.appending.write_row.Statement.{statement}
-use Rattle.dimacs.proofs.appending.write_row.Tie as tie
+use Rattle.literals.proofs.Copying.{Copied, copied-all, copied-more}
+use Rattle.implicates.proofs.Encoded.{encode-all}
+use Rattle.implicates.proofs.one_row.write_row.Statement.{statement}
+use Rattle.implicates.proofs.one_row.write_row.Tie as tie
 
 abbrev Inv-loop : tie.InvT-loop
 Inv-loop part₀ row count k₀ part k = Copied (encode (take count row)) part₀ part k

@@ -1,4 +1,4 @@
--- `appending::literal_for` meets its contract: the symbol is at most 200, so it and its negation fit.
+-- `one_row::literal_for` meets its contract: the symbol is at most 200, so it and its negation fit.
 use mathlib.Core.Path.{_≡_, ap, _∙_}
 use Prim.Native.Nat.{ℕ, zero, suc, _+_, _/_, _%_, _≤_, _<_}
 use native.Mathlib.Numerals.{add-one}
@@ -11,8 +11,8 @@ use mir.Facts.{toZ-pos, toZ-ofZ}
 use borrow.Author.Needs.{needs, sfits-of}
 use borrow.Author.Tests.{eq-eqb, ne-eqb}
 use Rattle.literals.specs.Literal.{literalAt}
-use Rattle.dimacs.proofs.appending.literal_for.Statement.{statement}
-use Rattle.dimacs.proofs.appending.literal_for.Tie as tie
+use Rattle.implicates.proofs.one_row.literal_for.Statement.{statement}
+use Rattle.implicates.proofs.one_row.literal_for.Tie as tie
 
 small : (s : ℕ) → s < 256 → toZ w16 s ≡ pos s
 small s h = toZ-pos w16 (omega arith)

@@ -1,4 +1,4 @@
--- `appending::number_of` meets its contract.
+-- `one_row::number_of` meets its contract.
 use mathlib.Core.Path.{_≡_, sym, ap, _∙_}
 use native.Mathlib.Omega.{arith}
 use mathlib.Core.List.{List}
@@ -9,9 +9,9 @@ use mir.Facts.{toZ-ofZ}
 use borrow.Author.Needs.{sfits-of}
 use lib.Seq.{getD-take, length-take-le}
 use Rattle.literals.specs.Literal.{literalAt}
-use Rattle.dimacs.proofs.Encoded.{encode-literal, encode-zero, small-at}
-use Rattle.dimacs.proofs.appending.number_of.Statement.{statement}
-use Rattle.dimacs.proofs.appending.number_of.Tie as tie
+use Rattle.implicates.proofs.Encoded.{encode-literal, encode-zero, small-at}
+use Rattle.implicates.proofs.one_row.number_of.Statement.{statement}
+use Rattle.implicates.proofs.one_row.number_of.Tie as tie
 
 abbrev places : tie.Start → List ℕ
 places s = take (s .args .count) (s .args .row .now)
