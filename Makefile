@@ -8,7 +8,7 @@ KIT := set -euo pipefail; . tools/kit.sh;
 ARCHIVE := target/staticlib/libpanel.a
 PANEL ?= $(ARCHIVE)
 
-.PHONY: help test run lib install demo valves second bench peer peer-needs clean
+.PHONY: help test run lib install demo valves tries second bench peer peer-needs clean
 .DELETE_ON_ERROR:
 
 help:
@@ -18,6 +18,7 @@ help:
 	@echo 'make install PREFIX=DIR       put the header, the archive and a pkg-config file in place'
 	@echo 'make demo                     the trend screen of a night shift, drawn to target/trend.svg'
 	@echo 'make valves                   valves with several positions: what limit switches rule out, and by which rule'
+	@echo 'make tries                    readings tried in nested steps and taken back, and what would stand'
 	@echo 'make second SEED=n COUNT=n    the independent second program on random boards'
 	@echo 'make bench                    the library against plain C'
 	@echo 'make peer PANEL=FILE          the library against MiniSat, where that is installed; FILE is an archive for this processor'
@@ -40,20 +41,24 @@ install: $(ARCHIVE)
 	install -d $(DEST)/include $(DEST)/lib/pkgconfig
 	install -m 644 include/tupahineka.h $(DEST)/include/
 	install -m 644 $(ARCHIVE) $(DEST)/lib/
-	printf '%s\n' 'prefix=$(PREFIX)' 'Name: tupahineka' 'Description: A proved truth-maintenance board' 'Version: 6.2' \
+	printf '%s\n' 'prefix=$(PREFIX)' 'Name: tupahineka' 'Description: A proved truth-maintenance board' 'Version: 7.0' \
 	    'Cflags: -I$${prefix}/include' 'Libs: -L$${prefix}/lib -lpanel' >$(DEST)/lib/pkgconfig/tupahineka.pc
 
 target/trend: examples/trend.c examples/chart.c examples/trend.h
 target/valves: examples/valves.c
+target/tries: examples/tries.c
 target/second: $(wildcard second/*.c second/*.h)
 target/bench: $(wildcard bench/*.c bench/*.h)
-target/trend target/valves target/second target/bench: include/tupahineka.h $(ARCHIVE)
+target/trend target/valves target/tries target/second target/bench: include/tupahineka.h $(ARCHIVE)
 	@$(KIT) build_c $@ $(filter %.c,$^)
 
 demo: target/trend
 	@$(KIT) run_c $< target/trend.svg; echo 'the picture is target/trend.svg'
 
 valves: target/valves
+	@$(KIT) run_c $<
+
+tries: target/tries
 	@$(KIT) run_c $<
 
 second: target/second

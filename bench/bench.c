@@ -7,7 +7,9 @@
  * A figure is the best of several runs, the sides taking turns within each run; times are the processor's, not the wall's.
  * "other" is another way in plain C: settle by the index with the exclusive or of the places left of each row, where "indexed" looks at the row;
  * reading in one pass with the rows kept aside, where "plain" tests the text in a pass of its own; the least by trying set after set by size, where
- * "indexed" passes over those that leave a conflict already found. */
+ * "indexed" passes over those that leave a conflict already found.
+ * A withdraw has the stacks empty; a push, and a pop, has all premises of the furnace on its stack. Ahead of each push and pop the record is put back
+ * as it was, by two numbers, since the one before changed it: that is in the times of both sides. */
 #include <math.h>
 #include <stdbool.h>
 #include <stdio.h>
@@ -22,11 +24,11 @@
 #include "spelt.h"
 #include "timing.h"
 
-enum { OPEN, SETTLE, ASK, ASK_WHOLE, EXPLAIN, GROUND, BLAME, HOLD, WITHDRAW, RULE, READ, WRITE, SMALLEST, LEAST, CALLS };
+enum { OPEN, SETTLE, ASK, ASK_WHOLE, EXPLAIN, GROUND, BLAME, HOLD, WITHDRAW, PUSH, POP, RULE, READ, WRITE, SMALLEST, LEAST, CALLS };
 enum { LIBRARY, PLAIN, INDEXED, OTHER, SIDES };
 
 typedef struct side {
-    tup_change (*open)(uint16_t);
+    tup_change (*open)(uint16_t, tup_stacks *);
     uint8_t (*settle)(tup_board, const int16_t *, size_t numbers, uint8_t furnace, uint8_t *, size_t, uint16_t *, size_t, uint16_t *, size_t);
     tup_answer (*ask)(tup_board, const int16_t *, size_t numbers, uint8_t furnace, int16_t);
     tup_answer (*ask_whole)(tup_board, const int16_t *, size_t numbers, uint8_t furnace, int16_t);
@@ -34,7 +36,9 @@ typedef struct side {
     uint8_t (*ground)(tup_board, const int16_t *, size_t numbers, uint8_t furnace, int16_t, uint8_t *, size_t);
     uint8_t (*blame)(tup_board, const int16_t *, size_t numbers, uint8_t furnace, uint8_t *, size_t);
     tup_change (*hold)(tup_board, const int16_t *, size_t numbers, uint8_t furnace, int16_t);
-    tup_change (*withdraw)(tup_board, const int16_t *, size_t numbers, uint8_t furnace, int16_t);
+    tup_change (*withdraw)(tup_board, const int16_t *, size_t numbers, tup_stacks *, uint8_t furnace, int16_t);
+    tup_change (*push)(tup_board, const int16_t *, size_t numbers, tup_stacks *, uint8_t furnace, int16_t);
+    tup_change (*pop)(tup_board, const int16_t *, size_t numbers, tup_stacks *, uint8_t furnace);
     tup_addition (*rule)(tup_board, int16_t *, size_t numbers, const uint8_t *, size_t);
     tup_reading (*read)(tup_board, int16_t *, size_t numbers, const uint8_t *, size_t);
     tup_writing (*write)(tup_board, const int16_t *, size_t numbers, uint8_t *, size_t);
@@ -43,17 +47,17 @@ typedef struct side {
 } side;
 
 static const side sides[SIDES] = {
-    {tup_open, tup_settle, tup_ask, tup_ask_whole, tup_explain, tup_ground, tup_blame, tup_hold, tup_withdraw, tup_rule, tup_read_dimacs,
-     tup_write_dimacs, tup_smallest, tup_least},
-    {plain_open, plain_settle, plain_ask, plain_ask_whole, plain_explain, plain_ground, plain_blame, plain_hold, plain_withdraw, plain_rule,
-     plain_read_dimacs, plain_write_dimacs, NULL, NULL},
+    {tup_open, tup_settle, tup_ask, tup_ask_whole, tup_explain, tup_ground, tup_blame, tup_hold, tup_withdraw, tup_push, tup_pop, tup_rule,
+     tup_read_dimacs, tup_write_dimacs, tup_smallest, tup_least},
+    {plain_open, plain_settle, plain_ask, plain_ask_whole, plain_explain, plain_ground, plain_blame, plain_hold, plain_withdraw, plain_push,
+     plain_pop, plain_rule, plain_read_dimacs, plain_write_dimacs, NULL, NULL},
     {.settle = indexed_settle, .ask = indexed_ask, .ask_whole = indexed_ask_whole, .ground = indexed_ground, .smallest = indexed_smallest,
      .least = indexed_least},
     {.settle = indexed_settle_summing, .read = plain_read_dimacs_once, .least = indexed_least_in_turn},
 };
 static const char *const side_words[SIDES] = {"library", "plain", "indexed", "other"};
-static const char *const call_words[CALLS] = {"open", "settle", "ask", "whole", "explain", "ground", "blame", "hold", "withdraw", "rule", "read",
-                                              "write", "smallest", "least"};
+static const char *const call_words[CALLS] = {"open", "settle", "ask", "whole", "explain", "ground", "blame", "hold", "withdraw", "push", "pop",
+                                              "rule", "read", "write", "smallest", "least"};
 static const char *const conflict_words[CONFLICTS] = {"one conflict", "three conflicts", "six of opposites", "many cores", "no conflict",
                                                       "one that stays"};
 
@@ -65,6 +69,7 @@ typedef struct outputs {
     uint8_t text[TUP_MOST_TEXT];
     uint16_t sets[TUP_MOST_SETS];
     tup_board board;
+    tup_stacks stacks;
     tup_reason reason;
     uint8_t refusal;
     uint16_t clauses;
@@ -142,10 +147,19 @@ static unsigned made_withdrawal(tup_withdrawal withdrawal, outputs *out) {
     return withdrawal.set;
 }
 
+/* The stacks that a push or a pop is given. They match the board that it is given, so what the one before changed is put back. */
+static tup_stacks *stacks_for(outputs *out) {
+    tup_stack *stack = &out->stacks.of[FURNACE - 1];
+    const tup_stack *before = &now.stacks.of[FURNACE - 1];
+    stack->count = before->count;
+    if (before->count != 0) stack->literals[before->count - 1] = before->literals[before->count - 1];
+    return &out->stacks;
+}
+
 /* Makes one call on one side. */
 static unsigned make(const side *with, unsigned call, outputs *out, int16_t *table) {
     switch (call) {
-    case OPEN: return made_change(with->open(now.board.symbols), out);
+    case OPEN: return made_change(with->open(now.board.symbols, &out->stacks), out);
     case SETTLE:
         return with->settle(now.board, table, NUMBERS, FURNACE, out->labels, sizeof out->labels, out->ranks, TUP_PLACES, out->supports, TUP_PLACES);
     case ASK: return made_answer(with->ask(now.board, table, NUMBERS, FURNACE, now.literal), out);
@@ -154,7 +168,9 @@ static unsigned make(const side *with, unsigned call, outputs *out, int16_t *tab
     case GROUND: return with->ground(now.board, table, NUMBERS, FURNACE, now.literal, out->marks, sizeof out->marks);
     case BLAME: return with->blame(now.board, table, NUMBERS, FURNACE, out->marks, sizeof out->marks);
     case HOLD: return made_change(with->hold(now.board, table, NUMBERS, FURNACE, now.literal), out);
-    case WITHDRAW: return made_change(with->withdraw(now.board, table, NUMBERS, FURNACE, now.premise), out);
+    case WITHDRAW: return made_change(with->withdraw(now.board, table, NUMBERS, &out->stacks, FURNACE, now.premise), out);
+    case PUSH: return made_change(with->push(now.board, table, NUMBERS, stacks_for(out), FURNACE, now.literal), out);
+    case POP: return made_change(with->pop(now.board, table, NUMBERS, stacks_for(out), FURNACE), out);
     case RULE: return made_rule(with->rule(now.board, table, NUMBERS, now.formula, now.bytes), out);
     case READ: return made_reading(with->read(now.board, table, NUMBERS, now.text, now.text_bytes), out);
     case WRITE: return made_writing(with->write(now.board, table, NUMBERS, out->text, sizeof out->text), out);
@@ -177,6 +193,8 @@ static bool has(const side *with, unsigned call) {
     case BLAME: return with->blame != NULL;
     case HOLD: return with->hold != NULL;
     case WITHDRAW: return with->withdraw != NULL;
+    case PUSH: return with->push != NULL;
+    case POP: return with->pop != NULL;
     case RULE: return with->rule != NULL;
     case READ: return with->read != NULL;
     case WRITE: return with->write != NULL;
@@ -193,6 +211,7 @@ static void compare_sides(unsigned call) {
         outputs *out = s == 0 ? &first : &other;
         memset(out, 0xA5, sizeof *out);
         memcpy(out->table, now.table, sizeof out->table);
+        if (call != OPEN) out->stacks = now.stacks; /* an open may be lent any bytes */
         out->result = make(&sides[s], call, out, out->table);
         if (s == 0 || memcmp(&first, &other, sizeof first) == 0) continue;
         fprintf(stderr, "bench: %s differs in %s\n", side_words[s], call_words[call]);
@@ -203,6 +222,7 @@ static void compare_sides(unsigned call) {
 /* Nanoseconds for one call, over so many. */
 static double time_calls(const side *with, unsigned call, unsigned count) {
     static outputs out;
+    out.stacks = now.stacks;
     double begin = clock_ns();
     for (unsigned i = 0; i < count; i++) sink += make(with, call, &out, now.table);
     return (clock_ns() - begin) / count;
@@ -252,11 +272,20 @@ static void print_call(const char *board, unsigned call) {
     if (has(&sides[INDEXED], call)) note_ratio(board, call, best[LIBRARY] / best[INDEXED]);
 }
 
+/* Measures a push and a pop, with all premises on the stack. The setting stays as it is. */
+static void print_stacked(const char *board) {
+    tup_stacks before = now.stacks;
+    stack_premises();
+    print_call(board, PUSH), print_call(board, POP);
+    now.stacks = before;
+}
+
 /* Measures the calls that name a furnace on the setting, which stays as it is; blame with a conflict, in which both asks are compared too. */
 static void print_named(const char *board) {
     tup_board before = now.board;
     for (unsigned call = SETTLE; call <= WITHDRAW; call++)
         if (call != BLAME) print_call(board, call);
+    print_stacked(board);
     in_conflict();
     compare_sides(ASK), compare_sides(ASK_WHOLE);
     print_call(board, BLAME);
@@ -265,7 +294,7 @@ static void print_named(const char *board) {
 
 /* Measures what can be done on a board without rows and premises. */
 static void print_empty(void) {
-    static const unsigned calls[] = {OPEN, SETTLE, ASK, ASK_WHOLE, HOLD, RULE};
+    static const unsigned calls[] = {OPEN, SETTLE, ASK, ASK_WHOLE, HOLD, PUSH, RULE};
     empty_board();
     for (unsigned i = 0; i < sizeof calls / sizeof calls[0]; i++) print_call("empty, 200 symbols", calls[i]);
 }
@@ -284,6 +313,7 @@ static void print_calls(void) {
     chain(8), print_named("chain of 8"), print_call("chain of 8", RULE);
     parity_rule(), print_call("parity of 8 symbols", RULE);
     print_empty();
+    deep_stack(), print_call("399 premises stacked", PUSH), print_call("399 premises stacked", POP);
     full_board(false), print_call("full, 2,048 rows of 2 to 4", WRITE), as_text(), print_call("text of 2,048 of 2 to 4", READ);
     long_rows(false), print_call("2,048 rows of 8", WRITE), as_text(), print_call("text of 2,048 of 8", READ);
 }

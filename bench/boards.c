@@ -125,6 +125,21 @@ void empty_board(void) {
     start(200);
 }
 
+/* Puts all premises of the furnace on its stack. */
+void stack_premises(void) {
+    tup_stack *stack = &now.stacks.of[FURNACE - 1];
+    for (unsigned p = 0; p < 2u * now.board.symbols; p++)
+        if (now.board.held[FURNACE - 1][p] != 0) stack->literals[stack->count++] = literal_at(p);
+}
+
+/* No rows, and all literals of 200 symbols held and stacked but one, which is left to be pushed. */
+void deep_stack(void) {
+    start(200);
+    for (unsigned p = 0; p + 1 < TUP_PLACES; p++) hold(p);
+    now.literal = literal_at(TUP_PLACES - 1);
+    stack_premises();
+}
+
 /* Holds the opposite of the literal aimed at as well: a conflict, where that one is derived. */
 void in_conflict(void) {
     now.board.held[FURNACE - 1][place(opposite(now.literal))] = 1;

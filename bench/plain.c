@@ -61,16 +61,47 @@ void plain_tidy(tup_board *board) {
         for (size_t p = 0; p < TUP_PLACES; p++) board->held[f][p] = board->held[f][p] != 0;
 }
 
-tup_change plain_open(uint16_t symbols) {
+/* ---- Premises and stacks ---- */
+
+tup_change plain_open(uint16_t symbols, tup_stacks *stacks) {
     bool good = symbols >= 1 && symbols <= TUP_MOST_SYMBOLS;
+    if (good) memset(stacks, 0, sizeof *stacks);
     return (tup_change){.refusal = good ? 0 : 2, .board = {.symbols = good ? symbols : 0}};
 }
 
-/* Puts the literal into the furnace's premises, or takes it out: refused with the number given where it is so already. */
-static tup_change change(tup_board board, const int16_t *table, size_t numbers, uint8_t furnace, int16_t literal, bool hold, uint8_t already) {
-    uint8_t refusal = plain_tests(&board, table, numbers, furnace);
+/* True if the stack has at most 2S literals, each of them held and none twice. */
+static bool good_stack(const tup_stack *stack, const tup_board *board, const uint8_t *held) {
+    bool seen[TUP_PLACES] = {false};
+    if (stack->count > 2u * board->symbols) return false;
+    for (unsigned i = 0; i < stack->count; i++) {
+        if (!plain_fits(stack->literals[i], board)) return false;
+        unsigned p = place(stack->literals[i]);
+        if (held[p] == 0 || seen[p]) return false;
+        seen[p] = true;
+    }
+    return true;
+}
+
+/* The tests of a call that names a furnace and is lent the stacks, of which a bad one is told ahead of a bad furnace. */
+static uint8_t stacks_tests(const tup_board *board, const int16_t *table, size_t numbers, const tup_stacks *stacks, uint8_t furnace) {
+    uint8_t refusal = plain_tests(board, table, numbers, furnace);
+    if (refusal == 1) return 1;
+    for (unsigned f = 0; f < TUP_FURNACES; f++)
+        if (!good_stack(&stacks->of[f], board, board->held[f])) return 1;
+    return refusal;
+}
+
+/* True if the literal is on the stack. */
+static bool is_on(const tup_stack *stack, int16_t literal) {
+    for (unsigned i = 0; i < stack->count; i++)
+        if (stack->literals[i] == literal) return true;
+    return false;
+}
+
+/* Puts the literal into the furnace's premises, or takes it out, where no test before it refused: refused where it is so already. */
+static tup_change change(tup_board board, uint8_t refusal, uint8_t furnace, int16_t literal, bool hold) {
     if (refusal == 0 && !plain_fits(literal, &board)) refusal = 2;
-    if (refusal == 0 && (board.held[furnace - 1][place(literal)] != 0) == hold) refusal = already;
+    if (refusal == 0 && (board.held[furnace - 1][place(literal)] != 0) == hold) refusal = hold ? 10 : 11;
     if (refusal == 0) {
         plain_tidy(&board);
         board.held[furnace - 1][place(literal)] = hold;
@@ -79,11 +110,31 @@ static tup_change change(tup_board board, const int16_t *table, size_t numbers, 
 }
 
 tup_change plain_hold(tup_board board, const int16_t *table, size_t numbers, uint8_t furnace, int16_t literal) {
-    return change(board, table, numbers, furnace, literal, true, 10);
+    return change(board, plain_tests(&board, table, numbers, furnace), furnace, literal, true);
 }
 
-tup_change plain_withdraw(tup_board board, const int16_t *table, size_t numbers, uint8_t furnace, int16_t literal) {
-    return change(board, table, numbers, furnace, literal, false, 11);
+tup_change plain_withdraw(tup_board board, const int16_t *table, size_t numbers, tup_stacks *stacks, uint8_t furnace, int16_t literal) {
+    tup_change done = change(board, stacks_tests(&board, table, numbers, stacks, furnace), furnace, literal, false);
+    if (done.refusal == 0 && is_on(&stacks->of[furnace - 1], literal)) return (tup_change){.refusal = 21, .board = board};
+    return done;
+}
+
+tup_change plain_push(tup_board board, const int16_t *table, size_t numbers, tup_stacks *stacks, uint8_t furnace, int16_t literal) {
+    tup_change done = change(board, stacks_tests(&board, table, numbers, stacks, furnace), furnace, literal, true);
+    if (done.refusal != 0) return done;
+    tup_stack *stack = &stacks->of[furnace - 1];
+    stack->literals[stack->count++] = literal; /* there is room: what is stacked is held, and this one was not */
+    return done;
+}
+
+tup_change plain_pop(tup_board board, const int16_t *table, size_t numbers, tup_stacks *stacks, uint8_t furnace) {
+    uint8_t refusal = stacks_tests(&board, table, numbers, stacks, furnace);
+    if (refusal == 0 && stacks->of[furnace - 1].count == 0) refusal = 20;
+    if (refusal != 0) return (tup_change){.refusal = refusal, .board = board};
+    tup_stack *stack = &stacks->of[furnace - 1];
+    int16_t top = stack->literals[--stack->count];
+    stack->literals[stack->count] = 0;
+    return change(board, 0, furnace, top, false);
 }
 
 /* ---- Rounds ---- */

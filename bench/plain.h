@@ -40,10 +40,12 @@ bool plain_clash(const uint16_t *ranks, int16_t literal);
 /* How a literal stands by the ranks; clash says whether there is a conflict for it. */
 tup_answer plain_standing(const uint16_t *ranks, int16_t literal, bool clash);
 
-tup_change plain_open(uint16_t symbols);
+tup_change plain_open(uint16_t symbols, tup_stacks *stacks);
 tup_addition plain_rule(tup_board board, int16_t *table, size_t numbers, const uint8_t *formula, size_t bytes);
 tup_change plain_hold(tup_board board, const int16_t *table, size_t numbers, uint8_t furnace, int16_t literal);
-tup_change plain_withdraw(tup_board board, const int16_t *table, size_t numbers, uint8_t furnace, int16_t literal);
+tup_change plain_withdraw(tup_board board, const int16_t *table, size_t numbers, tup_stacks *stacks, uint8_t furnace, int16_t literal);
+tup_change plain_push(tup_board board, const int16_t *table, size_t numbers, tup_stacks *stacks, uint8_t furnace, int16_t literal);
+tup_change plain_pop(tup_board board, const int16_t *table, size_t numbers, tup_stacks *stacks, uint8_t furnace);
 uint8_t plain_settle(tup_board board, const int16_t *table, size_t numbers, uint8_t furnace, uint8_t *labels, size_t label_count,
                      uint16_t *ranks, size_t rank_count, uint16_t *supports, size_t support_count);
 tup_answer plain_ask(tup_board board, const int16_t *table, size_t numbers, uint8_t furnace, int16_t literal);

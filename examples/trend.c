@@ -166,6 +166,8 @@ static const char *refusal_word(uint8_t refusal) {
         [TUP_BAD_CANDIDATES] = "bad candidates",
         [TUP_CONFLICT_STAYS] = "conflict stays",
         [TUP_BAD_POSITIONS] = "bad positions",
+        [TUP_EMPTY_STACK] = "nothing stacked",
+        [TUP_STACKED] = "on the stack",
     };
     bool is_known = refusal < sizeof known / sizeof known[0] && known[refusal];
     return is_known ? known[refusal] : "unknown refusal";
@@ -717,13 +719,14 @@ static void check_answers(screen *s, const furnace *f) {
     }
 }
 
-/* Whether the furnace is in no conflict once a set of the foreman's list is withdrawn, one reading after the other, on a copy of the board. Which
- * symbols are in conflict does not matter, so the whole board is asked, and any literal will do. */
+/* Whether the furnace is in no conflict once a set of the foreman's list is withdrawn, one reading after the other, on copies of the board and
+ * its stacks. Which symbols are in conflict does not matter, so the whole board is asked, and any literal will do. */
 static bool ends_conflict(const screen *s, const furnace *f, unsigned set) {
     tup_board board = s->board;
+    tup_stacks stacks = s->stacks;
     for (int i = 0; i < f->may_strike_count; i++) {
         if ((set >> i & 1) != 0) {
-            tup_change change = tup_withdraw(board, s->table, NUMBERS, f->number, f->may_strike[i]);
+            tup_change change = tup_withdraw(board, s->table, NUMBERS, &stacks, f->number, f->may_strike[i]);
             must_be_done("withdraw", change.refusal);
             board = change.board;
         }
@@ -1068,7 +1071,7 @@ static bool change_reading(screen *s, const event *e) {
     say_literal(&line, e->literal);
     int16_t literal = (int16_t)e->literal;
     tup_change change = e->what == HOLD ? tup_hold(s->board, s->table, NUMBERS, e->furnace, literal)
-                                        : tup_withdraw(s->board, s->table, NUMBERS, e->furnace, literal);
+                                        : tup_withdraw(s->board, s->table, NUMBERS, &s->stacks, e->furnace, literal);
     s->board = change.board;
     if (change.refusal == TUP_DONE) {
         printf("%s\n", line.text);
@@ -1191,7 +1194,7 @@ static void print_summary(const screen *s) {
 
 /* Opens the board with its rules, and settles both furnaces under the rules alone. */
 static void begin_shift(screen *s) {
-    tup_change opened = tup_open(SYMBOLS);
+    tup_change opened = tup_open(SYMBOLS, &s->stacks);
     must_be_done("open", opened.refusal);
     s->board = opened.board;
     add_crown_rules(s);

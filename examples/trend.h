@@ -86,10 +86,11 @@ typedef struct tally {
     int made, failed;
 } tally;
 
-/* The board with the table lent to it, its rules by their numbers, and the furnaces that run them. */
+/* The board with the table and the stacks lent to it, its rules by their numbers, and the furnaces that run them. */
 typedef struct screen {
     tup_board board;
     int16_t table[NUMBERS];
+    tup_stacks stacks; /* nothing is tried in this shift: they stay empty */
     kept_rule rules[MOST_RULES + 1]; /* rules are numbered from 1 */
     furnace furnaces[TUP_FURNACES];
     words needs[MOST_NEEDS]; /* what the shift desk was told that marks need, a line each */

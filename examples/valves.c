@@ -46,6 +46,7 @@ static const struct step { uint8_t furnace; enum { HOLD, WITHDRAW, LEAST } what;
 enum { NUMBERS = 64 * TUP_ROW_WIDTH, PLACES = 2 * SYMBOLS };
 static tup_board board;
 static int16_t table[NUMBERS];
+static tup_stacks stacks;                         /* nothing is tried here: they stay empty */
 static uint8_t held[TUP_FURNACES][PLACES];        /* kept beside the board's premises, so that the check leans on nothing of the board */
 static uint16_t shown[TUP_FURNACES][SYMBOLS + 1]; /* the sentence by which the position is ruled out, or 0 */
 static int checks;
@@ -133,7 +134,8 @@ static void check_positions(uint8_t furnace) {
 
 static void change(struct step e) {
     static const char *const words[] = {"held", "withdrawn", "withdrawn as the least that ends the conflict"};
-    tup_change done = (e.what == HOLD ? tup_hold : tup_withdraw)(board, table, NUMBERS, e.furnace, e.literal);
+    tup_change done = e.what == HOLD ? tup_hold(board, table, NUMBERS, e.furnace, e.literal)
+                                     : tup_withdraw(board, table, NUMBERS, &stacks, e.furnace, e.literal);
     must(e.what == HOLD ? "tup_hold" : "tup_withdraw", done.refusal);
     board = done.board;
     held[e.furnace - 1][2 * abs(e.literal) - (e.literal > 0 ? 2 : 1)] = e.what == HOLD;
@@ -176,7 +178,7 @@ static void end_conflict(uint8_t furnace) {
 }
 
 int main(void) {
-    tup_change opened = tup_open(SYMBOLS);
+    tup_change opened = tup_open(SYMBOLS, &stacks);
     must("tup_open", opened.refusal);
     board = opened.board;
     for (int i = 0; i < TABLES; i++) {

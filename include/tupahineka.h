@@ -2,7 +2,12 @@
  * document 02's first ticket, the two calls for DIMACS text of its second, blame as its fourth has it, the three calls for formulae in plain text
  * of its fifth, the two furnaces of its sixth, without refusal 14, which its seventh took out, with the number of its rule in each row, as its
  * eighth asks, the shift desk's smallest sets of its tenth, ask by symbol, with the old answer as a call of its own, as its eleventh asks, the
- * foreman's least to withdraw of its twelfth, and the valves with several positions of its thirteenth.
+ * foreman's least to withdraw of its twelfth, the valves with several positions of its thirteenth, and the stacks of its fourteenth, by which a
+ * reading is tried and taken back.
+ *
+ * Changed in version 7.0: tup_open and tup_withdraw are lent a record of both furnaces' stacks, tup_stacks. A program that stacks nothing keeps one
+ * beside its board, all zeros to begin with, and lends it to these two: they then do what they did before. New are tup_push, tup_pop, and refusals
+ * 20 and 21. No other call or struct moved.
  *
  * Changed in version 6.0: tup_ask answers TUP_CONFLICT only for a literal whose own symbol is in conflict. Before, it did so for every literal while
  * the furnace was in conflict anywhere; a program that relies on that, to find out whether there is a conflict at all, calls tup_ask_whole instead.
@@ -12,8 +17,8 @@
  * there moved.
  *
  * Two furnaces run the same rules: a board has one S and one table of rows, and for each furnace a set of premises of its own. A call that changes
- * premises, or answers by them, names its furnace, 1 or 2, right after the table and its count. What is held and withdrawn for one furnace changes
- * no answer for the other, and none of a call that names no furnace.
+ * premises, or answers by them, names its furnace, 1 or 2, right after the table and its count, or after the stacks where it is lent them. What is
+ * held and withdrawn for one furnace, on trial or not, changes no answer for the other, and none of a call that names no furnace.
  *
  * Link with libpanel.a (`make lib`). Every call ends, takes any numbers, and tests its own input. A call that is refused
  * returns one of the numbers below, hands the board back as it was given (a refused tup_open: S = 0, no rows, no rules, no premises)
@@ -21,7 +26,8 @@
  *
  * What the caller must still honour, since no library can test it:
  * - a pointer is valid for as many elements as the count after it says (with a count of 0 it may be null);
- * - a table that a call writes does not overlap another one lent to the same call.
+ * - a pointer to a tup_stacks is valid, and never null;
+ * - a table or a record that a call writes does not overlap another one lent to the same call.
  *
  * The clause table: row r, from 0, is the nine numbers from table + 9 * r on: one to eight literals with rising symbols, zeros after them up to the
  * eighth, and the number of the rule that the row is from. Rules are numbered from 1 in the order in which they were accepted since the board was
@@ -63,7 +69,9 @@ enum {
 enum {
     TUP_DONE = 0,
     TUP_BAD_BOARD = 1,        /* S outside 1 to 200, more than 32,767 rules, rows in use exceed rows lent, a premise of either furnace beyond S, or a
-                               * row in use not sound: its literals, or a rule number outside 1 to the count of rules or below the row before's */
+                               * row in use not sound: its literals, or a rule number outside 1 to the count of rules or below the row before's;
+                               * in tup_push, tup_pop and tup_withdraw also where the stack of either furnace has more than 2S literals, one
+                               * twice, or one that its furnace does not hold */
     TUP_BAD_LITERAL = 2,      /* a literal or symbol is 0 or beyond S; at open, the count is outside 1 to 200 */
     TUP_CUT_SHORT = 3,        /* the formula's bytes end where a kind or body is due */
     TUP_UNKNOWN_KIND = 4,     /* the byte where a kind is due is none */
@@ -81,7 +89,9 @@ enum {
     TUP_BAD_FURNACE = 16,     /* a furnace number other than 1 or 2 */
     TUP_BAD_CANDIDATES = 17,  /* more than 12 candidates, or one given twice */
     TUP_CONFLICT_STAYS = 18,  /* least: withdrawing all of the candidates leaves the conflict */
-    TUP_BAD_POSITIONS = 19    /* a count of positions outside 2 to 7, or a pair table whose two variables share a symbol */
+    TUP_BAD_POSITIONS = 19,   /* a count of positions outside 2 to 7, or a pair table whose two variables share a symbol */
+    TUP_EMPTY_STACK = 20,     /* pop: nothing is on the furnace's stack */
+    TUP_STACKED = 21          /* withdraw: the premise is on the furnace's stack, and only tup_pop withdraws it */
 };
 
 /* How a literal stands: see tup_ask. */
@@ -96,6 +106,20 @@ typedef struct tup_board {
     uint16_t rules;
     uint8_t held[TUP_FURNACES][TUP_PLACES]; /* the premises of furnace f are held[f - 1] */
 } tup_board;
+
+/* The literals that a furnace holds on trial, in the order in which they were pushed: the top is literals[count - 1]. Places from `count` on say
+ * nothing, and any bytes are taken there. A good tup_push writes its literal at the first of them, a good tup_pop 0 where its literal was, and a good
+ * tup_open 0 in all places; the others stay as they were. So of two records that were all zeros, or as a good tup_open left them, and were changed by
+ * these calls only, the bytes are the same just if the stacks are. */
+typedef struct tup_stack {
+    uint16_t count;
+    int16_t literals[TUP_PLACES];
+} tup_stack;
+
+/* The stacks of both furnaces, kept by the caller beside the board. A refused call leaves every byte of it as it was. */
+typedef struct tup_stacks {
+    tup_stack of[TUP_FURNACES]; /* the stack of furnace f is of[f - 1] */
+} tup_stacks;
 
 typedef struct tup_change {
     uint8_t refusal;
@@ -160,8 +184,9 @@ typedef struct tup_reason {
     uint16_t rule;    /* the number of the rule that the row is from; 0 where refused */
 } tup_reason;
 
-/* Opens a board of S symbols with no rows in use, no rules counted and no premises of either furnace. Refused: 2. */
-tup_change tup_open(uint16_t symbols);
+/* Opens a board of S symbols with no rows in use, no rules counted and no premises of either furnace, and empties both stacks, whatever the record
+ * held. Refused: 2; the stacks then stay as they were. */
+tup_change tup_open(uint16_t symbols, tup_stacks *stacks);
 
 /* Adds a rule, given in formula bytes: appends all its prime implicates, and no other row, to the table, each with the rule's number, which is the
  * count of rules in the board handed back. A rule that is always true has no rows and is counted. Refused: 1, 2 to 6 (each with its place), 7, 8,
@@ -226,13 +251,25 @@ tup_addition tup_add_pairs(tup_board board, int16_t *table, size_t numbers, uint
 tup_listing tup_smallest(tup_board board, const int16_t *table, size_t numbers, const int16_t *candidates, size_t candidate_count,
                          int16_t literal, uint16_t *sets, size_t room);
 
-/* The calls below name a furnace: the first two change its premises, the others tell what these and the rules derive, and the last what to withdraw. */
+/* The calls below name a furnace: the first four change its premises, the others tell what these and the rules derive, and the last what to
+ * withdraw. */
 
 /* Puts a literal into the furnace's premises. Refused: 1, 16, 2, 10. */
 tup_change tup_hold(tup_board board, const int16_t *table, size_t numbers, uint8_t furnace, int16_t literal);
 
-/* Takes a literal out of the furnace's premises. Refused: 1, 16, 2, 11. */
-tup_change tup_withdraw(tup_board board, const int16_t *table, size_t numbers, uint8_t furnace, int16_t literal);
+/* Takes a literal out of the furnace's premises, unless it is on the furnace's stack. The record stays as it was. Refused: 1, 16, 2, 11, 21. */
+tup_change tup_withdraw(tup_board board, const int16_t *table, size_t numbers, tup_stacks *stacks, uint8_t furnace, int16_t literal);
+
+/* Try a reading and take it back. tup_push holds a literal for the furnace and puts it on top of its stack; tup_pop withdraws the top. Tries may be
+ * nested, rules added and other literals held and withdrawn in between, and the furnaces take turns as they like: after a pop the furnace holds what
+ * it held before the matching push, but for what was held and withdrawn since by tup_hold and tup_withdraw, and every answer is that of the premises
+ * still held and the rules then in the table. Room on a stack never runs out. */
+
+/* Refused: 1, 16, 2, 10 (the furnace holds the literal already, whether by tup_hold or by tup_push). */
+tup_change tup_push(tup_board board, const int16_t *table, size_t numbers, tup_stacks *stacks, uint8_t furnace, int16_t literal);
+
+/* The literal that is taken back is, before the call, stacks->of[furnace - 1].literals[count - 1]. Refused: 1, 16, 20. */
+tup_change tup_pop(tup_board board, const int16_t *table, size_t numbers, tup_stacks *stacks, uint8_t furnace);
 
 /* Writes S labels (0 neither literal derived, 1 only +s, 2 only -s, 3 both), 2S ranks and 2S supports. Each rank written is at most 2S, or TUP_NONE
  * for a literal that is not derived. Refused: 1, 16, 13. */
@@ -269,11 +306,11 @@ uint8_t tup_blame(tup_board board, const int16_t *table, size_t numbers, uint8_t
 
 /* The least to withdraw. Of the sets of candidates, all of them premises of the furnace, the smallest whose withdrawal ends the conflict, and of
  * equal size the one with the smallest number; bit i of the number, from the lowest, stands for candidates[i]. The empty set, 0, is the answer
- * exactly where there is no conflict. Nothing is withdrawn: with tup_withdraw for each candidate of the set, in any order, each is done, and then the
- * furnace is in no conflict. Of two smallest sets that end it the answer is the one without the last candidate in which they differ: give first what
- * is doubted most. tup_blame marks the premises of one conflict only: where there are several, these alone as candidates may not be enough, and the
- * answer is 18; give all that may be struck off. The candidates may be none. Refused: 1; 16; 2 for any of the candidates, however many; 17; 11 (one
- * is not held for the furnace); 18. */
+ * exactly where there is no conflict. Nothing is withdrawn: with tup_withdraw for each candidate of the set, in any order, each is done, if none is
+ * on the furnace's stack, and then the furnace is in no conflict. Of two smallest sets that end it the answer is the one without the last candidate
+ * in which they differ: give first what is doubted most. tup_blame marks the premises of one conflict only: where there are several, these alone as
+ * candidates may not be enough, and the answer is 18; give all that may be struck off. The candidates may be none. Refused: 1; 16; 2 for any of the
+ * candidates, however many; 17; 11 (one is not held for the furnace); 18. */
 tup_withdrawal tup_least(tup_board board, const int16_t *table, size_t numbers, uint8_t furnace, const int16_t *candidates,
                          size_t candidate_count);
 

@@ -1,7 +1,8 @@
 /* "Holding and withdrawing for one furnace change no answer of the other": the library plays a sequence whole, and again with all struck out that
- * puts literals into one furnace's premises or takes them out. Every other call that does not name this furnace has to tell and write the same, and
- * to hand back the same board but for its premises; what is struck out may change nothing else either. This is done for each furnace, so for the one
- * that the sequence names less often too. The model has no part in it: its side of the play is the library's second run. */
+ * puts literals into one furnace's premises or onto its stack, or takes them out. Every other call that does not name this furnace has to tell and
+ * write the same, and to hand back the same board and record but for its premises and its stack; what is struck out may change nothing else either.
+ * This is done for each furnace, so for the one that the sequence names less often too. The model has no part in it: its side of the play is the
+ * library's second run. */
 #include "apart.h"
 
 #include <stdio.h>
@@ -9,17 +10,26 @@
 
 #include "cover.h"
 
-/* A sequence in its two runs, whole and without the steps of a furnace, and how many of its holds and withdrawals were done in the first. */
+/* A sequence in its two runs, whole and without the steps of a furnace, and how many of its calls that are struck out were done in the first. */
 typedef struct Runs {
     unsigned furnace, struck;
     tup_board whole, without;
 } Runs;
 
-/* True if the step is struck out: the furnace's holds and withdrawals, and what the caller himself writes into its premises of symbols up to S. One
- * beyond S stays: it makes the board bad for both furnaces. */
+/* True if the step is struck out: the furnace's holds and withdrawals, its pushes and pops, and what the caller himself writes into its stack and
+ * into its premises of symbols up to S. One beyond S stays: it makes the board bad for both furnaces. */
 static bool is_struck(const Runs *runs, const Step *step) {
-    bool written = step->kind == SET_HELD && step->place < 2u * runs->whole.symbols;
-    return (written || step->kind == HOLD || step->kind == WITHDRAW) && step->furnace == runs->furnace;
+    bool written = (step->kind == SET_HELD && step->place < 2u * runs->whole.symbols) || step->kind == SET_COUNT || step->kind == SET_STACKED;
+    return (written || (step->kind >= HOLD && step->kind <= POP)) && step->furnace == runs->furnace;
+}
+
+/* True if the step is left out of both runs: a call that tests the record, while it is the furnace's stack that makes it bad in the first. Then 1 is
+ * the answer there, for the other furnace too. */
+static bool is_left_out(const Play *play, const Runs *runs, const Step *step) {
+    Board board = {.symbols = runs->whole.symbols};
+    if (!tests_record(step->kind) || step->furnace == runs->furnace) return false;
+    for (unsigned p = 0; p < PLACES; p++) board.held[runs->furnace - 1][p] = runs->whole.held[runs->furnace - 1][p] != 0;
+    return !stack_is_good(&board, play->theirs.record + GUARD, runs->furnace);
 }
 
 /* True if the furnace's premises are not the same in the two runs, so that it means something for a call to tell the same. */
@@ -41,18 +51,19 @@ static bool same_boards(Play *play, const Runs *runs) {
 /* Makes a call in both runs, or in the first one only if it is struck out; false where they differ, or one of them tells what no call may tell. */
 static bool call_agrees(Play *play, Runs *runs, const Step *step) {
     bool telling = premises_differ(runs);
+    if (is_left_out(play, runs, step)) return true;
     lend(play, step);
     Outcome whole = library_call(step, &runs->whole, &play->theirs);
     if (!answer_is_bounded(play, step, &whole, runs->whole.symbols, &play->theirs)) return false;
     if (is_struck(runs, step)) {
         runs->struck += whole.refusal == 0;
-        return same_boards(play, runs) && same_tables(play, step);
+        return same_boards(play, runs) && same_record(play, runs->furnace) && same_tables(play, step);
     }
     Outcome without = library_call(step, &runs->without, &play->ours);
     if (!answer_is_bounded(play, step, &without, runs->without.symbols, &play->ours)) return false;
     if (names_furnace(step->kind) && step->furnace == runs->furnace) return true;
     if (telling) cover_compared(runs->furnace, step->kind);
-    return same_outcome(play, &without, &whole) && same_boards(play, runs) && same_tables(play, step);
+    return same_outcome(play, &without, &whole) && same_boards(play, runs) && same_record(play, runs->furnace) && same_tables(play, step);
 }
 
 /* Plays a step in both runs; false where they differ. What the caller writes into S is left out: with S lowered a premise of either furnace may be

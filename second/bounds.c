@@ -5,7 +5,7 @@
 
 #include "steps.h"
 
-enum { TAKEN_OUT = 14, LAST_REFUSAL = 19 };
+enum { TAKEN_OUT = 14, LAST_REFUSAL = 21 };
 
 /* True for 0 and the numbers of refusals; notes another one. */
 bool number_is_known(Play *play, unsigned number) {

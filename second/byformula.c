@@ -54,7 +54,8 @@ static bool both_agree(Play *play, const tup_board *call, const tup_board *rules
 /* True if a variable adds the same as its rule. */
 static bool variable_agrees(Play *play, unsigned symbols, const Variable *its) {
     char text[TEXT];
-    tup_board call = tup_open((uint16_t)symbols).board, rules = call;
+    tup_stacks empty = {0};
+    tup_board call = tup_open((uint16_t)symbols, &empty).board, rules = call;
     tup_addition told = tup_add_positions(call, by_call, WIDTH * ROWS, (uint16_t)its->first, (uint16_t)its->count);
     call = told.board;
     spell_variable(its, text);
@@ -64,7 +65,8 @@ static bool variable_agrees(Play *play, unsigned symbols, const Variable *its) {
 /* True if a pair table adds the same as its rules. */
 static bool table_agrees_by_rules(Play *play, unsigned symbols, const Variable both[2], uint64_t pairs) {
     char text[TEXT];
-    tup_board call = tup_open((uint16_t)symbols).board, rules = call;
+    tup_stacks empty = {0};
+    tup_board call = tup_open((uint16_t)symbols, &empty).board, rules = call;
     tup_addition told = tup_add_pairs(call, by_call, WIDTH * ROWS, (uint16_t)both[0].first, (uint16_t)both[0].count, (uint16_t)both[1].first,
                                       (uint16_t)both[1].count, pairs);
     bool good = same(play, "refusal", NONE, told.refusal, 0);

@@ -27,12 +27,12 @@ static void say(FILE *err, unsigned refusal, unsigned number) {
 
 /* Writes what the program has to write to standard output and to standard error. */
 static void expect(const uint8_t *text, size_t bytes, FILE *out, FILE *err) {
-    static int16_t table[MOST_ROWS * WIDTH];
+    static int16_t table[MOST_ROWS * WIDTH], record[RECORD_NUMBERS];
     static char rows[MOST_TEXT + 1];
     Form form = {0};
     Board board;
     bool header = text_has_header(text, bytes, &form);
-    Outcome opened = model_open(&board, form.variables);
+    Outcome opened = model_open(&board, record, form.variables);
     Outcome outcome = {.refusal = !header ? 15 : opened.refusal};
     if (outcome.refusal == 0) outcome = model_read(&board, table, MOST_ROWS * WIDTH, text, bytes);
     said[outcome.refusal]++;

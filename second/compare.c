@@ -1,5 +1,5 @@
-/* Every result, the whole board, and every place of every lent table with its guards: the library's against the model's. Then what follows
- * from the documents for a result besides: demand 3 for settle, Ticket 4 for blame. */
+/* Every result, the whole board, and every place of every lent table and of the record with its guards: the library's against the model's. Then what
+ * follows from the documents for a result besides: demand 3 for settle, Ticket 4 for blame. */
 #include <stdio.h>
 #include <string.h>
 
@@ -89,6 +89,18 @@ bool table_agrees(Play *play) {
     return same_table(play, "clause table", play->theirs.table, play->ours.table, sizeof play->ours.table);
 }
 
+/* Compares the records of the stacks, every number of them and their guards, but for the stack of one furnace; with 0, all of it. */
+bool same_record(Play *play, unsigned but_of) {
+    const int16_t *theirs = play->theirs.record, *ours = play->ours.record;
+    if (memcmp(theirs, ours, sizeof play->ours.record) == 0) return true;
+    for (unsigned i = 0; i < GUARD + RECORD_NUMBERS + GUARD; i++) {
+        bool within = i >= GUARD && i < GUARD + RECORD_NUMBERS;
+        if (within && (i - GUARD) / STACK_NUMBERS + 1 == but_of) continue;
+        if (theirs[i] != ours[i]) return differs(play, "record of the stacks, number", (long)i - GUARD, theirs[i], ours[i]);
+    }
+    return true;
+}
+
 /* Compares every table, those that the call was not lent included. */
 bool same_tables(Play *play, const Step *step) {
     const Tables *theirs = &play->theirs, *ours = &play->ours;
@@ -105,7 +117,7 @@ bool same_tables(Play *play, const Step *step) {
 
 /* Compares everything after a call. */
 bool same_everywhere(Play *play, const Step *step, const Outcome *ours, const Outcome *theirs) {
-    return same_outcome(play, ours, theirs) && same_board(play, step) && same_tables(play, step);
+    return same_outcome(play, ours, theirs) && same_board(play, step) && same_record(play, 0) && same_tables(play, step);
 }
 
 /* Finds the round that completes the furnace's first conflict, by the library's settle: the smallest rank up to which some symbol has both its

@@ -52,10 +52,11 @@ typedef struct Spot {
 /* The refusals that can come up, by call. */
 static const unsigned possible[CALLS][NUMBERS] = {
     [OPEN] = {2},              [RULE] = {1, 2, 3, 4, 5, 6, 7, 8, 9}, [READ] = {1, 2, 7, 8, 9, 15},  [HOLD] = {1, 16, 2, 10},
-    [SETTLE] = {1, 16, 13},    [WITHDRAW] = {1, 16, 2, 11},          [GROUND] = {1, 16, 2, 13, 12}, [ASK] = {1, 16, 2},
+    [SETTLE] = {1, 16, 13},    [WITHDRAW] = {1, 16, 2, 11, 21},      [GROUND] = {1, 16, 2, 13, 12}, [ASK] = {1, 16, 2},
     [BLAME] = {1, 16, 13, 12}, [EXPLAIN] = {1, 16, 2, 12},           [WRITE] = {1, 13},             [TEXT_RULE] = {1, 2, 5, 7, 8, 9, 15},
     [TO_BYTES] = {1, 2, 5, 13, 15}, [TO_TEXT] = {1, 2, 3, 4, 5, 6, 13}, [SMALLEST] = {1, 2, 17, 13}, [ASK_WHOLE] = {1, 16, 2},
-    [LEAST] = {1, 16, 2, 17, 11, 18}, [POSITIONS] = {1, 2, 19, 9}, [PAIRS] = {1, 2, 19, 8, 9}};
+    [LEAST] = {1, 16, 2, 17, 11, 18}, [POSITIONS] = {1, 2, 19, 9}, [PAIRS] = {1, 2, 19, 8, 9},
+    [PUSH] = {1, 16, 2, 10}, [POP] = {1, 16, 20}};
 
 static unsigned long calls[CALLS], refusals[CALLS][NUMBERS], damaged[BAD_BOARDS][CALLS], cases[CASES];
 static unsigned long broken[BREAKS][SPOTS];
@@ -248,6 +249,8 @@ static void cover_done(const Play *play, const Step *step) {
 /* Counts one step that was played. */
 void cover_step(const Play *play, const Step *step) {
     cover_furnace(play, step);
+    cover_stacks(play, step);
+    cover_spoilt(play, step);
     if (step->kind >= CALLS) {
         acts++;
         return;
@@ -339,6 +342,26 @@ static void print_breaks(void) {
     for (unsigned b = 0; b < BREAKS; b++) print_break(b);
 }
 
+/* Prints the closing lines. */
+static void print_close(void) {
+    printf("labels 0, 1, 2, 3: %lu %lu %lu %lu\n", labels_seen[0], labels_seen[1], labels_seen[2], labels_seen[3]);
+    printf("highest rank: %u, with S %u; boards settled: %lu, of them in conflict: %lu\n", highest_rank, highest_symbols, settled,
+           cases[CONFLICT_SETTLED]);
+    printf("rules accepted: %lu, rows they added: %lu, most of one rule: %u; the caller's own acts: %lu\n", rules_done, rows_added, most_rows, acts);
+    printf("demand 3 compared: %lu boards, of them in conflict: %lu\n", demand_3, cases[DEMAND_3_CONFLICT]);
+    cover_answers_close();
+    cover_furnaces_close();
+    cover_stacks_close();
+    cover_rules_close();
+    cover_outside_close();
+    cover_sets_close();
+    cover_least_close();
+    cover_positions_close();
+    cover_arcs_close();
+    cover_texts_close();
+    cover_spelt_close();
+}
+
 /* Prints all counts. */
 void cover_print(void) {
     print_refusals();
@@ -351,6 +374,8 @@ void cover_print(void) {
     cover_blames_print();
     cover_answers_print();
     cover_furnaces_print();
+    cover_stacks_print();
+    cover_spoilt_print();
     cover_rules_print();
     cover_outside_print();
     cover_candidates_print();
@@ -361,21 +386,7 @@ void cover_print(void) {
     cover_arcs_print();
     cover_texts_print();
     cover_spelt_print();
-    printf("labels 0, 1, 2, 3: %lu %lu %lu %lu\n", labels_seen[0], labels_seen[1], labels_seen[2], labels_seen[3]);
-    printf("highest rank: %u, with S %u; boards settled: %lu, of them in conflict: %lu\n", highest_rank, highest_symbols, settled,
-           cases[CONFLICT_SETTLED]);
-    printf("rules accepted: %lu, rows they added: %lu, most of one rule: %u; the caller's own acts: %lu\n", rules_done, rows_added, most_rows, acts);
-    printf("demand 3 compared: %lu boards, of them in conflict: %lu\n", demand_3, cases[DEMAND_3_CONFLICT]);
-    cover_answers_close();
-    cover_furnaces_close();
-    cover_rules_close();
-    cover_outside_close();
-    cover_sets_close();
-    cover_least_close();
-    cover_positions_close();
-    cover_arcs_close();
-    cover_texts_close();
-    cover_spelt_close();
+    print_close();
 }
 
 /* Says what is missing of one thing that has to come up. */
@@ -402,6 +413,8 @@ bool cover_is_whole(void) {
     whole &= cover_blames_are_whole();
     whole &= cover_answers_are_whole();
     whole &= cover_furnaces_are_whole();
+    whole &= cover_stacks_are_whole();
+    whole &= cover_spoilt_is_whole();
     whole &= cover_rules_are_whole();
     whole &= cover_outside_is_whole();
     whole &= cover_candidates_are_whole();

@@ -6,7 +6,7 @@
 #include "outside.h"
 #include "steps.h"
 
-enum { NUMBERS = 20 }; /* of refusals, and 0 for a call that is done */
+enum { NUMBERS = 22 }; /* of refusals, and 0 for a call that is done */
 
 void cover_step(const Play *play, const Step *step);
 void cover_print(void);
@@ -83,6 +83,17 @@ void cover_positions(const Play *play, const Step *step);
 void cover_positions_print(void);
 void cover_positions_close(void);
 bool cover_positions_are_whole(void);
+
+/* coverstacks.c: what was pushed and popped, and what a stack refuses. */
+void cover_stacks(const Play *play, const Step *step);
+void cover_stacks_print(void);
+void cover_stacks_close(void);
+bool cover_stacks_are_whole(void);
+
+/* coverspoilt.c: the records that were spoilt ahead of calls. */
+void cover_spoilt(const Play *play, const Step *step);
+void cover_spoilt_print(void);
+bool cover_spoilt_is_whole(void);
 
 /* coverarcs.c: the networks of position variables on which positions were removed. */
 void cover_network(const Network *network);

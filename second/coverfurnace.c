@@ -188,7 +188,7 @@ void cover_furnace(const Play *play, const Step *step) {
     if (!call || step->kind == OPEN || (step->kind < SETTLE && play->last.refusal == 0)) memset(last_told, 0, sizeof last_told);
 }
 
-/* Counts a sequence that was played without so many holds and withdrawals of a furnace, all of which are done in the whole of it. */
+/* Counts a sequence that was played without so many holds, withdrawals, pushes and pops of a furnace, all of which are done in the whole of it. */
 void cover_apart(unsigned furnace, unsigned struck) {
     sequences_apart[furnace - 1] += struck > 0;
     premises_struck[furnace - 1] += struck;
@@ -225,17 +225,18 @@ void cover_furnaces_close(void) {
     for (unsigned f = 0; f < FURNACES; f++) {
         unsigned long calls = 0;
         for (unsigned k = 0; k < CALLS; k++) calls += compared[f][k];
-        printf("furnaces apart: %lu sequences without furnace %u's %lu good holds and withdrawals, %lu calls told the same without its premises\n",
+        printf("furnaces apart: %lu sequences without furnace %u's %lu good holds, withdrawals, pushes and pops, %lu calls told the same "
+               "without its premises\n",
                sequences_apart[f], f + 1, premises_struck[f], calls);
     }
 }
 
-/* True if holds and withdrawals of each furnace were struck out, and calls of every kind compared without them; says what was not. */
+/* True if holds, withdrawals, pushes and pops of each furnace were struck out, and calls of every kind compared without them; says what was not. */
 static bool apart_is_whole(void) {
     static const char *const words[FURNACES] = {"furnaces apart, 1 struck out:", "furnaces apart, 2 struck out:"};
     bool whole = true;
     for (unsigned f = 0; f < FURNACES; f++) {
-        whole &= came_up(premises_struck[f], "holds and withdrawals", words[f], 0);
+        whole &= came_up(premises_struck[f], "holds, withdrawals, pushes and pops", words[f], 0);
         for (unsigned k = 0; k < CALLS; k++) whole &= came_up(compared[f][k], kind_word((Kind)k), words[f], 0);
     }
     return whole;

@@ -2,6 +2,7 @@
 #include "draw.h"
 
 #include "damage.h"
+#include "damagestacks.h"
 #include "drawcauses.h"
 #include "drawclashes.h"
 #include "drawfurnace.h"
@@ -10,15 +11,16 @@
 #include "drawrows.h"
 #include "drawsets.h"
 #include "drawspelt.h"
+#include "drawstacks.h"
 #include "drawtext.h"
 #include "formulae.h"
 
 /* Styles of sequences. */
-enum { FREE, CLASHES, PLANTS, CIRCLE, CHAIN, ROWS, FULL, TIGHT, BROAD, PACKED, TEXTS, KNOTS, CAUSES, VALVES, STYLES };
+enum { FREE, CLASHES, PLANTS, CIRCLE, CHAIN, ROWS, FULL, TIGHT, BROAD, PACKED, TEXTS, KNOTS, CAUSES, VALVES, TRIES, STYLES };
 
 static const unsigned style_weights[STYLES] = {
-    [FREE] = 290, [CLASHES] = 80, [PLANTS] = 190, [CIRCLE] = 80, [CHAIN] = 30, [ROWS] = 160, [FULL] = 14, [TIGHT] = 120, [BROAD] = 70, [PACKED] = 14,
-    [TEXTS] = 120, [KNOTS] = 60, [CAUSES] = 60, [VALVES] = 75};
+    [FREE] = 290, [CLASHES] = 80, [PLANTS] = 190, [CIRCLE] = 80, [CHAIN] = 30, [ROWS] = 160, [FULL] = 15, [TIGHT] = 130, [BROAD] = 70, [PACKED] = 16,
+    [TEXTS] = 130, [KNOTS] = 60, [CAUSES] = 60, [VALVES] = 100, [TRIES] = 140};
 
 /* Which sorts of formulae a style has, in the order PLANT, TREE, SPINE, WIDE, PARITY, LITERALS, NEVER, ALWAYS, LONG, NOISE,
  * PARITY_OF_8, ANY_TRUTH, WIDE_TRUTH, TOO_MANY. */
@@ -36,27 +38,35 @@ static const unsigned sort_weights[STYLES][SORTS] = {
     [KNOTS] = {500, 200, 20, 2, 20, 50, 20, 20, 4, 20, 0, 60, 2, 20},
     [CAUSES] = {800, 50, 5, 1, 5, 10, 5, 5, 0, 5, 0, 20, 1, 15},
     [CLASHES] = {800, 50, 5, 1, 5, 10, 5, 5, 0, 5, 0, 20, 1, 15},
-    [VALVES] = {800, 50, 5, 1, 5, 10, 5, 5, 0, 5, 0, 20, 1, 15}};
+    [VALVES] = {800, 50, 5, 1, 5, 10, 5, 5, 0, 5, 0, 20, 1, 15},
+    [TRIES] = {800, 50, 5, 0, 5, 10, 5, 5, 0, 5, 0, 20, 0, 5}};
 
-/* How often each call comes: at first, later on, among causes of marks, among clashes of premises, and among valves with several positions. */
-enum { AT_FIRST, LATER, AMONG_CAUSES, AMONG_CLASHES, AMONG_VALVES, TIMES };
+/* How often each call comes: at first, later on, among causes of marks, among clashes of premises, among valves with several positions, and among
+ * nested tries, while more are begun and while more are taken back. */
+enum { AT_FIRST, LATER, AMONG_CAUSES, AMONG_CLASHES, AMONG_VALVES, TRYING, TAKING_BACK, TIMES };
 
 static const unsigned call_weights[TIMES][CALLS] = {
-    {[OPEN] = 3, [RULE] = 90, [TEXT_RULE] = 40, [READ] = 30, [POSITIONS] = 10, [PAIRS] = 12, [HOLD] = 74, [WITHDRAW] = 14, [SETTLE] = 20,
-     [ASK] = 10, [ASK_WHOLE] = 8, [EXPLAIN] = 10, [GROUND] = 10, [BLAME] = 5, [LEAST] = 5, [SMALLEST] = 8, [WRITE] = 10, [TO_BYTES] = 16,
-     [TO_TEXT] = 14},
-    {[OPEN] = 5, [RULE] = 20, [TEXT_RULE] = 14, [READ] = 20, [POSITIONS] = 6, [PAIRS] = 8, [HOLD] = 44, [WITHDRAW] = 26, [SETTLE] = 40,
-     [ASK] = 28, [ASK_WHOLE] = 20, [EXPLAIN] = 26, [GROUND] = 26, [BLAME] = 16, [LEAST] = 13, [SMALLEST] = 20, [WRITE] = 16, [TO_BYTES] = 16,
-     [TO_TEXT] = 14},
-    {[OPEN] = 1, [RULE] = 10, [TEXT_RULE] = 6, [READ] = 4, [POSITIONS] = 2, [PAIRS] = 3, [HOLD] = 40, [WITHDRAW] = 20, [SETTLE] = 12,
-     [ASK] = 10, [ASK_WHOLE] = 6, [EXPLAIN] = 8, [GROUND] = 12, [BLAME] = 8, [LEAST] = 8, [SMALLEST] = 180, [WRITE] = 2, [TO_BYTES] = 2,
-     [TO_TEXT] = 2},
-    {[OPEN] = 1, [RULE] = 8, [TEXT_RULE] = 6, [READ] = 4, [POSITIONS] = 2, [PAIRS] = 3, [HOLD] = 36, [WITHDRAW] = 40, [SETTLE] = 12,
-     [ASK] = 8, [ASK_WHOLE] = 10, [EXPLAIN] = 8, [GROUND] = 8, [BLAME] = 14, [LEAST] = 180, [SMALLEST] = 4, [WRITE] = 2, [TO_BYTES] = 2,
-     [TO_TEXT] = 2},
-    {[OPEN] = 1, [RULE] = 6, [TEXT_RULE] = 4, [READ] = 4, [POSITIONS] = 40, [PAIRS] = 80, [HOLD] = 50, [WITHDRAW] = 26, [SETTLE] = 40,
-     [ASK] = 12, [ASK_WHOLE] = 10, [EXPLAIN] = 10, [GROUND] = 10, [BLAME] = 8, [LEAST] = 4, [SMALLEST] = 4, [WRITE] = 2, [TO_BYTES] = 2,
-     [TO_TEXT] = 2}};
+    {[OPEN] = 3, [RULE] = 90, [TEXT_RULE] = 40, [READ] = 30, [POSITIONS] = 10, [PAIRS] = 12, [HOLD] = 74, [WITHDRAW] = 14, [PUSH] = 12,
+     [POP] = 6, [SETTLE] = 20, [ASK] = 10, [ASK_WHOLE] = 8, [EXPLAIN] = 10, [GROUND] = 10, [BLAME] = 5, [LEAST] = 5, [SMALLEST] = 8,
+     [WRITE] = 10, [TO_BYTES] = 16, [TO_TEXT] = 14},
+    {[OPEN] = 5, [RULE] = 20, [TEXT_RULE] = 14, [READ] = 20, [POSITIONS] = 6, [PAIRS] = 8, [HOLD] = 44, [WITHDRAW] = 26, [PUSH] = 16,
+     [POP] = 12, [SETTLE] = 40, [ASK] = 28, [ASK_WHOLE] = 20, [EXPLAIN] = 26, [GROUND] = 26, [BLAME] = 16, [LEAST] = 13, [SMALLEST] = 20,
+     [WRITE] = 16, [TO_BYTES] = 16, [TO_TEXT] = 14},
+    {[OPEN] = 1, [RULE] = 10, [TEXT_RULE] = 6, [READ] = 4, [POSITIONS] = 2, [PAIRS] = 3, [HOLD] = 40, [WITHDRAW] = 20, [PUSH] = 6,
+     [POP] = 4, [SETTLE] = 12, [ASK] = 10, [ASK_WHOLE] = 6, [EXPLAIN] = 8, [GROUND] = 12, [BLAME] = 8, [LEAST] = 8, [SMALLEST] = 180,
+     [WRITE] = 2, [TO_BYTES] = 2, [TO_TEXT] = 2},
+    {[OPEN] = 1, [RULE] = 8, [TEXT_RULE] = 6, [READ] = 4, [POSITIONS] = 2, [PAIRS] = 3, [HOLD] = 36, [WITHDRAW] = 40, [PUSH] = 6,
+     [POP] = 4, [SETTLE] = 12, [ASK] = 8, [ASK_WHOLE] = 10, [EXPLAIN] = 8, [GROUND] = 8, [BLAME] = 14, [LEAST] = 180, [SMALLEST] = 4,
+     [WRITE] = 2, [TO_BYTES] = 2, [TO_TEXT] = 2},
+    {[OPEN] = 1, [RULE] = 6, [TEXT_RULE] = 4, [READ] = 4, [POSITIONS] = 40, [PAIRS] = 80, [HOLD] = 50, [WITHDRAW] = 26, [PUSH] = 10,
+     [POP] = 8, [SETTLE] = 40, [ASK] = 12, [ASK_WHOLE] = 10, [EXPLAIN] = 10, [GROUND] = 10, [BLAME] = 8, [LEAST] = 4, [SMALLEST] = 4, [WRITE] = 2,
+     [TO_BYTES] = 2, [TO_TEXT] = 2},
+    {[OPEN] = 2, [RULE] = 12, [TEXT_RULE] = 6, [READ] = 2, [POSITIONS] = 1, [PAIRS] = 1, [HOLD] = 14, [WITHDRAW] = 16, [PUSH] = 220, [POP] = 24,
+     [SETTLE] = 8, [ASK] = 3, [ASK_WHOLE] = 2, [EXPLAIN] = 3, [GROUND] = 3, [BLAME] = 2, [LEAST] = 1, [SMALLEST] = 1,
+     [WRITE] = 1, [TO_BYTES] = 1, [TO_TEXT] = 1},
+    {[OPEN] = 3, [RULE] = 8, [TEXT_RULE] = 4, [READ] = 2, [POSITIONS] = 1, [PAIRS] = 1, [HOLD] = 14, [WITHDRAW] = 20, [PUSH] = 26, [POP] = 170,
+     [SETTLE] = 8, [ASK] = 3, [ASK_WHOLE] = 2, [EXPLAIN] = 3, [GROUND] = 3, [BLAME] = 2, [LEAST] = 1, [SMALLEST] = 1,
+     [WRITE] = 1, [TO_BYTES] = 1, [TO_TEXT] = 1}};
 
 /* A count of symbols that suits the style. */
 static unsigned draw_symbols(Random *random, unsigned style) {
@@ -72,6 +82,9 @@ static unsigned draw_symbols(Random *random, unsigned style) {
         if (random_chance(random, 10)) return MOST_SYMBOLS;
         return random_chance(random, 60) ? random_between(random, 2, 12) : random_between(random, 14, 24);
     case VALVES: return random_chance(random, 8) ? MOST_SYMBOLS : random_between(random, 4, random_chance(random, 70) ? 20 : 50);
+    case TRIES:
+        if (random_chance(random, 4)) return MOST_SYMBOLS;
+        return random_chance(random, 20) ? random_between(random, 1, 2) : random_between(random, 3, 12);
     case BROAD: return random_between(random, 8, 14);
     case PACKED: return random_between(random, 8, 10);
     case TIGHT: return random_chance(random, 30) ? random_between(random, 9, 14) : random_between(random, 1, 8);
@@ -99,6 +112,7 @@ static unsigned draw_setup(Random *random, unsigned style, unsigned symbols) {
         return random_between(random, 1, random_chance(random, 80) ? 24 : 160);
     case PACKED: return 16;
     case VALVES: return 1;
+    case TRIES: return random_between(random, 1, 6);
     case CAUSES: return random_between(random, 2, random_chance(random, 60) ? 16 : 40);
     case CLASHES: return random_between(random, 1, random_chance(random, 70) ? 8 : 16);
     case TEXTS: return random_chance(random, 85) ? random_between(random, 1, 60) : random_between(random, 60, random_chance(random, 80) ? 400 : 3000);
@@ -118,6 +132,7 @@ void draft_start(Draft *draft, uint64_t seed, uint64_t number) {
     draft->lean = random_chance(random, 30) ? 100 : random_between(random, 50, 99);
     draft->setup = draw_setup(random, draft->style, draft->symbols);
     draft->calls = random_between(random, 9, 17) + (draft->setup == 0 ? random_between(random, 2, 8) : 0);
+    if (draft->style == TRIES) draft->calls = random_between(random, 16, 44);
     bool chain = draft->style == CHAIN && random_chance(random, 80), all = chain || random_chance(random, 50);
     if (chain) draft->lean = 100;
     for (unsigned s = 0; s <= MOST_SYMBOLS; s++) draft->leaning[s] = all || random_chance(random, 50);
@@ -199,8 +214,10 @@ static void draw_given_literal(Draft *draft, const Play *play, Step *step) {
         return;
     }
     step->value = telling ? draw_telling(draft, play, step, pass) : 0;
+    if ((step->kind == WITHDRAW || holds(step->kind)) && random_chance(random, step->kind == WITHDRAW ? 30 : 12))
+        step->value = draw_stacked(draft, play, step);
     if (step->value != 0) return;
-    if ((step->kind == HOLD || step->kind == WITHDRAW) && pass) {
+    if ((step->kind == WITHDRAW || holds(step->kind)) && pass) {
         step->value = draw_premise(draft, play, furnace, step->kind == WITHDRAW);
     } else if ((step->kind == EXPLAIN || step->kind == GROUND) && pass) {
         step->value = draw_derived(draft, play, furnace, step->kind == GROUND && random_chance(random, 20));
@@ -307,6 +324,18 @@ static int draw_opening(Draft *draft) {
     return bad[random_below(&draft->random, 6)];
 }
 
+/* Aims a pop: at the other furnace where the stack of the one named is empty, and mostly makes it a push where both are. */
+static void aim_pop(Draft *draft, const Play *play, Step *step) {
+    const int16_t *record = play->ours.record + GUARD;
+    if (!is_furnace(step->furnace) || stack_count(record, step->furnace) > 0 || random_chance(&draft->random, 15)) return;
+    if (stack_count(record, 3 - step->furnace) > 0) {
+        step->furnace = 3 - step->furnace;
+        return;
+    }
+    step->kind = PUSH;
+    draw_given_literal(draft, play, step);
+}
+
 /* Fills in all that a call is given; with this chance in a hundred it names no furnace, where it is to name one. */
 static void draw_call(Draft *draft, const Play *play, Step *step, unsigned no_furnace) {
     step->numbers = draw_numbers(draft, play);
@@ -318,7 +347,7 @@ static void draw_call(Draft *draft, const Play *play, Step *step, unsigned no_fu
     case POSITIONS: case PAIRS: draw_variables_given(draft, play, step); break;
     case SMALLEST: draw_smallest(draft, play, step, draft->style == CAUSES && random_chance(&draft->random, 60)); break;
     case LEAST: draw_least(draft, play, step, draft->style == CLASHES && random_chance(&draft->random, 70)); break;
-    case SETTLE: case BLAME: case WRITE: break;
+    case POP: case SETTLE: case BLAME: case WRITE: break;
     default: draw_given_literal(draft, play, step);
     }
     draw_lengths(draft, play, step);
@@ -337,6 +366,44 @@ static void add_damaged_call(Draft *draft, const Play *play) {
     while (undone > 0) *add_step(draft, undo[undone - 1].kind) = undo[undone - 1], undone--;
 }
 
+/* A call for a spoilt record: mostly one that tests it, of which the three take turns. */
+static Kind draw_spoilt_kind(Random *random, unsigned turn) {
+    static const Kind kinds[] = {WITHDRAW, PUSH, POP};
+    return random_chance(random, 88) ? kinds[turn % 3] : (Kind)random_between(random, RULE, CALLS - 1);
+}
+
+/* Puts a spoilt stack right: by the caller, or now and then by a hold of what it has and its furnace does not hold. */
+static void add_mending(Draft *draft, Spoilt *spoilt) {
+    if (spoilt->by_hold != 0 && random_chance(&draft->random, 40)) {
+        Step *step = add_step(draft, HOLD);
+        step->furnace = spoilt->furnace;
+        step->value = spoilt->by_hold;
+        step->mended = true;
+        return;
+    }
+    while (spoilt->undone > 0) *add_step(draft, SET_COUNT) = spoilt->undo[--spoilt->undone];
+}
+
+/* Adds up to three calls with a stack spoilt ahead of them, which is put right after them; now and then an open instead, done or refused, after
+ * which nothing is. False where nothing can be spoilt. */
+static bool add_spoilt_calls(Draft *draft, const Play *play) {
+    Random *random = &draft->random;
+    Spoilt spoilt;
+    size_t before = draft->count;
+    if (!spoil_stack(draft, play, &spoilt)) return draft->count = before, false;
+    bool opens = random_chance(random, 10);
+    unsigned first = random_below(random, 3);
+    for (unsigned n = opens ? 1 : spoilt.damage < BAD_STACKS ? random_between(random, 1, 3) : 3; n > 0; n--) {
+        Step *step = add_step(draft, opens ? OPEN : draw_spoilt_kind(random, first + n));
+        draw_call(draft, play, step, 10);
+        step->spoilt = spoilt.damage;
+        step->whose = spoilt.furnace;
+        step->faults += spoilt.damage < BAD_STACKS;
+    }
+    if (!opens) add_mending(draft, &spoilt);
+    return true;
+}
+
 /* Adds a count of rules that leaves few before the last one, 32,767, or none; it stays. */
 static void add_high_count(Draft *draft, const Play *play) {
     unsigned rules = MOST_RULES - random_below(&draft->random, draft->style == VALVES ? 20 : 5);
@@ -349,16 +416,19 @@ static void add_call(Draft *draft, const Play *play) {
     if (random_chance(random, 20) && add_echo(draft)) return;
     if (random_chance(random, 3)) add_odd_bytes(draft, play);
     if (random_chance(random, draft->style == VALVES ? 4 : 1)) add_high_count(draft, play);
+    if (random_chance(random, draft->style == TRIES ? 12 : 3) && add_spoilt_calls(draft, play)) return;
     if (play->board.symbols == 0 && random_chance(random, 70)) {
         add_step(draft, OPEN)->value = (int)draft->symbols;
-    } else if (random_chance(random, 17)) {
+    } else if (random_chance(random, 19)) {
         add_damaged_call(draft, play);
     } else {
         bool later = draft->style != PACKED && (draft->calls < 12 || draft->style == ROWS || draft->style == FULL || draft->style == KNOTS);
         unsigned time = draft->style == CAUSES ? AMONG_CAUSES : draft->style == CLASHES ? AMONG_CLASHES : later ? LATER : AT_FIRST;
         if (draft->style == VALVES) time = AMONG_VALVES;
+        if (draft->style == TRIES) time = draft->calls % 26 < 11 ? TAKING_BACK : TRYING;
         Step *step = add_step(draft, (Kind)random_weighted(random, call_weights[time], CALLS));
         draw_call(draft, play, step, 5);
+        if (step->kind == POP) aim_pop(draft, play, step);
         if (gives_variables(step->kind) && random_chance(random, 5)) add_last_rules(draft, play);
     }
 }
@@ -442,7 +512,7 @@ static bool add_setup(Draft *draft, const Play *play) {
     for (unsigned i = 0; i < draft->setup; i++) {
         unsigned from = falling ? symbols - i : i + 1, to = from < symbols ? from + 1 : 1;
         switch (draft->style) {
-        case PLANTS: add_rule(draft, play, PLANT); break;
+        case PLANTS: case TRIES: add_rule(draft, play, PLANT); break;
         case PACKED: add_rule(draft, play, random_chance(random, 99) ? PARITY_OF_8 : WIDE); break;
         case CIRCLE: add_implication(draft, play, from, to); break;
         case CHAIN:

@@ -30,7 +30,7 @@ unsigned furnace_meant(const Step *step) {
 int draw_telling(Draft *draft, const Play *play, const Step *step, bool pass) {
     unsigned furnace = furnace_meant(step), places[PLACES], count = 0;
     const bool *its = premises_of(&play->board, furnace), *others = premises_of(&play->board, 3 - furnace);
-    bool held = step->kind == (pass ? WITHDRAW : HOLD), held_by_other = step->kind != HOLD || pass;
+    bool held = pass ? step->kind == WITHDRAW : holds(step->kind), held_by_other = !holds(step->kind) || pass;
     for (unsigned p = 0; p < PLACES; p++)
         if (its[p] == held && others[p] == held_by_other) places[count++] = p;
     return count == 0 ? 0 : literal_at(places[random_below(&draft->random, count)]);
@@ -51,11 +51,11 @@ void add_hold(Draft *draft, int literal) {
 /* Adds a call for the other furnace than that of the last call, with its literal or its candidates if it was given some, of the same kind or another;
  * false where the last step was no call that names a furnace. */
 bool add_echo(Draft *draft) {
-    static const Kind kinds[] = {HOLD, WITHDRAW, ASK, ASK, ASK_WHOLE, ASK_WHOLE, EXPLAIN, GROUND};
+    static const Kind kinds[] = {HOLD, WITHDRAW, PUSH, ASK, ASK, ASK_WHOLE, ASK_WHOLE, EXPLAIN, GROUND};
     const Step last = draft->steps[draft->count - 1];
     Kind kind = last.kind;
     if (!names_furnace(kind) || !is_furnace(last.furnace)) return false;
-    if (gives_literal(kind) && random_chance(&draft->random, 60)) kind = kinds[random_below(&draft->random, 8)];
+    if (gives_literal(kind) && random_chance(&draft->random, 60)) kind = kinds[random_below(&draft->random, 9)];
     Step *step = add_step(draft, kind);
     step->furnace = 3 - last.furnace;
     step->value = last.value;

@@ -30,6 +30,7 @@ typedef struct Reader {
     size_t length, at;
     Board board;
     int16_t table[MOST_ROWS * WIDTH];
+    int16_t record[RECORD_NUMBERS]; /* of stacks: the journal pushes nothing */
     FILE *out;
 } Reader;
 
@@ -87,10 +88,10 @@ static int literal_in(const uint8_t *body) {
 /* Makes the call of a command with a body. */
 static Outcome call(Reader *reader, unsigned command, const uint8_t *body) {
     size_t numbers = MOST_ROWS * WIDTH;
-    if (command == C_OPEN) return model_open(&reader->board, body[0]);
+    if (command == C_OPEN) return model_open(&reader->board, reader->record, body[0]);
     int literal = literal_in(body);
     if (command == C_HOLD) return model_hold(&reader->board, reader->table, numbers, FURNACE, literal);
-    if (command == C_DROP) return model_withdraw(&reader->board, reader->table, numbers, FURNACE, literal);
+    if (command == C_DROP) return model_withdraw(&reader->board, reader->table, numbers, reader->record, FURNACE, literal);
     if (command == C_ASK) return model_ask(&reader->board, reader->table, numbers, FURNACE, literal);
     return model_explain(&reader->board, reader->table, numbers, FURNACE, literal);
 }

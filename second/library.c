@@ -1,6 +1,11 @@
 /* The library's side of a step: each call with exactly what the step lends. And settle beside a step, with ample tables of its own. */
 #include "steps.h"
 
+/* The record of both stacks is what the model takes it for: a count and 400 places of 16 bits for each furnace, and nothing between them. */
+_Static_assert(sizeof(tup_stacks) == RECORD_NUMBERS * sizeof(int16_t), "the record has the model's numbers");
+_Static_assert(sizeof(tup_stack) == STACK_NUMBERS * sizeof(int16_t), "so has each stack");
+_Static_assert(offsetof(tup_stack, literals) == sizeof(int16_t), "the count comes first");
+
 /* A pointer for a count; with a count of 0 it is null every other time. */
 #define LENT(pointer, count, step) ((count) == 0 && ((step)->noise & 1) ? NULL : (pointer))
 
@@ -117,10 +122,11 @@ Settled library_settle(const tup_board *board, const int16_t *table, size_t numb
 Outcome library_call(const Step *step, tup_board *board, Tables *tables) {
     int16_t *table = LENT(tables->table + GUARD, step->numbers, step);
     uint8_t *marks = LENT(tables->marks + GUARD, step->lent[0], step), *formula = tables->formula + GUARD, *text = tables->text + GUARD;
+    tup_stacks *stacks = (tup_stacks *)(void *)(tables->record + GUARD);
     int16_t literal = (int16_t)step->value;
     uint8_t furnace = (uint8_t)step->furnace;
     switch (step->kind) {
-    case OPEN: return changed(tup_open((uint16_t)step->value), board);
+    case OPEN: return changed(tup_open((uint16_t)step->value, stacks), board);
     case RULE: return call_rule(step, board, table, formula);
     case TEXT_RULE: return call_text_rule(step, board, table, text);
     case TO_BYTES: return call_to_bytes(step, board, table, text, formula);
@@ -132,7 +138,9 @@ Outcome library_call(const Step *step, tup_board *board, Tables *tables) {
     case SMALLEST: return call_smallest(step, board, table, tables);
     case LEAST: return call_least(step, board, table, tables);
     case HOLD: return changed(tup_hold(*board, table, step->numbers, furnace, literal), board);
-    case WITHDRAW: return changed(tup_withdraw(*board, table, step->numbers, furnace, literal), board);
+    case WITHDRAW: return changed(tup_withdraw(*board, table, step->numbers, stacks, furnace, literal), board);
+    case PUSH: return changed(tup_push(*board, table, step->numbers, stacks, furnace, literal), board);
+    case POP: return changed(tup_pop(*board, table, step->numbers, stacks, furnace), board);
     case SETTLE: return call_settle(step, board, table, tables);
     case ASK: return answered(tup_ask(*board, table, step->numbers, furnace, literal));
     case ASK_WHOLE: return answered(tup_ask_whole(*board, table, step->numbers, furnace, literal));

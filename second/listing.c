@@ -80,7 +80,9 @@ static bool needs_all(Play *play, const Step *step, unsigned at, unsigned set, c
     for (unsigned i = 0; i < step->bytes; i++) {
         if ((set >> i & 1) == 0) continue;
         Copy less = *held;
-        tup_change change = tup_withdraw(held->board, play->theirs.table + GUARD, step->numbers, (uint8_t)held->furnace, step->candidates[i]);
+        tup_stacks empty = {0};
+        uint8_t furnace = (uint8_t)held->furnace;
+        tup_change change = tup_withdraw(held->board, play->theirs.table + GUARD, step->numbers, &empty, furnace, step->candidates[i]);
         less.board = change.board;
         if (!same(play, "sets held alone, refusal of withdraw", i, change.refusal, 0) || !settle(play, step, &less)) return false;
         if (less.derives) return wrong_set(play, at, set, "and a smaller set inside it derives the literal");

@@ -1,6 +1,6 @@
 /* The nine calls by document 01, a rule's places, blame's symbol and the two furnaces by document 02's Tickets 1, 4 and 6, no limit to the rounds by
- * Ticket 7, the numbers of the rules by Ticket 8, and ask by symbol, with its old answer as one call more, by Ticket 11: what each tests, in its
- * order, what it returns and what it writes. */
+ * Ticket 7, the numbers of the rules by Ticket 8, ask by symbol, with its old answer as one call more, by Ticket 11, and the record that open and
+ * withdraw are lent by Ticket 14: what each tests, in its order, what it returns and what it writes. */
 #include "model.h"
 
 #include <string.h>
@@ -81,16 +81,18 @@ unsigned furnace_tests(const Board *board, const int16_t *table, size_t numbers,
 }
 
 /* The tests 1, 16 and 2 of those that are given a literal besides. */
-static unsigned literal_tests(const Board *board, const int16_t *table, size_t numbers, unsigned furnace, int literal) {
+unsigned literal_tests(const Board *board, const int16_t *table, size_t numbers, unsigned furnace, int literal) {
     unsigned refusal = furnace_tests(board, table, numbers, furnace);
     if (refusal != 0) return refusal;
     return is_literal(literal, board->symbols) ? 0 : 2;
 }
 
-/* Opens a board, with no rules counted and no premises of either furnace; refused, it is the same with S = 0. */
-Outcome model_open(Board *board, unsigned symbols) {
+/* Opens a board, with no rules counted and no premises of either furnace; refused, it is the same with S = 0. Ticket 14: "a good open empties the
+ * stacks", whatever the record has, and by the C interface it writes 0 in all of it; a refused one leaves it. */
+Outcome model_open(Board *board, int16_t *record, unsigned symbols) {
     bool good = symbols >= 1 && symbols <= MOST_SYMBOLS;
     *board = (Board){.symbols = good ? symbols : 0};
+    if (good) memset(record, 0, RECORD_NUMBERS * sizeof record[0]);
     return outcome(good ? 0 : 2);
 }
 
@@ -145,11 +147,14 @@ Outcome model_hold(Board *board, const int16_t *table, size_t numbers, unsigned 
     return outcome(0);
 }
 
-/* Takes a literal out of the furnace's premises. */
-Outcome model_withdraw(Board *board, const int16_t *table, size_t numbers, unsigned furnace, int literal) {
-    unsigned refusal = literal_tests(board, table, numbers, furnace, literal);
+/* Takes a literal out of the furnace's premises. Ticket 14: "A stacked premise can't be withdrawn except by pop"; "21 for withdrawing a stacked
+ * premise, after 11". */
+Outcome model_withdraw(Board *board, const int16_t *table, size_t numbers, const int16_t *record, unsigned furnace, int literal) {
+    unsigned refusal = stack_tests(board, table, numbers, record, furnace);
+    if (refusal == 0) refusal = literal_tests(board, table, numbers, furnace, literal);
     if (refusal != 0) return outcome(refusal);
     if (!premises_of(board, furnace)[place_of(literal)]) return outcome(11);
+    if (is_stacked(record, furnace, literal)) return outcome(21);
     board->held[furnace - 1][place_of(literal)] = false;
     return outcome(0);
 }

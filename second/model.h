@@ -1,4 +1,4 @@
-/* Document 01 with Tickets 1, 2, 4 to 8 and 10 to 13 of document 02 by brute force, for the independent second program.
+/* Document 01 with Tickets 1, 2, 4 to 8 and 10 to 14 of document 02 by brute force, for the independent second program.
  *
  * Written from these documents and include/tupahineka.h alone. No other code of the project was read for it: what this
  * program and the library share is the documents and nothing else. Slow and by definition, wherever a definition is there. */
@@ -30,7 +30,9 @@ enum {
     MOST_CANDIDATES = 12,
     ALL_SETS = 4096,        /* sets of so many candidates, the empty one included */
     LEAST_POSITIONS = 2,    /* of a position variable */
-    MOST_POSITIONS = 7
+    MOST_POSITIONS = 7,
+    STACK_NUMBERS = 1 + PLACES,                /* of a furnace's stack in the record: its count, then its places, the bottom first */
+    RECORD_NUMBERS = FURNACES * STACK_NUMBERS  /* of the record of both stacks: furnace 1's, then furnace 2's */
 };
 
 /* Where no byte place is told: the largest size_t, by the C interface. */
@@ -138,12 +140,13 @@ const bool *premises_of(const Board *board, unsigned furnace);
 int rule_number(const int16_t *table, unsigned row);
 bool board_is_good(const Board *board, const int16_t *table, size_t numbers);
 unsigned furnace_tests(const Board *board, const int16_t *table, size_t numbers, unsigned furnace);
+unsigned literal_tests(const Board *board, const int16_t *table, size_t numbers, unsigned furnace, int literal);
 void append_row(Board *board, int16_t *table, const int16_t literals[ROW_LITERALS]);
-Outcome model_open(Board *board, unsigned symbols);
+Outcome model_open(Board *board, int16_t *record, unsigned symbols);
 Outcome formula_breaks(const uint8_t *formula, size_t bytes, unsigned symbols);
 Outcome model_rule(Board *board, int16_t *table, size_t numbers, const uint8_t *formula, size_t bytes);
 Outcome model_hold(Board *board, const int16_t *table, size_t numbers, unsigned furnace, int literal);
-Outcome model_withdraw(Board *board, const int16_t *table, size_t numbers, unsigned furnace, int literal);
+Outcome model_withdraw(Board *board, const int16_t *table, size_t numbers, const int16_t *record, unsigned furnace, int literal);
 Outcome model_settle(const Board *board, const int16_t *table, size_t numbers, unsigned furnace, uint8_t *labels, size_t label_count,
                      uint16_t *ranks, size_t rank_count, uint16_t *supports, size_t support_count);
 Outcome model_ask(const Board *board, const int16_t *table, size_t numbers, unsigned furnace, int literal);
@@ -152,6 +155,15 @@ Outcome model_explain(const Board *board, const int16_t *table, size_t numbers, 
 Outcome model_ground(const Board *board, const int16_t *table, size_t numbers, unsigned furnace, int literal, uint8_t *marks, size_t mark_count);
 void mark_both(const Board *board, unsigned furnace, const int16_t *table, const Findings *found, unsigned symbol, uint8_t *marks);
 Outcome model_blame(const Board *board, const int16_t *table, size_t numbers, unsigned furnace, uint8_t *marks, size_t mark_count);
+
+/* stacks.c: readings that are tried and taken back, two calls more, and the tests of the record that they are lent. */
+unsigned stack_count(const int16_t *record, unsigned furnace);
+int stacked_at(const int16_t *record, unsigned furnace, unsigned at);
+bool is_stacked(const int16_t *record, unsigned furnace, int literal);
+bool stack_is_good(const Board *board, const int16_t *record, unsigned furnace);
+unsigned stack_tests(const Board *board, const int16_t *table, size_t numbers, const int16_t *record, unsigned furnace);
+Outcome model_push(Board *board, const int16_t *table, size_t numbers, int16_t *record, unsigned furnace, int literal);
+Outcome model_pop(Board *board, const int16_t *table, size_t numbers, int16_t *record, unsigned furnace);
 
 /* dimacs.c: text in and out, two calls more. */
 bool text_has_header(const uint8_t *text, size_t bytes, Form *form);

@@ -35,7 +35,7 @@ typedef struct Trial {
 } Trial;
 
 /* trial.c */
-void trial_start(const Play *play, Trial *trial);
+void trial_start(Play *play, Trial *trial);
 Step trial_step(Trial *trial, Kind kind, unsigned furnace, int value);
 bool trial_call(Play *play, Trial *trial, const Step *step);
 void trial_keep(Trial *trial, const Step *step);

@@ -1,6 +1,6 @@
 /* The independent second program of Tupahineka: random sequences of calls, the library against the documents by brute force.
  *
- * Written from document 01, Tickets 1, 2 and 4 to 13 of document 02, the project's exact readings of Tickets 5, 6 and 8 to 11 and
+ * Written from document 01, Tickets 1, 2 and 4 to 14 of document 02, the project's exact readings of Tickets 5, 6, 8 to 11 and 14, and
  * include/tupahineka.h alone. No proved code was read for it; but the checks of Ticket 11 (answers.c, asktries.c, coveranswers.c) were written with
  * the project's definition of ask known, the model's two asks without. Of the project's other files only those were read that build and run it:
  * Makefile, tests/panel.sh and tools/kit.sh.
@@ -32,6 +32,7 @@
 #include "settries.h"
 #include "smallboards.h"
 #include "spelttrials.h"
+#include "stacktries.h"
 #include "texttrials.h"
 
 enum { WHOLE_FROM = 2000 };
@@ -116,13 +117,19 @@ static bool valves_agree(uint64_t seed) {
     return position_tries_agree(&play) && valve_tries_agree(&play) && positions_by_formula_agree(&play, seed) && arcs_agree(&play, seed);
 }
 
+/* Readings that are tried and taken back: by hand, records by hand, as deep as can be, and nested at random. */
+static bool stacks_agree(uint64_t seed) {
+    return stack_tries_agree(&play) && record_tries_agree(&play) && deep_tries_agree(&play) && nested_tries_agree(&play, seed);
+}
+
 /* The boards that the documents name, those worked out by hand, all of few symbols, then the texts. */
 static bool trials_agree(uint64_t seed) {
     in_trials = true;
     return document_agrees(&play) && furnace_tries_agree(&play) && row_tries_agree(&play) && rule_tries_agree(&play) && number_tries_agree(&play) &&
            ask_tries_agree(&play) && outside_tries_agree(&play) && set_tries_agree(&play) && candidate_tries_agree(&play) &&
-           least_tries_agree(&play) && held_tries_agree(&play) && valves_agree(seed) && small_boards_agree(&play) && spellings_agree(&play) &&
-           torn_texts_agree(&play, seed) && long_texts_agree(&play) && rooms_agree(&play, seed) && rules_agree(&play, seed) && spelt_agree(seed);
+           least_tries_agree(&play) && held_tries_agree(&play) && valves_agree(seed) && stacks_agree(seed) && small_boards_agree(&play) &&
+           spellings_agree(&play) && torn_texts_agree(&play, seed) && long_texts_agree(&play) && rooms_agree(&play, seed) &&
+           rules_agree(&play, seed) && spelt_agree(seed);
 }
 
 /* Plays all sequences of a seed, then what is to be tried besides. */

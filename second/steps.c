@@ -21,6 +21,16 @@ bool asks(Kind kind) {
     return kind == ASK || kind == ASK_WHOLE;
 }
 
+/* True if the call puts a literal into a furnace's premises, for good or on trial. */
+bool holds(Kind kind) {
+    return kind == HOLD || kind == PUSH;
+}
+
+/* True if the call is lent the record of both stacks and tests it; open is lent it too, and takes any. */
+bool tests_record(Kind kind) {
+    return kind == WITHDRAW || kind == PUSH || kind == POP;
+}
+
 /* True if the call is given candidates. */
 bool gives_candidates(Kind kind) {
     return kind == LEAST || kind == SMALLEST;
@@ -28,7 +38,7 @@ bool gives_candidates(Kind kind) {
 
 /* True if the call is given a literal, besides candidates or without any. */
 bool gives_literal(Kind kind) {
-    return kind == SMALLEST || (names_furnace(kind) && kind != SETTLE && kind != BLAME && kind != LEAST);
+    return kind == SMALLEST || (names_furnace(kind) && kind != POP && kind != SETTLE && kind != BLAME && kind != LEAST);
 }
 
 /* True if all that the call is given, its literal and its candidates, are literals of symbols 1 to S, and so have places. */
@@ -86,19 +96,22 @@ size_t sets_window(const Step *step) {
     return step->kind == SMALLEST ? GUARD + step->lent[0] + GUARD : 0;
 }
 
-/* Both sides alike: no board, and noise in every place of every table. */
+/* Both sides alike: no board, and noise in every place of every table and of the record. */
 void play_start(Play *play, uint64_t seed, bool with_library) {
     play->with_library = with_library;
     play->watched = sizeof play->ours.table;
     play->board = (Board){0};
     play->library_board = (tup_board){0};
     book_start(&play->book);
+    ahead_start(play);
     play->last = (Outcome){0};
-    play->demand_3 = play->booked = play->renumbered = false;
+    play->demand_3 = play->booked = play->renumbered = play->popped = play->taken_back = play->taken_back_but = false;
     play->difference[0] = 0;
     random_fill(seed, play->ours.table, sizeof play->ours.table);
     if (seed % 2 == 0) past_the_last_row(&play->ours);
     memcpy(play->theirs.table, play->ours.table, sizeof play->ours.table);
+    random_fill(~seed, play->ours.record, sizeof play->ours.record);
+    memcpy(play->theirs.record, play->ours.record, sizeof play->ours.record);
 }
 
 /* Fresh noise where bytes are to be written, or those given with what stands after them, on both sides. */
@@ -130,10 +143,10 @@ void lend(Play *play, const Step *step) {
 
 /* The model's side of a call. */
 static Outcome model_call(const Step *step, Board *board, Tables *tables) {
-    int16_t *table = tables->table + GUARD;
+    int16_t *table = tables->table + GUARD, *record = tables->record + GUARD;
     uint8_t *marks = tables->marks + GUARD, *formula = tables->formula + GUARD, *text = tables->text + GUARD;
     switch (step->kind) {
-    case OPEN: return model_open(board, (unsigned)step->value);
+    case OPEN: return model_open(board, record, (unsigned)step->value);
     case RULE: return model_rule(board, table, step->numbers, formula, step->bytes);
     case TEXT_RULE: return model_text_rule(board, table, step->numbers, text, step->bytes);
     case TO_BYTES: return model_to_bytes(board, table, step->numbers, text, step->bytes, formula, step->lent[0]);
@@ -146,7 +159,9 @@ static Outcome model_call(const Step *step, Board *board, Tables *tables) {
         return model_smallest(board, table, step->numbers, tables->candidates + GUARD, step->bytes, step->value, tables->sets + GUARD, step->lent[0]);
     case LEAST: return model_least(board, table, step->numbers, step->furnace, tables->candidates + GUARD, step->bytes);
     case HOLD: return model_hold(board, table, step->numbers, step->furnace, step->value);
-    case WITHDRAW: return model_withdraw(board, table, step->numbers, step->furnace, step->value);
+    case WITHDRAW: return model_withdraw(board, table, step->numbers, record, step->furnace, step->value);
+    case PUSH: return model_push(board, table, step->numbers, record, step->furnace, step->value);
+    case POP: return model_pop(board, table, step->numbers, record, step->furnace);
     case SETTLE:
         return model_settle(board, table, step->numbers, step->furnace, tables->labels + GUARD, step->lent[0], tables->ranks + GUARD,
                             step->lent[1], tables->supports + GUARD, step->lent[2]);
@@ -180,8 +195,16 @@ static uint16_t caller_writes(const Step *step, unsigned rows, unsigned rules, T
     return (uint16_t)(rows + 1);
 }
 
+/* What the caller himself writes into the record. */
+static void caller_stacks(const Step *step, Tables *tables) {
+    if (step->kind != SET_COUNT && step->kind != SET_STACKED) return;
+    int16_t *its = tables->record + GUARD + STACK_NUMBERS * (step->furnace - 1);
+    its[step->kind == SET_COUNT ? 0 : 1 + step->place] = (int16_t)step->value;
+}
+
 /* What the caller does himself, on the library's side. */
 void caller_acts(const Step *step, tup_board *board, Tables *tables) {
+    caller_stacks(step, tables);
     board->rules = rules_after(step, board->rows, board->rules);
     board->rows = caller_writes(step, board->rows, board->rules, tables);
     if (step->kind == SET_SYMBOLS) board->symbols = (uint16_t)step->value;
@@ -190,6 +213,7 @@ void caller_acts(const Step *step, tup_board *board, Tables *tables) {
 
 /* The same on the model's side. */
 static void model_caller_acts(const Step *step, Board *board, Tables *tables) {
+    caller_stacks(step, tables);
     board->rules = rules_after(step, board->rows, board->rules);
     board->rows = caller_writes(step, board->rows, board->rules, tables);
     if (step->kind == SET_SYMBOLS) board->symbols = (uint16_t)step->value;
@@ -203,24 +227,36 @@ static bool library_agrees(Play *play, const Step *step) {
     if (step->kind == SMALLEST && play->library_last.refusal == 0 && !list_carries(play, step)) return false;
     if (step->kind == LEAST && !least_follows(play, step)) return false;
     if (!same_everywhere(play, step, &play->last, &play->library_last)) return false;
+    if (!stack_follows(play, step)) return false;
     if (step->kind == BLAME && play->last.refusal == 0 && !marks_are_enough(play, step)) return false;
     if ((step->kind == SETTLE || asks(step->kind)) && !answers_follow(play, step)) return false;
     play->renumbered = can_renumber(step->kind) && play->last.refusal == 0 && (step->noise >> 8) % 3 == 0;
     return !play->renumbered || numbers_change_nothing(play, step);
 }
 
+/* The literal that a pop would take back: the top of its furnace's stack, or 0 where there is none. */
+static int top_for(const Play *play, const Step *step) {
+    const int16_t *record = play->ours.record + GUARD;
+    if (step->kind != POP || !is_furnace(step->furnace)) return 0;
+    unsigned count = stack_count(record, step->furnace);
+    return count == 0 || count > PLACES ? 0 : stacked_at(record, step->furnace, count - 1);
+}
+
 /* Plays one step on both sides; false if they differ, with the difference in words. */
 bool play_step(Play *play, const Step *step) {
-    play->demand_3 = play->booked = play->renumbered = false;
+    play->demand_3 = play->booked = play->renumbered = play->popped = play->taken_back = play->taken_back_but = false;
     play->carried = play->grounds = play->own_grounds = play->asked = play->hidden = play->struck = play->left = play->told_again = 0;
     if (step->kind >= CALLS) {
         model_caller_acts(step, &play->board, &play->ours);
         caller_acts(step, &play->library_board, &play->theirs);
         book_parts(play);
+        ahead_of_act(play, step);
         return true;
     }
     lend(play, step);
     play->given = play->library_board;
+    play->tried = top_for(play, step);
+    if (step->kind == OPEN) memcpy(play->record_given, play->ours.record + GUARD, sizeof play->record_given);
     play->last = model_call(step, &play->board, &play->ours);
     if (play->with_library && !library_agrees(play, step)) return false;
     keep_book(play, step);

@@ -18,19 +18,21 @@ enum {
     PLACE_WORD = 24                            /* bytes for a place in words */
 };
 
-/* The nineteen calls, those that hand a board back first; then what the caller may do between them. READ and WRITE are of DIMACS text; TEXT_RULE,
+/* The twenty-one calls, those that hand a board back first; then what the caller may do between them. READ and WRITE are of DIMACS text; TEXT_RULE,
  * TO_BYTES and TO_TEXT of formula text: a rule added from it, it read to bytes, and bytes written as it. POSITIONS enters a position variable, PAIRS
- * a pair table between two. ASK answers by symbol, ASK_WHOLE with the old answer, conflict for every literal while the furnace is in conflict. LEAST
- * tells the least of candidates to withdraw, SMALLEST lists sets of them. */
+ * a pair table between two. PUSH holds a literal on trial, POP takes the last one back. ASK answers by symbol, ASK_WHOLE with the old answer,
+ * conflict for every literal while the furnace is in conflict. LEAST tells the least of candidates to withdraw, SMALLEST lists sets of them. */
 typedef enum Kind {
-    OPEN, RULE, TEXT_RULE, READ, POSITIONS, PAIRS, HOLD, WITHDRAW, SETTLE, ASK, ASK_WHOLE, EXPLAIN, GROUND, BLAME, LEAST, SMALLEST, WRITE,
-    TO_BYTES, TO_TEXT,
+    OPEN, RULE, TEXT_RULE, READ, POSITIONS, PAIRS, HOLD, WITHDRAW, PUSH, POP, SETTLE, ASK, ASK_WHOLE, EXPLAIN, GROUND, BLAME, LEAST, SMALLEST,
+    WRITE, TO_BYTES, TO_TEXT,
     CALLS,
     SET_SYMBOLS = CALLS, /* the caller writes S = value into the board */
     SET_ROWS,            /* the caller writes rows in use = value */
     SET_RULES,           /* the caller writes rules counted = value */
     SET_HELD,            /* the caller writes the byte value at place of a furnace's premises */
     SET_NUMBER,          /* the caller writes the number value at a place of the clause table */
+    SET_COUNT,           /* the caller writes the count of a furnace's stack = value */
+    SET_STACKED,         /* the caller writes the number value at a place of a furnace's stack */
     APPEND_ROW,          /* the caller counts so many rules, writes a row of his own from the last one after the rows in use, and counts it in */
     KINDS
 } Kind;
@@ -38,7 +40,7 @@ typedef enum Kind {
 typedef struct Step {
     Kind kind;
     int value;
-    unsigned furnace;        /* that the call names, any byte; 1 or 2 where the caller writes into its premises */
+    unsigned furnace;        /* that the call names, any byte; 1 or 2 where the caller writes into its premises or its stack */
     unsigned place;
     int16_t row[ROW_LITERALS];
     unsigned rules;          /* that the caller counts ahead of his row */
@@ -53,6 +55,8 @@ typedef struct Step {
     uint64_t noise;          /* what stands in the tables to be written, before the call */
     unsigned damage, faults; /* for the counts only: what was spoilt ahead of this call, and how many things */
     bool torn;               /* for the counts only: the text is a damaged one */
+    unsigned spoilt, whose;  /* for the counts only: what was spoilt in the record ahead of this call, and in which furnace's stack */
+    bool mended;             /* for the counts only: this puts a spoilt record right */
 } Step;
 
 /* Everything that can be lent, with its guards. */
@@ -66,6 +70,7 @@ typedef struct Tables {
     uint8_t text[GUARD + TEXT_LENDABLE + GUARD];
     int16_t candidates[GUARD + CANDIDATES_LENDABLE + GUARD];
     uint16_t sets[GUARD + SETS_LENDABLE + GUARD];
+    int16_t record[GUARD + RECORD_NUMBERS + GUARD]; /* of both stacks: as it was left by the call before, like the clause table */
 } Tables;
 
 /* The rules accepted since the last good open, clauses of texts among them, and the rows they wrote, each with the number of its rule as the book
@@ -84,6 +89,14 @@ typedef struct Settled {
     uint16_t ranks[PLACES], supports[PLACES];
 } Settled;
 
+/* What the library's furnaces held ahead of each of the last pushes: of so many that are still on the stack, the first of them first; but for what
+ * was held and withdrawn for the furnace since then by other calls than pushes and pops, if anything was. */
+typedef struct Ahead {
+    unsigned pushes[FURNACES];
+    bool changed[FURNACES][PLACES];
+    uint8_t held[FURNACES][PLACES][PLACES];
+} Ahead;
+
 /* A sequence in play: the model's side, the library's side, and the book of rules. */
 typedef struct Play {
     bool with_library;
@@ -92,11 +105,17 @@ typedef struct Play {
     Tables ours, theirs;
     size_t watched;          /* bytes of the clause table, from its front on, that are compared after each call */
     Book book;
+    Ahead ahead;
+    int16_t record_given[RECORD_NUMBERS]; /* the record as the last open was lent it */
     Outcome last, library_last;
     bool demand_3, booked, renumbered; /* compared at the last step: demand 3, the book of rules, the call with other rule numbers */
     unsigned carried, grounds, own_grounds; /* sets of the last list held alone; grounds with one of them inside; those of the board's own premises */
     unsigned struck, left;   /* candidates of the last set to withdraw that were withdrawn; those of it that were left in place, in conflict still */
     unsigned told_again;     /* and calls for it made again in other ways */
+    bool popped, taken_back; /* compared at the last step, a pop: what settle tells after it; the premises with those ahead of its push, */
+    bool taken_back_but;     /* the same, but for what was held and withdrawn since */
+    int tried;               /* the literal that the last step, a pop, took back */
+    Findings after;          /* and what the model finds after it */
     unsigned asked, hidden;  /* literals that both calls were asked for beside settle; those whose answer a conflict hides from the second call */
     char difference[240];    /* empty, or the first difference in words */
 } Play;
@@ -104,6 +123,8 @@ typedef struct Play {
 /* steps.c */
 bool names_furnace(Kind kind);
 bool asks(Kind kind);
+bool holds(Kind kind);
+bool tests_record(Kind kind);
 bool gives_candidates(Kind kind);
 bool gives_literal(Kind kind);
 bool gives_literals(const Step *step, unsigned symbols);
@@ -153,6 +174,11 @@ bool least_follows(Play *play, const Step *step);
 /* leastagain.c */
 bool least_told_again(Play *play, const Step *step);
 
+/* takenback.c */
+void ahead_start(Play *play);
+void ahead_of_act(Play *play, const Step *step);
+bool stack_follows(Play *play, const Step *step);
+
 /* answers.c */
 bool answers_follow(Play *play, const Step *step);
 
@@ -160,6 +186,7 @@ bool answers_follow(Play *play, const Step *step);
 bool same(Play *play, const char *what, long place, unsigned theirs, unsigned ours);
 bool same_outcome(Play *play, const Outcome *ours, const Outcome *theirs);
 bool table_agrees(Play *play);
+bool same_record(Play *play, unsigned but_of);
 bool same_tables(Play *play, const Step *step);
 bool same_everywhere(Play *play, const Step *step, const Outcome *ours, const Outcome *theirs);
 bool same_by_rules(Play *play, const Step *step);

@@ -8,8 +8,11 @@
 
 enum { FEW_BYTES = 20 }; /* lent for a text or a formula */
 
-/* A copy of the board in play, and no call made yet. The literal and what was said of it at first stay. */
-void trial_start(const Play *play, Trial *trial) {
+/* A copy of the board in play, and no call made yet. The literal and what was said of it at first stay. The record is empty, so that no premise is
+ * stacked and each can be withdrawn. */
+void trial_start(Play *play, Trial *trial) {
+    memset(play->ours.record + GUARD, 0, RECORD_NUMBERS * sizeof play->ours.record[0]);
+    memset(play->theirs.record + GUARD, 0, RECORD_NUMBERS * sizeof play->theirs.record[0]);
     trial->board = play->library_board;
     trial->model = play->board;
     trial->withdrawn = trial->others = trial->refused = trial->telling = 0;
@@ -52,7 +55,7 @@ void trial_keep(Trial *trial, const Step *step) {
 static Outcome model_changes(Play *play, Trial *trial, const Step *step) {
     int16_t *table = play->ours.table + GUARD;
     if (step->kind == HOLD) return model_hold(&trial->model, table, step->numbers, step->furnace, step->value);
-    if (step->kind == WITHDRAW) return model_withdraw(&trial->model, table, step->numbers, step->furnace, step->value);
+    if (step->kind == WITHDRAW) return model_withdraw(&trial->model, table, step->numbers, play->ours.record + GUARD, step->furnace, step->value);
     return model_text_rule(&trial->model, table, step->numbers, step->text, step->bytes);
 }
 

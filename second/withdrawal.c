@@ -53,10 +53,12 @@ static bool blame_is(Play *play, const Step *step, const Copy *copy, unsigned st
     return same(play, "least, a mark of blame among those still to be withdrawn,", still, marked, still != 0);
 }
 
-/* Withdraws one of the candidates from the copy; false where that is refused. */
+/* Withdraws one of the candidates from the copy; false where that is refused. On the copy none is stacked: its record is empty. */
 static bool withdraw(Play *play, const Step *step, Copy *copy, size_t i) {
-    tup_change change = tup_withdraw(copy->board, play->theirs.table + GUARD, step->numbers, (uint8_t)step->furnace, step->candidates[i]);
-    Outcome ours = model_withdraw(&copy->model, play->ours.table + GUARD, step->numbers, step->furnace, step->candidates[i]);
+    static const int16_t record[RECORD_NUMBERS];
+    tup_stacks empty = {0};
+    tup_change change = tup_withdraw(copy->board, play->theirs.table + GUARD, step->numbers, &empty, (uint8_t)step->furnace, step->candidates[i]);
+    Outcome ours = model_withdraw(&copy->model, play->ours.table + GUARD, step->numbers, record, step->furnace, step->candidates[i]);
     copy->board = change.board;
     return same(play, "least, refusal of withdraw, candidate", (long)i, change.refusal, 0) &&
            same(play, "least, refusal of the model's withdraw, candidate", (long)i, 0, ours.refusal);

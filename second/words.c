@@ -4,8 +4,9 @@
 #include "steps.h"
 
 static const char *const words[KINDS] = {
-    "open", "rule", "add text", "read", "positions", "pairs", "hold", "withdraw", "settle", "ask", "ask whole", "explain", "ground", "blame",
-    "least", "smallest", "write", "to bytes", "to text", "set S", "set rows used", "set rules", "set a held byte", "set a number", "append a row"};
+    "open", "rule", "add text", "read", "positions", "pairs", "hold", "withdraw", "push", "pop", "settle", "ask", "ask whole", "explain", "ground",
+    "blame", "least", "smallest", "write", "to bytes", "to text", "set S", "set rows used", "set rules", "set a held byte", "set a number",
+    "set a count", "set a stacked one", "append a row"};
 
 /* The word for a kind of step. */
 const char *kind_word(Kind kind) {
@@ -111,6 +112,8 @@ void print_step(const Step *step, size_t ordinal) {
     case SET_RULES: printf("the caller sets rules counted to %d", step->value); break;
     case SET_HELD: printf("the caller sets furnace %u's held byte of %d to %d", step->furnace, literal_at(step->place), step->value); break;
     case SET_NUMBER: printf("the caller sets row %u, place %u of it, to %d", step->place / WIDTH, step->place % WIDTH, step->value); break;
+    case SET_COUNT: printf("the caller sets the count of furnace %u's stack to %d", step->furnace, step->value); break;
+    case SET_STACKED: printf("the caller sets place %u of furnace %u's stack to %d", step->place, step->furnace, step->value); break;
     case APPEND_ROW: printf("the caller counts %u rules more, and appends the row", step->rules), print_row(step->row); break;
     case RULE: case TO_TEXT: printf("%s ", words[step->kind]), print_formula(step), print_lent(step); break;
     case READ: case TEXT_RULE: case TO_BYTES: printf("%s ", words[step->kind]), print_text(step->text, step->bytes), print_lent(step); break;
@@ -118,7 +121,7 @@ void print_step(const Step *step, size_t ordinal) {
     case OPEN: printf("open %d", step->value); break;
     case WRITE: printf("write"), print_lent(step); break;
     case LEAST: case SMALLEST: printf("%s ", words[step->kind]), print_candidates(step), print_lent(step); break;
-    case SETTLE: case BLAME: printf("%s for furnace %u", words[step->kind], step->furnace), print_lent(step); break;
+    case POP: case SETTLE: case BLAME: printf("%s for furnace %u", words[step->kind], step->furnace), print_lent(step); break;
     default: printf("%s %d for furnace %u", words[step->kind], step->value, step->furnace), print_lent(step);
     }
     printf("\n");
@@ -141,7 +144,16 @@ void print_outcome(const char *who, Kind kind, const Outcome *outcome) {
     printf("\n");
 }
 
-/* Prints the model's board and rows in use. */
+/* Prints the model's stack of a furnace, its bottom first, and what it says of its count where that is too large. */
+static void print_stack(const Play *play, unsigned furnace) {
+    const int16_t *record = play->ours.record + GUARD;
+    unsigned count = stack_count(record, furnace), shown = count < PLACES ? count : PLACES;
+    printf("; on its stack, count %u:", count);
+    for (unsigned i = 0; i < shown && i < 40; i++) printf(" %d", stacked_at(record, furnace, i));
+    if (shown > 40) printf(" and so on");
+}
+
+/* Prints the model's board, both stacks and the rows in use. */
 void print_board(const Play *play, size_t numbers) {
     const Board *board = &play->board;
     printf("  board by the model: S %u, rows in use %u, rules %u", board->symbols, board->rows, board->rules);
@@ -149,6 +161,7 @@ void print_board(const Play *play, size_t numbers) {
         printf("; held for furnace %u:", f);
         for (unsigned p = 0; p < PLACES; p++)
             if (premises_of(board, f)[p]) printf(" %d", literal_at(p));
+        print_stack(play, f);
     }
     printf("\n");
     for (unsigned r = 0; r < board->rows && r < rows_lent(numbers) && r < 40; r++) {

@@ -1,6 +1,6 @@
 #!/usr/bin/env bash
-# Proves and builds the C boundary, and runs what stands on it: the trend demo, the valves, the independent second program, and the journals and texts that
-# the second program writes. SEED and COUNT choose the second program's sequences.
+# Proves and builds the C boundary, and runs what stands on it: the trend demo, the valves, the tries, the independent second program, and the journals
+# and texts that the second program writes. SEED and COUNT choose the second program's sequences.
 set -euo pipefail
 cd "$(dirname "$0")/.."
 . tools/kit.sh
@@ -9,7 +9,7 @@ if [ "${TUP_WITHOUT_C:-}" = 1 ] && [ -z "$(c_compiler)" ]; then
     exit 0
 fi
 need_c
-make -s target/trend target/valves target/second
+make -s target/trend target/valves target/tries target/second
 room=$(mktemp -d)
 trap 'rm -rf "$room"' EXIT
 
@@ -26,13 +26,16 @@ grep -q 'least to withdraw: TC-3 high and damper shut' "$room/trend.svg"
 [ "$(grep -c 'class="on-blame"' "$room/trend.svg")" -eq 7 ] # under three marks of each furnace, and in the legend
 echo "demo: it printed what examples/trend.expected has, and drew the shift"
 
-# the valves check each answer by removing positions without the board; what they print is stored
-run_c target/valves >"$room/valves.txt" || {
-    tail -1 "$room/valves.txt"
-    exit 1
-}
-diff "$room/valves.txt" examples/valves.expected
-echo "valves: they printed what examples/valves.expected has, with $(tail -1 "$room/valves.txt" | cut -d ' ' -f 1) checks of their own"
+# the valves check each answer by removing positions without the board, the tries by deriving and by keeping premises and stacks beside it; what they
+# print is stored
+for story in valves tries; do
+    run_c "target/$story" >"$room/$story.txt" || {
+        tail -1 "$room/$story.txt"
+        exit 1
+    }
+    diff "$room/$story.txt" "examples/$story.expected"
+    echo "$story: they printed what examples/$story.expected has, with $(tail -1 "$room/$story.txt" | cut -d ' ' -f 1) checks of their own"
+done
 
 run_c target/second "${SEED:-1}" "${COUNT:-20000}"
 

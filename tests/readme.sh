@@ -24,10 +24,11 @@ lines=$(sed -n 's/^    \([0-9][0-9]:[0-9][0-9] .*\)/\1/p' README.md)
     exit 1
 }
 
-# those of the valves
+# those of the valves and of the tries
 lines=$(sed -n 's/^    \( *furnace [12], .*\)/\1/p' README.md)
-[ "$(wc -l <<<"$lines")" -eq 3 ] && ! grep -vxFf examples/valves.expected <<<"$lines" || {
-    echo "README.md: examples/valves.expected does not have its three lines of the valves"
+[ "$(wc -l <<<"$lines")" -eq 6 ] && [ "$(grep -cxFf examples/valves.expected <<<"$lines")" -eq 3 ] &&
+    [ "$(grep -cxFf examples/tries.expected <<<"$lines")" -eq 3 ] || {
+    echo "README.md: examples/valves.expected and examples/tries.expected do not have three of its lines each"
     exit 1
 }
 

@@ -12,14 +12,13 @@ use lib.ListN.{length, drop, getD, set, replicate}
 use lib.Seq.{drop-cons, drop-set-lt}
 use Rattle.meaning.specs.Tests.{any}
 use Rattle.meaning.proofs.Tests.{both-true}
-use Rattle.literals.specs.Literal.{inRange, placeOf}
+use Rattle.literals.specs.Literal.{placeOf}
 use Rattle.literals.specs.Row.{mostRules, rowsLent, ruleSound, rowsSound, Sound}
 use Rattle.literals.proofs.Decoding.{sound-both}
 use Rattle.board.specs.Furnaces.{heldBy, withHeld}
 use Rattle.board.specs.Faults.{premisesFit, goodBoard}
 use Rattle.board.specs.Changes.{emptyBoard, withFlag}
 use Rattle.board.specs.declared.Board.{Board}
-use Rattle.literals.proofs.Arguments.{place-fits}
 
 -- ---- the scan for a premise beyond the symbols
 
@@ -117,10 +116,10 @@ module _ (b : Board) (furnace : ℕ) (now : List Bool) (e : drop (2 * b .symbols
   unfolding goodBoard withHeld
   held-good table = rw held-fits
 
--- with a premise more or less
-module _ (b : Board) (furnace : ℕ) (l : ℤ) (flag : Bool) (e : inRange (b .symbols) l ≡ true) where
+-- with a premise more or less, at a place of the board's
+module _ (b : Board) (furnace : ℕ) (l : ℤ) (flag : Bool) (low : placeOf l < 2 * b .symbols) where
   flag-beyond : drop (2 * b .symbols) (set (heldBy b furnace) (placeOf l) flag) ≡ drop (2 * b .symbols) (heldBy b furnace)
-  flag-beyond = drop-set-lt (2 * b .symbols) (heldBy b furnace) (placeOf l) flag (place-fits (b .symbols) l e)
+  flag-beyond = drop-set-lt (2 * b .symbols) (heldBy b furnace) (placeOf l) flag low
 
   pub flag-fits : premisesFit (withFlag b furnace l flag) ≡ premisesFit b
   flag-fits = held-fits b furnace (set (heldBy b furnace) (placeOf l) flag) flag-beyond

@@ -30,6 +30,9 @@ one-hold κs a x y = (cc, refl)
 one-withdraw : One board.changes.withdraw.ended board.changes.withdraw.Reads.Post
 one-withdraw κs a x y = (cc, refl)
 
+one-with-flag : One board.changes.with_flag.ended board.changes.with_flag.Reads.Post
+one-with-flag κs a x y = (cc, refl)
+
 one-ground : One board.grounds.ground.ended board.grounds.ground.Reads.Post
 one-ground κs a x y = (cc, refl & refl & refl & refl & (cc) & refl)
 

@@ -1,12 +1,14 @@
 // Open, hold and withdraw: the calls that change the board and no table.
 
 ghost use mathlib.Core.Path.{_≡_};
+ghost use Prim.Native.Nat.{_<_};
+ghost use lib.ListN.{set};
+ghost use Rattle.board.specs.Furnaces.{heldBy, withHeld};
 ghost use Rattle.board.specs.Changes.{emptyBoard, opened, flagChanged, held, withdrawn};
 use crate::Board;
 use crate::Change;
 use crate::Outcome;
 use crate::furnaces::premises;
-use crate::furnaces::with_flag;
 use crate::testing::Placed;
 use crate::testing::place_on;
 use literals::refusal::Refusal;
@@ -47,6 +49,22 @@ pub fn open(symbols: usize) -> Change
         outcome: Outcome::Done,
         board: empty(symbols),
     }
+}
+
+// The board with the flag at one place of a furnace's premises set so; for another number as it was.
+pub fn with_flag(board: Board, furnace: u8, p: usize, flag: bool) -> Board
+    requires { ⌜ p < 400 ⌝ }
+    ensures { λ r. ⌜ r ≡ withHeld board furnace (set (heldBy board furnace) p flag) ⌝ }
+{
+    let mut next = board;
+    if furnace == 1 {
+        next.first[p] = flag;
+        return next;
+    }
+    if furnace == 2 {
+        next.second[p] = flag;
+    }
+    next
 }
 
 // Sets the flag of a furnace's premise so; refused with `already` where it is so.

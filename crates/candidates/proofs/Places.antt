@@ -5,15 +5,15 @@ use mathlib.Core.List.{List}
 use mathlib.Core.List.{List·Memᴰ as In}
 use Prim.Native.Nat.{ℕ, _*_, _≤_, _<_}
 use native.Mathlib.Omega.{arith}
-use borrow.Author.Tests.{le-leb, lt-ltb, ltb-true}
-use lib.Dec.{leb, ltb}
-use lib.IntN.{ℤ, natAbs}
+use borrow.Author.Tests.{lt-ltb, ltb-true}
+use lib.Dec.{ltb}
+use lib.IntN.{ℤ}
 use Rattle.meaning.specs.Tests.{all}
 use Rattle.meaning.specs.Sets.{chosen}
-use Rattle.meaning.proofs.Tests.{and-intro, all-at, all-map, all-imp}
+use Rattle.meaning.proofs.Tests.{all-at, all-map, all-imp}
 use Rattle.meaning.proofs.Sets.{chosen-in}
 use Rattle.literals.specs.Literal.{inRange, placeOf}
-use Rattle.literals.proofs.Arguments.{range-facts, place-fits}
+use Rattle.literals.proofs.Arguments.{range-more, place-fits}
 use Rattle.candidates.specs.Given.{placesOf}
 
 -- each is one of the board's places,
@@ -28,12 +28,7 @@ low-more n k places le e = all-imp (λ p. ltb p n) (λ p. ltb p k) places (λ p 
 
 -- and each literal one of a larger board's
 pub in-range-more : (S T : ℕ) (cands : List ℤ) → S ≤ T → all (inRange S) cands ≡ true → all (inRange T) cands ≡ true
-in-range-more S T cands le e = all-imp (inRange S) (inRange T) cands (λ c m h. wider c h) e
-  where
-    wider : (c : ℤ) → inRange S c ≡ true → inRange T c ≡ true
-    wider c h =
-        let r = range-facts S c h in
-        and-intro (leb 1 (natAbs c)) (leb (natAbs c) T) (le-leb 1 (natAbs c) (r .0)) (le-leb (natAbs c) T (omega (arith, r .1)))
+in-range-more S T cands le e = all-imp (inRange S) (inRange T) cands (λ c m h. range-more S c h T le) e
 
 -- the candidates that a set has are candidates
 pub chosen-low : (n : ℕ) (cands : List ℕ) (m p : ℕ) → all (λ q. ltb q n) cands ≡ true → In p (chosen cands m) → p < n

@@ -3,7 +3,7 @@ use Prim.Native.Nat.{_≤_}
 use native.Mathlib.Omega.{arith}
 use Rattle.literals.specs.Refusals.{numberOf}
 use Rattle.literals.specs.declared.refusal.Refusal.{Refusal}
-use Rattle.literals.specs.declared.refusal.Refusal.the-variants.{BadBoard, BadLiteral, CutShort, UnknownKind, TooDeep, BytesLeftOver, TooManySymbols, NoAssignment, TableFull, AlreadyHeld, NotHeld, NothingToShow, TableTooShort, BadText, BadFurnace, BadCandidates, ConflictStays, BadPositions}
+use Rattle.literals.specs.declared.refusal.Refusal.the-variants.{BadBoard, BadLiteral, CutShort, UnknownKind, TooDeep, BytesLeftOver, TooManySymbols, NoAssignment, TableFull, AlreadyHeld, NotHeld, NothingToShow, TableTooShort, BadText, BadFurnace, BadCandidates, ConflictStays, BadPositions, EmptyStack, StackedPremise}
 
 pub number-some : (why : Refusal) → 1 ≤ numberOf why
 number-some BadBoard = omega arith
@@ -24,3 +24,5 @@ number-some BadFurnace = omega arith
 number-some BadCandidates = omega arith
 number-some ConflictStays = omega arith
 number-some BadPositions = omega arith
+number-some EmptyStack = omega arith
+number-some StackedPremise = omega arith

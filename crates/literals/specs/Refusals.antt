@@ -1,7 +1,7 @@
 -- 01, "Numbers of the refusals", and 02's.
 use Prim.Native.Nat.{ℕ}
 use Rattle.literals.specs.declared.refusal.Refusal.{Refusal}
-use Rattle.literals.specs.declared.refusal.Refusal.the-variants.{BadBoard, BadLiteral, CutShort, UnknownKind, TooDeep, BytesLeftOver, TooManySymbols, NoAssignment, TableFull, AlreadyHeld, NotHeld, NothingToShow, TableTooShort, BadText, BadFurnace, BadCandidates, ConflictStays, BadPositions}
+use Rattle.literals.specs.declared.refusal.Refusal.the-variants.{BadBoard, BadLiteral, CutShort, UnknownKind, TooDeep, BytesLeftOver, TooManySymbols, NoAssignment, TableFull, AlreadyHeld, NotHeld, NothingToShow, TableTooShort, BadText, BadFurnace, BadCandidates, ConflictStays, BadPositions, EmptyStack, StackedPremise}
 
 abbrev pub numberOf : Refusal → ℕ
 numberOf BadBoard = 1
@@ -23,3 +23,5 @@ numberOf BadFurnace = 16
 numberOf BadCandidates = 17
 numberOf ConflictStays = 18
 numberOf BadPositions = 19
+numberOf EmptyStack = 20
+numberOf StackedPremise = 21

@@ -14,13 +14,16 @@ use Rattle.board.specs.Furnaces.{withHeld}
 use Rattle.implicates.specs.Appending.{fits}
 use Rattle.implicates.proofs.Rules.{fits-facts}
 use Rattle.board.specs.Faults.{firstFault, goodBoard}
-use Rattle.board.specs.Changes.{changed, emptyBoard, openFaults, opened, withFlag, holdFaults, held, withdrawFaults, withdrawn, flagChanged}
+use Rattle.board.specs.Changes.{changed, emptyBoard, openFaults, opened, withFlag, holdFaults, held, flagChanged}
 use Rattle.board.specs.Rules.{breaksAt, ruleFaults, rowsOfBytes, ruled}
 use Rattle.board.specs.declared.Board.{Board}
 use Rattle.board.specs.declared.Outcome.{Outcome}
 use Rattle.board.specs.declared.Outcome.the-variants.{Done, Refused}
 use Rattle.board.proofs.Answered.{none-given}
 use Rattle.board.proofs.Goodness.{good-is}
+use Rattle.stack.specs.Stacking.{top, stackOf}
+use Rattle.stack.specs.Steps.{openedWith, withdrawFaultsWith, withdrawnWith, pushFaults, pushed, popFaults, popped}
+use Rattle.stack.specs.declared.Stacks.{Stacks}
 use Rattle.positions.specs.Entering.{entryFaults, entered}
 use Rattle.positions.proofs.Answers.{entry-passed}
 use Rattle.dimacs.specs.Reading.{readAnswer, readFaults}
@@ -34,9 +37,9 @@ narrow-changed : (o : Outcome) (given next : Board) → Narrow given → Narrow 
 narrow-changed Done given next n m = m
 narrow-changed (Refused why) given next n m = n
 
-pub narrow-opened : (S : ℕ) → S < 65536 → Narrow (opened S .board)
-unfolding opened
-narrow-opened S h =
+pub narrow-opened : (S : ℕ) (s : Stacks) → S < 65536 → Narrow (openedWith S s .change .board)
+unfolding openedWith opened
+narrow-opened S s h =
     narrow-changed (firstFault (openFaults S)) (emptyBoard 0) (emptyBoard S) (record { symbols = omega arith; rows = omega arith; rules = omega arith })
     (record { symbols = h; rows = omega arith; rules = omega arith })
 
@@ -49,9 +52,19 @@ module _ (table : List ℤ) (b : Board) (n : Narrow b) where
   unfolding flagChanged
   narrow-held furnace l = narrow-flagged (firstFault (holdFaults table b furnace l)) furnace l true
 
-  pub narrow-withdrawn : (furnace : ℕ) (l : ℤ) → Narrow (withdrawn table b furnace l .board)
-  unfolding flagChanged
-  narrow-withdrawn furnace l = narrow-flagged (firstFault (withdrawFaults table b furnace l)) furnace l false
+  -- whatever the record
+  module _ (s : Stacks) (furnace : ℕ) where
+    pub narrow-withdrawn : (l : ℤ) → Narrow (withdrawnWith table b s furnace l .change .board)
+    unfolding withdrawnWith
+    narrow-withdrawn l = narrow-flagged (firstFault (withdrawFaultsWith table b s furnace l)) furnace l false
+
+    pub narrow-pushed : (l : ℤ) → Narrow (pushed table b s furnace l .change .board)
+    unfolding pushed
+    narrow-pushed l = narrow-flagged (firstFault (pushFaults table b s furnace l)) furnace l true
+
+    pub narrow-popped : Narrow (popped table b s furnace .change .board)
+    unfolding popped
+    narrow-popped = narrow-flagged (firstFault (popFaults table b s furnace)) furnace (top (stackOf s furnace)) false
 
   -- "rows in use plus its prime implicates" are at most the rows lent, and the rules counted at most 32,767
   few-rows : (bytes : List ℕ) → firstFault (ruleFaults table b bytes) ≡ Done

@@ -13,6 +13,7 @@ use Rattle.board.specs.declared.rules.Addition.{Addition}
 use Rattle.board.specs.declared.asking.Reason.{Reason}
 use Rattle.board.specs.declared.asking.Standing.{Standing}
 use Rattle.board.specs.declared.asking.Standing.the-variants.{Conflict, Stands, RuledOut, Open, Refused}
+use Rattle.stack.specs.declared.Step.{Step}
 use Rattle.dimacs.specs.declared.reading.Reading.{Reading}
 use Rattle.dimacs.specs.declared.writing.Writing.{Writing}
 use Rattle.text.specs.declared.Spelling.{Spelling}
@@ -28,6 +29,7 @@ use Rattle.panel.specs.declared.PanelWriting.{PanelWriting}
 use Rattle.panel.specs.declared.PanelSpelling.{PanelSpelling}
 use Rattle.panel.specs.declared.PanelWithdrawal.{PanelWithdrawal}
 use Rattle.panel.specs.declared.PanelListing.{PanelListing}
+use Rattle.panel.specs.declared.steps.PanelStep.{PanelStep}
 
 -- any byte other than 0 is a premise held
 abbrev pub flagOf : ℕ → Bool
@@ -52,6 +54,14 @@ nextOut given outcome next = ifDone outcome (boardOut next) (λ _. given)
 
 abbrev pub changeOut : PanelBoard → Change → PanelChange
 changeOut given c = record { refusal = numberIn (c .outcome); board = nextOut given (c .outcome) (c .board) }
+
+-- but for open, whose board goes to C whether it is refused or not
+abbrev pub openedOut : Change → PanelChange
+openedOut c = record { refusal = numberIn (c .outcome); board = boardOut (c .board) }
+
+-- what a call that is lent the record of the stacks tells, and the record
+abbrev pub stepOut : PanelBoard → Step → PanelStep
+stepOut given s = record { change = changeOut given (s .change); stacks = s .stacks }
 
 abbrev pub additionOut : PanelBoard → Addition → PanelAddition
 additionOut given a =

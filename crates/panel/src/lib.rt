@@ -1,16 +1,18 @@
-// The C boundary: each exported function is a call of `board`, `positions`, `smallest`, `least`, `dimacs` or `text` and nothing else.
+// The C boundary: each exported function is a call of `board`, `stack`, `positions`, `smallest`, `least`, `dimacs` or `text` and nothing else.
 // include/tupahineka.h declares them.
 
 mod crossing;
+mod steps;
 
 ghost use mathlib.Core.Path.{_≡_};
 ghost use Prim.Native.Nat.{_-_};
 ghost use Rattle.board.specs.Faults.{numberIn};
-ghost use Rattle.board.specs.Changes.{opened, held, withdrawn};
+ghost use Rattle.board.specs.Changes.{held};
 ghost use Rattle.board.specs.Rules.{ruled, ruledTable};
 ghost use Rattle.board.specs.Settling.{settleOutcome, settledLabels, settledRanks, settledSupports, RanksBounded};
 ghost use Rattle.board.specs.Asking.{asked, askedWhole, reasoned, explained};
 ghost use Rattle.board.specs.Grounds.{groundOutcome, groundMarks, blameOutcome, blameMarks};
+ghost use Rattle.stack.specs.Steps.{openedWith, withdrawnWith, pushed, popped};
 ghost use Rattle.positions.specs.Entering.{variableOf, pairsOf, entered, enteredTable};
 ghost use Rattle.smallest.specs.Listing.{smallestAnswer, smallestSets};
 ghost use Rattle.least.specs.Withdrawing.{leastAnswer};
@@ -19,11 +21,10 @@ ghost use Rattle.dimacs.specs.Writing.{writeAnswer, writeBytes};
 ghost use Rattle.text.specs.Adding.{ruledText, ruledTextTable};
 ghost use Rattle.text.specs.Reading.{readTextAnswer, readTextBytes};
 ghost use Rattle.text.specs.Writing.{writeTextAnswer, writeTextBytes};
-ghost use Rattle.panel.specs.Crossing.{boardIn, boardOut, changeOut, additionOut, answerOut, reasonOut, readingOut, writingOut, spellingOut, listingOut, withdrawalOut};
+ghost use Rattle.panel.specs.Crossing.{boardIn, openedOut, changeOut, additionOut, answerOut, reasonOut, readingOut, writingOut, spellingOut, listingOut, withdrawalOut};
 use crate::crossing::addition_out;
 use crate::crossing::answer_out;
 use crate::crossing::board_in;
-use crate::crossing::board_out;
 use crate::crossing::change_out;
 use crate::crossing::listing_out;
 use crate::crossing::number_of;
@@ -31,8 +32,13 @@ use crate::crossing::reading_out;
 use crate::crossing::spelling_out;
 use crate::crossing::withdrawal_out;
 use crate::crossing::writing_out;
+use crate::steps::open_step;
+use crate::steps::pop_step;
+use crate::steps::push_step;
+use crate::steps::withdraw_step;
 use board::Outcome;
 use literals::WIDTH;
+use stack::Stacks;
 
 // A board as C has it: any byte other than 0 is a premise held. `first` and `second`, the premises of furnaces 1 and 2, are the header's `held`.
 #[repr(C)]
@@ -106,17 +112,68 @@ pub struct PanelReason {
     pub rule: u16,
 }
 
+// The four calls that are lent the record are thin: each copies it out from behind the reference, and stores what `steps` made of it. They hold no
+// branch and no loop, since behind a reference to a struct a proof is a walk, by hand.
+
 #[no_mangle]
-pub extern "C" fn tup_open(symbols: u16) -> PanelChange
-    ensures { λ r. ⌜ r ≡ changeOut (boardOut (opened symbols .board)) (opened symbols) ⌝ }
+pub extern "C" fn tup_open(symbols: u16, stacks: &mut Stacks) -> PanelChange
+    ensures { λ r. ⌜ r ≡ openedOut (openedWith symbols (now (stacks .entry)) .change) ⌝ }
+    ensures { λ _. ⌜ now (stacks .exit) ≡ openedWith symbols (now (stacks .entry)) .stacks ⌝ }
 {
-    let change = board::changes::open(symbols as usize);
-    let outcome = change.outcome;
-    let next = change.board;
-    PanelChange {
-        refusal: number_of(outcome),
-        board: board_out(next),
-    }
+    let step = open_step(symbols, *stacks);
+    let next = step.stacks;
+    *stacks = next;
+    step.change
+}
+
+#[no_mangle]
+pub extern "C" fn tup_withdraw(
+    given: PanelBoard,
+    table: &[i16],
+    stacks: &mut Stacks,
+    furnace: u8,
+    l: i16,
+) -> PanelChange
+    ensures { λ r. ⌜ r ≡ changeOut given (withdrawnWith (now (table .entry)) (boardIn given) (now (stacks .entry)) furnace l .change) ⌝ }
+    ensures { λ _. ⌜ now (stacks .exit) ≡ withdrawnWith (now (table .entry)) (boardIn given) (now (stacks .entry)) furnace l .stacks ⌝ }
+{
+    let step = withdraw_step(given, table, *stacks, furnace, l);
+    let next = step.stacks;
+    *stacks = next;
+    step.change
+}
+
+#[no_mangle]
+pub extern "C" fn tup_push(
+    given: PanelBoard,
+    table: &[i16],
+    stacks: &mut Stacks,
+    furnace: u8,
+    l: i16,
+) -> PanelChange
+    ensures { λ r. ⌜ r ≡ changeOut given (pushed (now (table .entry)) (boardIn given) (now (stacks .entry)) furnace l .change) ⌝ }
+    ensures { λ _. ⌜ now (stacks .exit) ≡ pushed (now (table .entry)) (boardIn given) (now (stacks .entry)) furnace l .stacks ⌝ }
+{
+    let step = push_step(given, table, *stacks, furnace, l);
+    let next = step.stacks;
+    *stacks = next;
+    step.change
+}
+
+#[no_mangle]
+pub extern "C" fn tup_pop(
+    given: PanelBoard,
+    table: &[i16],
+    stacks: &mut Stacks,
+    furnace: u8,
+) -> PanelChange
+    ensures { λ r. ⌜ r ≡ changeOut given (popped (now (table .entry)) (boardIn given) (now (stacks .entry)) furnace .change) ⌝ }
+    ensures { λ _. ⌜ now (stacks .exit) ≡ popped (now (table .entry)) (boardIn given) (now (stacks .entry)) furnace .stacks ⌝ }
+{
+    let step = pop_step(given, table, *stacks, furnace);
+    let next = step.stacks;
+    *stacks = next;
+    step.change
 }
 
 #[no_mangle]
@@ -247,14 +304,6 @@ pub extern "C" fn tup_hold(given: PanelBoard, table: &[i16], furnace: u8, l: i16
     ensures { λ r. ⌜ r ≡ changeOut given (held (now (table .entry)) (boardIn given) furnace l) ⌝ }
 {
     let change = board::changes::hold(board_in(given), table, furnace, l);
-    change_out(given, change)
-}
-
-#[no_mangle]
-pub extern "C" fn tup_withdraw(given: PanelBoard, table: &[i16], furnace: u8, l: i16) -> PanelChange
-    ensures { λ r. ⌜ r ≡ changeOut given (withdrawn (now (table .entry)) (boardIn given) furnace l) ⌝ }
-{
-    let change = board::changes::withdraw(board_in(given), table, furnace, l);
     change_out(given, change)
 }
 

@@ -1,24 +1,25 @@
--- 02, Ticket 6: "Holding and withdrawing for one furnace change no answer of the other": two worlds that differ in the premises of one furnace alone
--- answer alike every call that does not name it, and stay such whatever is called.
+-- 02, Ticket 6: "Holding and withdrawing for one furnace change no answer of the other": two worlds that differ in the premises and the stack of one
+-- furnace alone answer alike every call that does not name it, and stay such whatever is called.
 use mathlib.Core.Path.{_≡_, refl, sym, ap, subst, _∙_}
 use mathlib.Core.Logic.{_≢_, ⊎-elim}
-use mathlib.Core.Bool.{Bool, true, false, cond, _&&_, and-false}
+use mathlib.Core.Bool.{Bool, true, false, cond, not, _&&_, and-false}
 use mathlib.Core.List.{List, [], _∷_}
 use Prim.Native.Nat.{ℕ}
+use native.Mathlib.Omega.{arith}
 use borrow.Author.Tests.{eqb-true, eqb-false}
 use lib.Dec.{eqb}
 use lib.IntN.{ℤ}
-use lib.ListN.{length, set}
+use lib.ListN.{length, drop, set}
 use Rattle.meaning.specs.Formulae.{Formula}
 use Rattle.meaning.specs.Positions.{Entry}
 use Rattle.meaning.proofs.Tests.{clash}
 use Rattle.literals.specs.Literal.{placeOf}
 use Rattle.literals.specs.Row.{rowsLent}
-use Rattle.literals.specs.declared.refusal.Refusal.the-variants.{BadText}
+use Rattle.literals.specs.declared.refusal.Refusal.the-variants.{BadBoard, BadText}
 use Rattle.formula.specs.Parse.{wholeOf}
-use Rattle.board.specs.Furnaces.{heldBy, withHeld}
-use Rattle.board.specs.Faults.{premisesFit, goodBoard, firstFault, ifDone}
-use Rattle.board.specs.Changes.{withFlag, flagFaults, flagChanged}
+use Rattle.board.specs.Furnaces.{isFurnace, heldBy, withHeld}
+use Rattle.board.specs.Faults.{premisesFit, goodBoard, Fault, firstFault, ifDone}
+use Rattle.board.specs.Changes.{opened, withFlag, flagFaults, flagChanged}
 use Rattle.board.specs.Rules.{noPlace, breaksAt, placeTold, rowsOfBytes, ruleFaults, ruled}
 use Rattle.board.specs.Settling.{settleFaults, settleOutcome, settledLabels, settledRanks, settledSupports}
 use Rattle.board.specs.Asking.{askFaults, asked, askedWhole, explainFaults, reasoned, explained}
@@ -26,8 +27,13 @@ use Rattle.board.specs.Grounds.{groundFaults, groundOutcome, groundMarks, blame
 use Rattle.board.specs.declared.Board.{Board}
 use Rattle.board.specs.declared.Outcome.{Outcome}
 use Rattle.board.specs.declared.Outcome.the-variants.{Done, Refused}
-use Rattle.board.proofs.Goodness.{flag-fits}
+use Rattle.board.proofs.Goodness.{good-is, flag-fits}
 use Rattle.board.proofs.TwoSets.{held-own, held-other}
+use Rattle.stack.specs.Stacking.{top, onTop, lessTop, emptyStacks, stackOf, withStack, stacked, goodStacks}
+use Rattle.stack.specs.Steps.{openedWith, withdrawFaultsWith, withdrawnWith, pushFaults, pushed, popFaults, popped}
+use Rattle.stack.specs.declared.Stack.{Stack}
+use Rattle.stack.specs.declared.Stacks.{Stacks}
+use Rattle.stack.proofs.Kept.{kept-good, stack-own, stack-other}
 use Rattle.positions.specs.Entering.{rowsOfEntry, entryFaults, entered}
 use Rattle.smallest.specs.Listing.{smallestAt, smallestFaults, smallestOutcome, smallestAnswer, smallestSets}
 use Rattle.least.specs.Withdrawing.{leastOn, leastFaults, leastAnswer}
@@ -39,11 +45,12 @@ use Rattle.chains.specs.Form.{wholeText}
 use Rattle.text.specs.Reading.{bytesIn, readTextFaults, readTextOutcome, readTextAnswer, readTextBytes}
 use Rattle.text.specs.Adding.{textRefused, ruledText}
 use Rattle.text.specs.Writing.{writeTextFaults, writeTextOutcome, writeTextAnswer, writeTextBytes}
-use Rattle.promises.specs.Calls.{Call, opens, adds, enters, holds, withdraws, asks, asksWhole, explains, settles, grounds, blames, lists, asksLeast, reads, writes, readsText, addsText, writesText}
-use Rattle.promises.specs.Calls.{ofAddition, ofReading, World, front, answer, outcomeOf, outcome, after, run, formulaIn, notOpen, names, changes, without}
+use Rattle.promises.specs.Calls.{Call, opens, adds, enters, holds, withdraws, pushes, pops, asks, asksWhole, explains, settles, grounds, blames, lists, asksLeast, reads, writes, readsText, addsText, writesText}
+use Rattle.promises.specs.Calls.{ofChange, ofAddition, ofReading, World, front, answer, outcomeOf, outcome, after, run, formulaIn, notOpen, names, changes, without}
 use Rattle.promises.specs.Demands.{Alike, FurnacesApart}
 use Rattle.promises.proofs.Refusals.{done-or-refused, refused-untouched, so-after}
-use Rattle.promises.proofs.Changes.{Flagged, hold-flagged, withdraw-flagged}
+use Rattle.promises.proofs.Stacked.{Sound, sound-open, sound-after, sound-all}
+use Rattle.promises.proofs.Changes.{Flagged, hold-flagged, withdraw-flagged, push-flagged, pop-flagged}
 use Rattle.promises.proofs.Tested.{Added, rule-added, entry-added, rule-text-added, text-added}
 
 -- ---- what a rule, an entry and a reading tell, but for the board
@@ -108,13 +115,34 @@ record Same (furnace : ℕ) (v u : World) : Type 0 where
   alike : Alike furnace v u
   fit : premisesFit (v .board) ≡ premisesFit (u .board)
 
-module _ {f : ℕ} {v u : World} (s : Same f v u) where
+-- the record is tested before the board; 1 is for both
+first-two : (board stacks : Bool) (rest : List Fault)
+    → firstFault (record { given = not stacks; refusal = BadBoard } ∷ record { given = not board; refusal = BadBoard } ∷ rest)
+    ≡ cond (board && stacks) (firstFault rest) (Refused BadBoard)
+first-two true true rest = refl
+first-two true false rest = refl
+first-two false true rest = refl
+first-two false false rest = refl
+
+module _ {f : ℕ} {v u : World} (s : Same f v u) (sound-v : Sound v) (sound-u : Sound u) where
   abbrev a : Alike f v u
   a = s .alike
 
   good : (lent : ℕ) → goodBoard (front v lent) (v .board) ≡ goodBoard (front u lent) (u .board)
   unfolding goodBoard
   good lent = rw (s .fit, a .symbols, a .rows, a .rules, a .table)
+
+  -- where the board is good so is the record, in both worlds
+  stacks-same : (lent : ℕ) → goodBoard (front v lent) (v .board) && goodStacks (v .board) (v .stacks)
+      ≡ goodBoard (front u lent) (u .board) && goodStacks (u .board) (u .stacks)
+  stacks-same lent = go (goodBoard (front u lent) (u .board)) refl
+    where
+      go : (g : Bool) → goodBoard (front u lent) (u .board) ≡ g → goodBoard (front v lent) (v .board) && goodStacks (v .board) (v .stacks)
+          ≡ goodBoard (front u lent) (u .board) && goodStacks (u .board) (u .stacks)
+      go true e =
+          let some = good-is (front u lent) (u .board) e .some in
+          rw (good lent, e, kept-good (sound-v (omega (arith, some, a .symbols))), kept-good (sound-u some))
+      go false e = rw (good lent, e)
 
   rule-same : (lent : ℕ) (bytes : List ℕ)
       → let x = ruled (front v lent) (v .board) bytes in let y = ruled (front u lent) (u .board) bytes in
@@ -124,16 +152,48 @@ module _ {f : ℕ} {v u : World} (s : Same f v u) where
       rule-tells (front v lent) (v .board) bytes
       ∙ rw (good lent, a .symbols, a .rows, a .rules, a .table, ← rule-tells (front u lent) (u .board) bytes)
 
+  -- a call that is lent the record, for another furnace
+  module _ (lent g : ℕ) (apart : g ≢ f) where
+    withdraw-same : (l : ℤ) → firstFault (withdrawFaultsWith (front v lent) (v .board) (v .stacks) g l)
+        ≡ firstFault (withdrawFaultsWith (front u lent) (u .board) (u .stacks) g l)
+    unfolding withdrawFaultsWith flagFaults stacked
+    withdraw-same l =
+        first-two (goodBoard (front v lent) (v .board)) (goodStacks (v .board) (v .stacks))
+        (drop 2 (withdrawFaultsWith (front v lent) (v .board) (v .stacks) g l))
+        ∙ rw (stacks-same lent, a .premises g apart, a .stack g apart, a .symbols)
+        (sym (first-two (goodBoard (front u lent) (u .board)) (goodStacks (u .board) (u .stacks))
+        (drop 2 (withdrawFaultsWith (front u lent) (u .board) (u .stacks) g l))))
+
+    push-same : (l : ℤ) → firstFault (pushFaults (front v lent) (v .board) (v .stacks) g l) ≡ firstFault (pushFaults (front u lent) (u .board) (u .stacks) g l)
+    unfolding pushFaults flagFaults
+    push-same l =
+        first-two (goodBoard (front v lent) (v .board)) (goodStacks (v .board) (v .stacks))
+        (drop 2 (pushFaults (front v lent) (v .board) (v .stacks) g l))
+        ∙ rw (stacks-same lent, a .premises g apart, a .symbols)
+        (sym (first-two (goodBoard (front u lent) (u .board)) (goodStacks (u .board) (u .stacks))
+        (drop 2 (pushFaults (front u lent) (u .board) (u .stacks) g l))))
+
+    pop-same : firstFault (popFaults (front v lent) (v .board) (v .stacks) g) ≡ firstFault (popFaults (front u lent) (u .board) (u .stacks) g)
+    unfolding popFaults
+    pop-same =
+        first-two (goodBoard (front v lent) (v .board)) (goodStacks (v .board) (v .stacks))
+        (drop 2 (popFaults (front v lent) (v .board) (v .stacks) g))
+        ∙ rw (stacks-same lent, a .stack g apart)
+        (sym (first-two (goodBoard (front u lent) (u .board)) (goodStacks (u .board) (u .stacks))
+        (drop 2 (popFaults (front u lent) (u .board) (u .stacks) g))))
+
   -- the same answer to every call that does not name the furnace
   same-answer : (c : Call) → names f c ≡ false → answer v c ≡ answer u c
-  unfolding answer flagChanged flagFaults asked askedWhole askFaults reasoned explained explainFaults settleOutcome settledLabels settledRanks settledSupports settleFaults groundOutcome groundMarks groundFaults blameOutcome blameMarks blameFaults smallestAnswer smallestSets smallestOutcome smallestFaults smallestAt leastAnswer leastFaults leastOn entryFaults readFaults writeAnswer writeBytes writeOutcome writeFaults textOn readTextAnswer readTextBytes readTextOutcome readTextFaults writeTextAnswer writeTextBytes writeTextOutcome writeTextFaults
+  unfolding answer openedWith flagChanged flagFaults withdrawnWith pushed popped asked askedWhole askFaults reasoned explained explainFaults settleOutcome settledLabels settledRanks settledSupports settleFaults groundOutcome groundMarks groundFaults blameOutcome blameMarks blameFaults smallestAnswer smallestSets smallestOutcome smallestFaults smallestAt leastAnswer leastFaults leastOn entryFaults readFaults writeAnswer writeBytes writeOutcome writeFaults textOn readTextAnswer readTextBytes readTextOutcome readTextFaults writeTextAnswer writeTextBytes writeTextOutcome writeTextFaults
   same-answer (opens S) n = refl
   same-answer (adds lent bytes) n = rule-same lent bytes
   same-answer (enters lent e) n =
       entry-tells (front v lent) (v .board) e
       ∙ rw (good lent, a .symbols, a .rows, a .rules, a .table, ← entry-tells (front u lent) (u .board) e)
   same-answer (holds lent g l) n = rw (good lent, a .premises g (eqb-false g f n), a .symbols)
-  same-answer (withdraws lent g l) n = rw (good lent, a .premises g (eqb-false g f n), a .symbols)
+  same-answer (withdraws lent g l) n = ap ofChange (withdraw-same lent g (eqb-false g f n) l)
+  same-answer (pushes lent g l) n = ap ofChange (push-same lent g (eqb-false g f n) l)
+  same-answer (pops lent g) n = ap ofChange (pop-same lent g (eqb-false g f n))
   same-answer (asks lent g l) n = rw (good lent, a .premises g (eqb-false g f n), a .symbols, a .rows, a .table)
   same-answer (asksWhole lent g l) n = rw (good lent, a .premises g (eqb-false g f n), a .symbols, a .rows, a .table)
   same-answer (explains lent g l) n = rw (good lent, a .premises g (eqb-false g f n), a .symbols, a .rows, a .table)
@@ -170,18 +230,39 @@ module _ {f : ℕ} {v u : World} (s : Same f v u) where
               rows = ap (λ (b : Board). b .rows) (x .board) ∙ rw (a .symbols, a .rows, a .rules) (ap (λ (b : Board). b .rows) (sym (y .board)));
               rules = ap (λ (b : Board). b .rules) (x .board) ∙ rw (a .rules) (ap (λ (b : Board). b .rules) (sym (y .board)));
               premises = λ g apart. rw (x .board, y .board) (a .premises g apart);
+              stack = λ g apart. rw (x .stacks, y .stacks) (a .stack g apart);
             };
         fit = rw (x .board, y .board) (s .fit);
       }
 
+  -- another stack for another furnace
+  same-stack : (g : ℕ) (t : Stack) → isFurnace g ≡ true → (h : ℕ) → h ≢ f → stackOf (withStack (v .stacks) g t) h ≡ stackOf (withStack (u .stacks) g t) h
+  same-stack g t named h apart = go (eqb g h) refl
+    where
+      go : (b : Bool) → eqb g h ≡ b → stackOf (withStack (v .stacks) g t) h ≡ stackOf (withStack (u .stacks) g t) h
+      go true e =
+          subst (λ (k : ℕ). stackOf (withStack (v .stacks) g t) k ≡ stackOf (withStack (u .stacks) g t) k) (eqb-true g h e)
+          (stack-own (v .stacks) g t named ∙ sym (stack-own (u .stacks) g t named))
+      go false e =
+          stack-other (v .stacks) g t h (eqb-false g h e) ∙ a .stack h apart ∙ sym (stack-other (u .stacks) g t h (eqb-false g h e))
+
   -- where it changes a flag for another furnace
-  same-flagged : {v' u' : World} {g : ℕ} {l : ℤ} {flag : Bool} → g ≢ f → Flagged v v' g l flag → Flagged u u' g l flag → Same f v' u'
+  same-flagged : {v' u' : World} {g : ℕ} {l : ℤ} {flag : Bool} {here there : Stacks} → g ≢ f → Flagged v v' g l flag here → Flagged u u' g l flag there
+      → ((h : ℕ) → h ≢ f → stackOf here h ≡ stackOf there h) → Same f v' u'
   unfolding withHeld
-  same-flagged {g = g} {l = l} {flag = flag} other x y =
+  same-flagged {g = g} {l = l} {flag = flag} other x y stack =
       rw (x .next-is, y .next-is)
       (record {
-        alike = record { table = a .table; symbols = a .symbols; rows = a .rows; rules = a .rules; premises = λ h apart. set-same h apart (eqb g h) refl };
-        fit = flag-fits (v .board) g l flag (x .range) ∙ s .fit ∙ sym (flag-fits (u .board) g l flag (y .range));
+        alike =
+            record {
+              table = a .table;
+              symbols = a .symbols;
+              rows = a .rows;
+              rules = a .rules;
+              premises = λ h apart. set-same h apart (eqb g h) refl;
+              stack = stack;
+            };
+        fit = flag-fits (v .board) g l flag (x .low) ∙ s .fit ∙ sym (flag-fits (u .board) g l flag (y .low));
       })
     where
       set-same : (h : ℕ) → h ≢ f → (t : Bool) → eqb g h ≡ t
@@ -205,9 +286,25 @@ module _ {f : ℕ} {v u : World} (s : Same f v u) where
       (done-or-refused (outcome v c))
 
   same-after : (c : Call) → changes c && names f c ≡ false → Same f (after v c) (after u c)
-  unfolding after
+  unfolding after openedWith
   same-after (opens S) n =
-      record { alike = record { table = a .table; symbols = refl; rows = refl; rules = refl; premises = λ g apart. refl }; fit = refl }
+      record {
+        alike =
+            record {
+              table = a .table;
+              symbols = refl;
+              rows = refl;
+              rules = refl;
+              premises = λ g apart. refl;
+              stack = λ g apart. opened-stack (opened S .outcome) g apart;
+            };
+        fit = refl;
+      }
+    where
+      opened-stack : (o : Outcome) (g : ℕ) → g ≢ f
+          → stackOf (ifDone o emptyStacks (λ _. v .stacks)) g ≡ stackOf (ifDone o emptyStacks (λ _. u .stacks)) g
+      opened-stack Done g apart = refl
+      opened-stack (Refused why) g apart = a .stack g apart
   same-after (adds lent bytes) n =
       so-both (adds lent bytes) refl refl
       (λ e d.
@@ -218,9 +315,24 @@ module _ {f : ℕ} {v u : World} (s : Same f v u) where
   same-after (enters lent entry) n =
       so-both (enters lent entry) refl refl (λ e d. same-added (entry-added v lent entry e) (entry-added u lent entry d))
   same-after (holds lent g l) n =
-      so-both (holds lent g l) refl n (λ e d. same-flagged (eqb-false g f n) (hold-flagged v lent g l e) (hold-flagged u lent g l d))
+      so-both (holds lent g l) refl n (λ e d. same-flagged (eqb-false g f n) (hold-flagged v lent g l e) (hold-flagged u lent g l d) (a .stack))
   same-after (withdraws lent g l) n =
-      so-both (withdraws lent g l) refl n (λ e d. same-flagged (eqb-false g f n) (withdraw-flagged v lent g l e) (withdraw-flagged u lent g l d))
+      so-both (withdraws lent g l) refl n
+      (λ e d. same-flagged (eqb-false g f n) (withdraw-flagged v lent g l e) (withdraw-flagged u lent g l d) (a .stack))
+  same-after (pushes lent g l) n =
+      so-both (pushes lent g l) refl n
+      (λ e d.
+      (let apart = eqb-false g f n in
+      let x = subst (λ (t : Stack). Flagged v (after v (pushes lent g l)) g l true (withStack (v .stacks) g (onTop t l))) (a .stack g apart)
+      (push-flagged v lent g l e) in
+      same-flagged apart x (push-flagged u lent g l d) (same-stack g (onTop (stackOf (u .stacks) g) l) (x .named))))
+  same-after (pops lent g) n =
+      so-both (pops lent g) refl n
+      (λ e d.
+      (let apart = eqb-false g f n in
+      let x = subst (λ (t : Stack). Flagged v (after v (pops lent g)) g (top t) false (withStack (v .stacks) g (lessTop t))) (a .stack g apart)
+      (pop-flagged v lent g e) in
+      same-flagged apart x (pop-flagged u lent g d) (same-stack g (lessTop (stackOf (u .stacks) g)) (x .named))))
   same-after (asks lent g l) n = s
   same-after (asksWhole lent g l) n = s
   same-after (explains lent g l) n = s
@@ -236,11 +348,13 @@ module _ {f : ℕ} {v u : World} (s : Same f v u) where
       so-both (addsText lent text) refl refl (λ e d. same-added (rule-text-added v lent text e) (rule-text-added u lent text d))
   same-after (writesText lent bytes out) n = s
 
-  -- ---- and a hold or withdraw for the furnace, in one of them alone, changes none of it
+  -- ---- and a call that changes premises for the furnace, in one of them alone, changes none of it
 
-  flagged-apart : {u' : World} {g : ℕ} {l : ℤ} {flag : Bool} → g ≡ f → Flagged u u' g l flag → Same f v u'
+  flagged-apart : {u' : World} {g : ℕ} {l : ℤ} {flag : Bool} {there : Stacks} → g ≡ f → Flagged u u' g l flag there
+      → ((h : ℕ) → g ≢ h → stackOf there h ≡ stackOf (u .stacks) h) → Same f v u'
   unfolding withHeld
-  flagged-apart {g = g} {l = l} {flag = flag} own y =
+  flagged-apart {g = g} {l = l} {flag = flag} own y stack =
+      let other : (h : ℕ) → h ≢ f → g ≢ h = λ h apart k. apart (sym k ∙ own) in
       rw (y .next-is)
       (record {
         alike =
@@ -250,10 +364,10 @@ module _ {f : ℕ} {v u : World} (s : Same f v u) where
               rows = a .rows;
               rules = a .rules;
               premises =
-                  λ h apart.
-                  a .premises h apart ∙ sym (held-other (u .board) g (set (heldBy (u .board) g) (placeOf l) flag) h (λ k. apart (sym k ∙ own)));
+                  λ h apart. a .premises h apart ∙ sym (held-other (u .board) g (set (heldBy (u .board) g) (placeOf l) flag) h (other h apart));
+              stack = λ h apart. a .stack h apart ∙ sym (stack h (other h apart));
             };
-        fit = s .fit ∙ sym (flag-fits (u .board) g l flag (y .range));
+        fit = s .fit ∙ sym (flag-fits (u .board) g l flag (y .low));
       })
 
   after-apart : (c : Call) → changes c && names f c ≡ true → Same f v (after u c)
@@ -261,9 +375,15 @@ module _ {f : ℕ} {v u : World} (s : Same f v u) where
   after-apart (adds lent bytes) n = clash n refl
   after-apart (enters lent e) n = clash n refl
   after-apart (holds lent g l) n =
-      so-after (Same f v) u (holds lent g l) refl s (λ e. flagged-apart (eqb-true g f n) (hold-flagged u lent g l e))
+      so-after (Same f v) u (holds lent g l) refl s (λ e. flagged-apart (eqb-true g f n) (hold-flagged u lent g l e) (λ h apart. refl))
   after-apart (withdraws lent g l) n =
-      so-after (Same f v) u (withdraws lent g l) refl s (λ e. flagged-apart (eqb-true g f n) (withdraw-flagged u lent g l e))
+      so-after (Same f v) u (withdraws lent g l) refl s (λ e. flagged-apart (eqb-true g f n) (withdraw-flagged u lent g l e) (λ h apart. refl))
+  after-apart (pushes lent g l) n =
+      so-after (Same f v) u (pushes lent g l) refl s
+      (λ e. flagged-apart (eqb-true g f n) (push-flagged u lent g l e) (stack-other (u .stacks) g (onTop (stackOf (u .stacks) g) l)))
+  after-apart (pops lent g) n =
+      so-after (Same f v) u (pops lent g) refl s
+      (λ e. flagged-apart (eqb-true g f n) (pop-flagged u lent g e) (stack-other (u .stacks) g (lessTop (stackOf (u .stacks) g))))
   after-apart (asks lent g l) n = clash n refl
   after-apart (asksWhole lent g l) n = clash n refl
   after-apart (explains lent g l) n = clash n refl
@@ -280,10 +400,11 @@ module _ {f : ℕ} {v u : World} (s : Same f v u) where
 
 -- ---- any calls
 
-runs-apart : (f : ℕ) {v u : World} → Same f v u → (calls : List Call) → Same f (run v (without f calls)) (run u calls)
-runs-apart f s [] = s
-runs-apart f {v} {u} s (c ∷ calls) =
-    go (changes c && names f c) refl (λ e. runs-apart f (after-apart s c e) calls) (λ e. runs-apart f (same-after s c e) calls)
+runs-apart : (f : ℕ) {v u : World} → Same f v u → Sound v → Sound u → (calls : List Call) → Same f (run v (without f calls)) (run u calls)
+runs-apart f s sound-v sound-u [] = s
+runs-apart f {v} {u} s sound-v sound-u (c ∷ calls) =
+    go (changes c && names f c) refl (λ e. runs-apart f (after-apart s sound-v sound-u c e) sound-v (sound-after u sound-u c) calls)
+    (λ e. runs-apart f (same-after s sound-v sound-u c e) (sound-after v sound-v c) (sound-after u sound-u c) calls)
   where
     go : (t : Bool) → changes c && names f c ≡ t
         → (changes c && names f c ≡ true → Same f (run v (without f calls)) (run (after u c) calls))
@@ -293,9 +414,17 @@ runs-apart f {v} {u} s (c ∷ calls) =
     go false e left-out made = rw e (made e)
 
 itself : (f : ℕ) (w : World) → Same f w w
-itself f w = record { alike = record { table = refl; symbols = refl; rows = refl; rules = refl; premises = λ g apart. refl }; fit = refl }
+itself f w =
+    record {
+      alike = record { table = refl; symbols = refl; rows = refl; rules = refl; premises = λ g apart. refl; stack = λ g apart. refl };
+      fit = refl;
+    }
 
 pub furnaces-apart : FurnacesApart
-furnaces-apart w f calls c n =
-    let s = runs-apart f (itself f w) calls in
-    (same-answer s c n, same-after s c (ap (λ t. changes c && t) n ∙ and-false (changes c)) .alike)
+furnaces-apart w₀ S f calls c n =
+    let w = after w₀ (opens S) in
+    let open-sound = sound-open w₀ S in
+    let s = runs-apart f (itself f w) open-sound open-sound calls in
+    let sound-v = sound-all w (without f calls) open-sound in
+    let sound-u = sound-all w calls open-sound in
+    (same-answer s sound-v sound-u c n, same-after s sound-v sound-u c (ap (λ t. changes c && t) n ∙ and-false (changes c)) .alike)

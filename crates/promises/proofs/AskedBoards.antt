@@ -28,6 +28,8 @@ use Rattle.dimacs.specs.Words.{upTo, since, wordsIn, numberOf, literalOf}
 use Rattle.dimacs.specs.Form.{pastComments, startsWith, countsIn, headerIn, clausesIn, parseText}
 use Rattle.dimacs.specs.Clauses.{oneOf, clauseFaults, clausesFaults, passed}
 use Rattle.dimacs.specs.Reading.{textFaults, readFaults, readAnswer, readTable}
+use Rattle.stack.specs.Stacking.{stacked, goodStack, goodStacks}
+use Rattle.stack.specs.Steps.{openedWith, withdrawFaultsWith, withdrawnWith}
 use Rattle.promises.specs.Calls.{Call, opens, holds, withdraws, asks, asksWhole, settles, reads, Answer, ofAsk, ofSettle}
 use Rattle.promises.specs.Calls.{answer, outcome, after}
 use Rattle.promises.proofs.Boards.{lent, blank}
@@ -105,5 +107,5 @@ boards =
     ∷ []
 
 asked-boards-hold : map found boards ≡ map due boards
-unfolding outcome answer after opp value occurs symbolsOf hit implicate prime ofSize gives next reached rankBy firstGiver supportAt supportOf ranksOf supportsOf labelsOf placeOf literalAt numbersAt ruleAt zeros rising rowSound ruleBefore ruleSound rowsSound decode rowsIn encode appended isFurnace heldBy withHeld premisesFit goodBoard openFaults opened flagFaults flagChanged askFaults asked askedWhole settleFaults settleOutcome settledLabels settledRanks settledSupports digitsOf upTo since wordsIn decimal numberOf literalOf pastComments startsWith countsIn headerIn clausesIn parseText oneOf clauseFaults clausesFaults passed textFaults readFaults readAnswer readTable
+unfolding outcome answer after opp value occurs symbolsOf hit implicate prime ofSize gives next reached rankBy firstGiver supportAt supportOf ranksOf supportsOf labelsOf placeOf literalAt numbersAt ruleAt zeros rising rowSound ruleBefore ruleSound rowsSound decode rowsIn encode appended isFurnace heldBy withHeld premisesFit goodBoard openFaults opened openedWith stacked goodStack goodStacks withdrawFaultsWith withdrawnWith flagFaults flagChanged askFaults asked askedWhole settleFaults settleOutcome settledLabels settledRanks settledSupports digitsOf upTo since wordsIn decimal numberOf literalOf pastComments startsWith countsIn headerIn clausesIn parseText oneOf clauseFaults clausesFaults passed textFaults readFaults readAnswer readTable
 asked-boards-hold = refl

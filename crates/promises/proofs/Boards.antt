@@ -38,6 +38,8 @@ use Rattle.chains.specs.Spelling.{unitText, spelled}
 use Rattle.text.specs.Reading.{readTextFaults, readTextOutcome, readTextAnswer, readTextBytes}
 use Rattle.text.specs.Adding.{ruledText, ruledTextTable}
 use Rattle.text.specs.Writing.{writeTextFaults, writeTextOutcome, writeTextAnswer, writeTextBytes}
+use Rattle.stack.specs.Stacking.{emptyStacks, stacked, goodStack, goodStacks}
+use Rattle.stack.specs.Steps.{openedWith, withdrawFaultsWith, withdrawnWith}
 use Rattle.promises.specs.Calls.{Call, opens, adds, holds, withdraws, reads, addsText, World, answer, outcome, after, run}
 use Rattle.promises.specs.Demands.{rowsOfWorld}
 
@@ -86,7 +88,7 @@ furnace = 1
 
 -- before every call: no board yet, and a table of zeros
 abbrev pub fresh : World
-fresh = record { board = emptyBoard 0; table = replicate lent (pos 0) }
+fresh = record { board = emptyBoard 0; table = replicate lent (pos 0); stacks = emptyStacks }
 
 -- a table to be written
 abbrev pub blank : ℕ → List ℕ
@@ -277,5 +279,5 @@ abbrev due : List Call × List (Question × Answer) → List ℕ × List Answer
 due b = (map (λ c. 0) (b .0), map (λ q. q .1) (b .1))
 
 boards-hold : map found boards ≡ map due boards
-unfolding tell answer outcome after opp value occurs symbolsOf hit implicate prime ofSize gives next reached rankBy firstGiver supportAt supportOf labelsOf reachesIn reaches largerRank blamed blame placeOf literalAt numbersAt ruleAt zeros rising rowSound ruleBefore ruleSound rowsSound decode rowsIn encode symbolAt secondOf bodyOf parse wholeOf appended isFurnace heldBy withHeld premisesFit goodBoard openFaults opened flagFaults flagChanged ruleFaults ruled ruledTable settleFaults settleOutcome settledLabels askFaults asked explainFaults reasoned blameFaults blameOutcome blameMarks digitsOf upTo since wordsIn decimal numberOf literalOf pastComments startsWith countsIn headerIn clausesIn parseText oneOf clauseFaults clausesFaults passed textFaults readFaults readAnswer readTable spaced clauseLines textOf literalsOf clausesAt textOn writeFaults writeOutcome writeAnswer writeBytes bytesOf lead unitOf fromMark goOn more atClose closed bracketAt wholeText unitText spelled readTextFaults readTextOutcome readTextAnswer readTextBytes ruledText ruledTextTable writeTextFaults writeTextOutcome writeTextAnswer writeTextBytes
+unfolding tell answer outcome after opp value occurs symbolsOf hit implicate prime ofSize gives next reached rankBy firstGiver supportAt supportOf labelsOf reachesIn reaches largerRank blamed blame placeOf literalAt numbersAt ruleAt zeros rising rowSound ruleBefore ruleSound rowsSound decode rowsIn encode symbolAt secondOf bodyOf parse wholeOf appended isFurnace heldBy withHeld premisesFit goodBoard openFaults opened openedWith stacked goodStack goodStacks withdrawFaultsWith withdrawnWith flagFaults flagChanged ruleFaults ruled ruledTable settleFaults settleOutcome settledLabels askFaults asked explainFaults reasoned blameFaults blameOutcome blameMarks digitsOf upTo since wordsIn decimal numberOf literalOf pastComments startsWith countsIn headerIn clausesIn parseText oneOf clauseFaults clausesFaults passed textFaults readFaults readAnswer readTable spaced clauseLines textOf literalsOf clausesAt textOn writeFaults writeOutcome writeAnswer writeBytes bytesOf lead unitOf fromMark goOn more atClose closed bracketAt wholeText unitText spelled readTextFaults readTextOutcome readTextAnswer readTextBytes ruledText ruledTextTable writeTextFaults writeTextOutcome writeTextAnswer writeTextBytes
 boards-hold = refl

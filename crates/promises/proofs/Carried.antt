@@ -1,36 +1,38 @@
--- From the code to the world: where a call answers what its contract says, the board it hands back and the table it leaves are those
--- of `after`. The calls that hand back no board change nothing.
+-- From the code to the world: where a call answers what its contract says, the board it hands back, the table it leaves and the record that it was
+-- lent are those of `after`. The calls that hand back no board change nothing.
 use mathlib.Core.Path.{_≡_, refl, ap, ap₂}
 use mathlib.Core.List.{List, _++_}
 use Prim.Native.Nat.{ℕ}
 use lib.IntN.{ℤ}
 use lib.ListN.{drop}
 use Rattle.meaning.specs.Positions.{Entry}
-use Rattle.board.specs.Changes.{opened, held, withdrawn}
+use Rattle.board.specs.Changes.{held}
 use Rattle.board.specs.Rules.{ruled, ruledTable}
 use Rattle.board.specs.declared.Board.{Board}
 use Rattle.board.specs.declared.Change.{Change}
 use Rattle.board.specs.declared.rules.Addition.{Addition}
+use Rattle.stack.specs.Steps.{openedWith, withdrawnWith, pushed, popped}
+use Rattle.stack.specs.declared.Step.{Step}
 use Rattle.positions.specs.Entering.{entered, enteredTable}
 use Rattle.dimacs.specs.Reading.{readAnswer, readTable}
 use Rattle.dimacs.specs.declared.reading.Reading.{Reading}
 use Rattle.text.specs.Adding.{ruledText, ruledTextTable}
-use Rattle.promises.specs.Calls.{opens, adds, enters, holds, withdraws, asks, asksWhole, explains, settles, grounds, blames, lists, asksLeast, reads, writes}
-use Rattle.promises.specs.Calls.{readsText, addsText, writesText, World, front, after}
+use Rattle.promises.specs.Calls.{opens, adds, enters, holds, withdraws, pushes, pops, asks, asksWhole, explains, settles, grounds, blames, lists, asksLeast, reads, writes}
+use Rattle.promises.specs.Calls.{readsText, addsText, writesText, World, front, stepTo, after}
 
 module _ (w : World) where
   -- the world with the board of an answer
   with-board : Change → World
-  with-board c = record { board = c .board; table = w .table }
+  with-board c = record { board = c .board; table = w .table; stacks = w .stacks }
 
-  open-carried : (S : ℕ) (r : Change) → r ≡ opened S → with-board r ≡ after w (opens S)
-  unfolding after with-board
-  open-carried S r e = ap with-board e
+  open-carried : (S : ℕ) (r : Step) → r ≡ openedWith S (w .stacks) → stepTo w r ≡ after w (opens S)
+  unfolding after
+  open-carried S r e = ap (stepTo w) e
 
   module _ (lent : ℕ) where
     -- with that board, and the part that was lent as the call left it
     with-part : Board → List ℤ → World
-    with-part b part = record { board = b; table = part ++ drop lent (w .table) }
+    with-part b part = record { board = b; table = part ++ drop lent (w .table); stacks = w .stacks }
 
     rule-carried : (bytes : List ℕ) (r : Addition) (t : List ℤ) → r ≡ ruled (front w lent) (w .board) bytes
         → t ≡ ruledTable (front w lent) (w .board) bytes → with-part (r .board) t ≡ after w (adds lent bytes)
@@ -57,10 +59,19 @@ module _ (w : World) where
     unfolding after with-board
     hold-carried furnace l r e = ap with-board e
 
-    withdraw-carried : (furnace : ℕ) (l : ℤ) (r : Change) → r ≡ withdrawn (front w lent) (w .board) furnace l
-        → with-board r ≡ after w (withdraws lent furnace l)
-    unfolding after with-board
-    withdraw-carried furnace l r e = ap with-board e
+    withdraw-carried : (furnace : ℕ) (l : ℤ) (r : Step) → r ≡ withdrawnWith (front w lent) (w .board) (w .stacks) furnace l
+        → stepTo w r ≡ after w (withdraws lent furnace l)
+    unfolding after
+    withdraw-carried furnace l r e = ap (stepTo w) e
+
+    push-carried : (furnace : ℕ) (l : ℤ) (r : Step) → r ≡ pushed (front w lent) (w .board) (w .stacks) furnace l
+        → stepTo w r ≡ after w (pushes lent furnace l)
+    unfolding after
+    push-carried furnace l r e = ap (stepTo w) e
+
+    pop-carried : (furnace : ℕ) (r : Step) → r ≡ popped (front w lent) (w .board) (w .stacks) furnace → stepTo w r ≡ after w (pops lent furnace)
+    unfolding after
+    pop-carried furnace r e = ap (stepTo w) e
 
     ask-changes-nothing : (furnace : ℕ) (l : ℤ) → after w (asks lent furnace l) ≡ w
     unfolding after

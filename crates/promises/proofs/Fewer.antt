@@ -17,11 +17,12 @@ use Rattle.board.specs.Faults.{premisesFit}
 use Rattle.board.specs.Changes.{withFlag}
 use Rattle.board.proofs.TwoSets.{held-own, held-other}
 use Rattle.board.proofs.Goodness.{flag-fits}
-use Rattle.promises.specs.Calls.{Call, opens, adds, enters, holds, withdraws, asks, asksWhole, explains, settles, grounds, blames, lists, asksLeast, reads, writes}
+use Rattle.stack.specs.declared.Stacks.{Stacks}
+use Rattle.promises.specs.Calls.{Call, opens, adds, enters, holds, withdraws, pushes, pops, asks, asksWhole, explains, settles, grounds, blames, lists, asksLeast, reads, writes}
 use Rattle.promises.specs.Calls.{readsText, addsText, writesText, World, after, run, Each, notOpen}
 use Rattle.promises.specs.Demands.{premisesOf, Spares, BringsNothing}
 use Rattle.promises.proofs.Refusals.{so-after}
-use Rattle.promises.proofs.Changes.{Flagged, hold-flagged, withdraw-flagged}
+use Rattle.promises.proofs.Changes.{Flagged, hold-flagged, withdraw-flagged, push-flagged, pop-flagged}
 
 -- v is w but for premises, and of this furnace's it has none that w has not
 pub record Fewer (furnace : ℕ) (w v : World) : Type 0 where
@@ -35,7 +36,7 @@ pub record Fewer (furnace : ℕ) (w v : World) : Type 0 where
 
 module _ (furnace : ℕ) (w : World) (is-furnace : isFurnace furnace ≡ true) where
   module _ (v : World) (f : Fewer furnace w v) where
-    flagged : {next : World} {named : ℕ} {l : ℤ} {flag : Bool} → Flagged v next named l flag → (named ≡ furnace → flag ≡ false) → Fewer furnace w next
+    flagged : {next : World} {named : ℕ} {l : ℤ} {flag : Bool} {stacks : Stacks} → Flagged v next named l flag stacks → (named ≡ furnace → flag ≡ false) → Fewer furnace w next
     unfolding withHeld
     flagged {named = named} {l = l} {flag = flag} x off =
         rw (x .next-is)
@@ -44,7 +45,7 @@ module _ (furnace : ℕ) (w : World) (is-furnace : isFurnace furnace ≡ true) w
           symbols = f .symbols;
           rows = f .rows;
           rules = f .rules;
-          fit = flag-fits (v .board) named l flag (x .range) ∙ f .fit;
+          fit = flag-fits (v .board) named l flag (x .low) ∙ f .fit;
           premises = ⊎-elim same another (true-or-false (eqb named furnace));
         })
       where
@@ -69,6 +70,11 @@ module _ (furnace : ℕ) (w : World) (is-furnace : isFurnace furnace ≡ true) w
         (λ d. flagged (hold-flagged v lent named l d) (λ is. clash (eq-eqb named furnace is) (nothing d)))
     step (withdraws lent named l) n nothing =
         so-after (Fewer furnace w) v (withdraws lent named l) refl f (λ d. flagged (withdraw-flagged v lent named l d) (λ is. refl))
+    step (pushes lent named l) n nothing =
+        so-after (Fewer furnace w) v (pushes lent named l) refl f
+        (λ d. flagged (push-flagged v lent named l d) (λ is. clash (eq-eqb named furnace is) (nothing d)))
+    step (pops lent named) n nothing =
+        so-after (Fewer furnace w) v (pops lent named) refl f (λ d. flagged (pop-flagged v lent named d) (λ is. refl))
     step (asks lent named l) n nothing = f
     step (asksWhole lent named l) n nothing = f
     step (explains lent named l) n nothing = f

@@ -26,11 +26,13 @@ use Rattle.board.specs.Faults.{premisesFit, goodBoard}
 use Rattle.board.specs.Changes.{openFaults, opened}
 use Rattle.board.specs.Rules.{withRules}
 use Rattle.board.proofs.Goodness.{by-rows, empty-good, flag-good}
-use Rattle.promises.specs.Calls.{Call, opens, adds, enters, holds, withdraws, asks, asksWhole, explains, settles, grounds, blames, lists, asksLeast, reads, writes}
+use Rattle.stack.specs.Steps.{openedWith}
+use Rattle.stack.specs.declared.Stacks.{Stacks}
+use Rattle.promises.specs.Calls.{Call, opens, adds, enters, holds, withdraws, pushes, pops, asks, asksWhole, explains, settles, grounds, blames, lists, asksLeast, reads, writes}
 use Rattle.promises.specs.Calls.{readsText, addsText, writesText, World, front, after, run, notOpen}
 use Rattle.promises.specs.Demands.{StaysGood}
 use Rattle.promises.proofs.Refusals.{so-after}
-use Rattle.promises.proofs.Changes.{Flagged, hold-flagged, withdraw-flagged}
+use Rattle.promises.proofs.Changes.{Flagged, hold-flagged, withdraw-flagged, push-flagged, pop-flagged}
 use Rattle.promises.proofs.Tested.{ruledFor, Added, rule-added, entry-added, rule-text-added, text-added}
 use Rattle.promises.proofs.Lent.{numbers-front, numbers-lent}
 use Rattle.promises.proofs.Stored.{its-places, after-it, kept, after-them, whole, kept-long, rows-appended, new-room, new-row}
@@ -144,14 +146,14 @@ abbrev Whole : World → Type 0
 Whole w = goodBoard (w .table) (w .board) ≡ true
 
 opened-good : (w : World) (S : ℕ) → leb 1 S && leb S 200 ≡ true → Whole (after w (opens S))
-unfolding after opened openFaults
+unfolding after openedWith opened openFaults
 opened-good w S e = rw e (empty-good (w .table) S e)
 
 module _ (w : World) (g : Whole w) where
   -- a premise more or less is of a literal in range
-  flagged-good : {next : World} {furnace : ℕ} {l : ℤ} {flag : Bool} → Flagged w next furnace l flag → Whole next
+  flagged-good : {next : World} {furnace : ℕ} {l : ℤ} {flag : Bool} {stacks : Stacks} → Flagged w next furnace l flag stacks → Whole next
   flagged-good {furnace = furnace} {l = l} {flag = flag} f =
-      rw (f .next-is, flag-good (w .board) furnace l flag (f .range) (w .table)) g
+      rw (f .next-is, flag-good (w .board) furnace l flag (f .low) (w .table)) g
 
   -- the rows of accepted rules are sound, and lie in the part that the call was lent; their numbers go on from those before
   added-good : {next : World} {lent : ℕ} {fs : List Formula} {count : ℕ} → Added w next lent fs count → Whole next
@@ -187,6 +189,8 @@ module _ (w : World) (g : Whole w) where
   step (enters lent entry) n = so-after Whole w (enters lent entry) refl g (λ e. added-good (entry-added w lent entry e))
   step (holds lent furnace l) n = so-after Whole w (holds lent furnace l) refl g (λ e. flagged-good (hold-flagged w lent furnace l e))
   step (withdraws lent furnace l) n = so-after Whole w (withdraws lent furnace l) refl g (λ e. flagged-good (withdraw-flagged w lent furnace l e))
+  step (pushes lent furnace l) n = so-after Whole w (pushes lent furnace l) refl g (λ e. flagged-good (push-flagged w lent furnace l e))
+  step (pops lent furnace) n = so-after Whole w (pops lent furnace) refl g (λ e. flagged-good (pop-flagged w lent furnace e))
   step (asks lent furnace l) n = g
   step (asksWhole lent furnace l) n = g
   step (explains lent furnace l) n = g

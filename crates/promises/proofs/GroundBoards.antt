@@ -28,6 +28,8 @@ use Rattle.dimacs.specs.Words.{upTo, since, wordsIn, numberOf, literalOf}
 use Rattle.dimacs.specs.Form.{pastComments, startsWith, countsIn, headerIn, clausesIn, parseText}
 use Rattle.dimacs.specs.Clauses.{oneOf, clauseFaults, clausesFaults, passed}
 use Rattle.dimacs.specs.Reading.{textFaults, readFaults, readAnswer, readTable}
+use Rattle.stack.specs.Stacking.{stacked, goodStack, goodStacks}
+use Rattle.stack.specs.Steps.{openedWith, withdrawFaultsWith, withdrawnWith}
 use Rattle.promises.specs.Calls.{Call, opens, holds, withdraws, asks, explains, grounds, reads, Answer, ofAsk, ofExplain, ofMarks}
 use Rattle.promises.specs.Calls.{answer, outcome, after, run}
 use Rattle.promises.proofs.Boards.{lent, fresh, blank, answers}
@@ -124,5 +126,5 @@ abbrev pub due : List Call × List (Call × Answer) → List ℕ × List Answer
 due b = (map (λ c. 0) (b .0), map (λ q. q .1) (b .1))
 
 ground-boards-hold : map found boards ≡ map due boards
-unfolding outcome answer after opp value occurs symbolsOf hit implicate prime ofSize gives next reached rankBy firstGiver supportAt supportOf reachesIn reaches ground placeOf literalAt numbersAt ruleAt zeros rising rowSound ruleBefore ruleSound rowsSound decode rowsIn encode appended isFurnace heldBy withHeld premisesFit goodBoard openFaults opened flagFaults flagChanged askFaults asked explainFaults reasoned explained groundFaults groundOutcome groundMarks digitsOf upTo since wordsIn decimal numberOf literalOf pastComments startsWith countsIn headerIn clausesIn parseText oneOf clauseFaults clausesFaults passed textFaults readFaults readAnswer readTable
+unfolding outcome answer after opp value occurs symbolsOf hit implicate prime ofSize gives next reached rankBy firstGiver supportAt supportOf reachesIn reaches ground placeOf literalAt numbersAt ruleAt zeros rising rowSound ruleBefore ruleSound rowsSound decode rowsIn encode appended isFurnace heldBy withHeld premisesFit goodBoard openFaults opened openedWith stacked goodStack goodStacks withdrawFaultsWith withdrawnWith flagFaults flagChanged askFaults asked explainFaults reasoned explained groundFaults groundOutcome groundMarks digitsOf upTo since wordsIn decimal numberOf literalOf pastComments startsWith countsIn headerIn clausesIn parseText oneOf clauseFaults clausesFaults passed textFaults readFaults readAnswer readTable
 ground-boards-hold = refl

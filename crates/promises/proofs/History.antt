@@ -1,7 +1,7 @@
 -- What is so after an open and any calls: the rows in use are those of the rules accepted since the last open, each with its rule's number.
 use mathlib.Core.Path.{_≡_, refl, sym, ap, _∙_}
 use mathlib.Core.Logic.{⊎-elim}
-use mathlib.Core.Bool.{Bool, true, false}
+use mathlib.Core.Bool.{Bool, true}
 use mathlib.Core.List.{List, [], _∷_, _++_, map, map-append}
 use Prim.Native.Nat.{ℕ, suc, _+_}
 use native.Mathlib.Omega.{arith}
@@ -16,13 +16,16 @@ use Rattle.literals.specs.Row.{Ruled, ruledIn, ofRules}
 use Rattle.literals.proofs.RuledRows.{rows-of-table, rows-of-rules, of-rules-append}
 use Rattle.board.specs.Furnaces.{withHeld}
 use Rattle.board.specs.Faults.{firstFault, ifDone}
-use Rattle.board.specs.Changes.{emptyBoard, openFaults, opened, withFlag}
+use Rattle.board.specs.Changes.{emptyBoard, openFaults, opened}
 use Rattle.board.specs.declared.Outcome.the-variants.{Done}
-use Rattle.promises.specs.Calls.{Call, opens, adds, enters, holds, withdraws, asks, asksWhole, explains, settles, grounds, blames, lists, asksLeast, reads, writes}
+use Rattle.stack.specs.Stacking.{emptyStacks}
+use Rattle.stack.specs.Steps.{openedWith}
+use Rattle.stack.specs.declared.Stacks.{Stacks}
+use Rattle.promises.specs.Calls.{Call, opens, adds, enters, holds, withdraws, pushes, pops, asks, asksWhole, explains, settles, grounds, blames, lists, asksLeast, reads, writes}
 use Rattle.promises.specs.Calls.{readsText, addsText, writesText, World, outcome, after, run, rulesAfter, rulesAfterAll, notOpen}
 use Rattle.promises.specs.Demands.{rowsOfWorld, ruledRows, since, acceptedSince}
 use Rattle.promises.proofs.Refusals.{done-or-refused, so-refused, so-after}
-use Rattle.promises.proofs.Changes.{hold-puts, withdraw-takes}
+use Rattle.promises.proofs.Changes.{Flagged, hold-flagged, withdraw-flagged, push-flagged, pop-flagged}
 use Rattle.promises.proofs.Tested.{Added, rule-added, entry-added, rule-text-added, text-added}
 use Rattle.promises.proofs.Stored.{appends}
 
@@ -37,13 +40,14 @@ rows-kept {w} {fs} k =
     sym (rows-of-table (w .board .rows) (w .table)) ∙ ap (map (λ (r : Ruled). r .row)) (k .ruled) ∙ rows-of-rules 1 (rulesOf (w .board .symbols) fs)
 
 -- an open, good or refused, leaves no rows in use
-empty : (S : ℕ) (table : List ℤ) → Keeps (record { board = emptyBoard S; table = table }) []
+empty : (S : ℕ) (table : List ℤ) (stacks : Stacks) → Keeps (record { board = emptyBoard S; table = table; stacks = stacks }) []
 unfolding ruledIn
-empty S table = record { ruled = refl; count = refl; fine = refl }
+empty S table stacks = record { ruled = refl; count = refl; fine = refl }
 
 open-step : (w : World) (S : ℕ) → Keeps (after w (opens S)) []
-unfolding after opened
-open-step w S = ⊎-elim (λ e. rw e (empty S (w .table))) (λ r. rw (r .1) (empty 0 (w .table))) (done-or-refused (firstFault (openFaults S)))
+unfolding after openedWith opened
+open-step w S =
+    ⊎-elim (λ e. rw e (empty S (w .table) emptyStacks)) (λ r. rw (r .1) (empty 0 (w .table) (w .stacks))) (done-or-refused (firstFault (openFaults S)))
 
 module _ (w : World) (fs : List Formula) (k : Keeps w fs) where
   -- of another world with the same rules
@@ -51,9 +55,9 @@ module _ (w : World) (fs : List Formula) (k : Keeps w fs) where
   Same v = Keeps v fs
 
   -- the premises don't matter
-  flagged : (furnace : ℕ) (l : ℤ) (flag : Bool) → Keeps (record { board = withFlag (w .board) furnace l flag; table = w .table }) fs
+  flagged : {next : World} {furnace : ℕ} {l : ℤ} {flag : Bool} {stacks : Stacks} → Flagged w next furnace l flag stacks → Keeps next fs
   unfolding withHeld
-  flagged furnace l flag = record { ruled = k .ruled; count = k .count; fine = k .fine }
+  flagged f = rw (f .next-is) (record { ruled = k .ruled; count = k .count; fine = k .fine })
 
   -- accepted rules more, and their rows
   more : {next : World} {lent : ℕ} {new : List Formula} {count : ℕ} → Added w next lent new count → Keeps next (fs ++ new)
@@ -80,9 +84,10 @@ module _ (w : World) (fs : List Formula) (k : Keeps w fs) where
   step (opens S) = open-step w S
   step (adds lent bytes) = adding (adds lent bytes) refl (rule-added w lent bytes)
   step (enters lent e) = adding (enters lent e) refl (entry-added w lent e)
-  step (holds lent furnace l) = so-after Same w (holds lent furnace l) refl k (λ e. rw (hold-puts w lent furnace l e) (flagged furnace l true))
-  step (withdraws lent furnace l) =
-      so-after Same w (withdraws lent furnace l) refl k (λ e. rw (withdraw-takes w lent furnace l e) (flagged furnace l false))
+  step (holds lent furnace l) = so-after Same w (holds lent furnace l) refl k (λ e. flagged (hold-flagged w lent furnace l e))
+  step (withdraws lent furnace l) = so-after Same w (withdraws lent furnace l) refl k (λ e. flagged (withdraw-flagged w lent furnace l e))
+  step (pushes lent furnace l) = so-after Same w (pushes lent furnace l) refl k (λ e. flagged (push-flagged w lent furnace l e))
+  step (pops lent furnace) = so-after Same w (pops lent furnace) refl k (λ e. flagged (pop-flagged w lent furnace e))
   step (asks lent furnace l) = k
   step (asksWhole lent furnace l) = k
   step (explains lent furnace l) = k

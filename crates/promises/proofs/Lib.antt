@@ -22,10 +22,12 @@ pub mod Explained
 pub mod Bounded
 mod History
 pub mod Numbered
+pub mod Stacked
+pub mod Apart
+pub mod Tries
 pub mod Good
 pub mod Ways
 pub mod Valves
-pub mod Apart
 mod Boards
 mod TwoFurnaces
 mod NumberedBoards
@@ -34,4 +36,5 @@ mod AskedBoards
 mod ListedBoards
 mod WithdrawnBoards
 mod ValveBoards
+mod StackBoards
 mod Carried

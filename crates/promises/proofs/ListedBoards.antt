@@ -27,6 +27,7 @@ use Rattle.dimacs.specs.Words.{upTo, since, wordsIn, numberOf, literalOf}
 use Rattle.dimacs.specs.Form.{pastComments, startsWith, countsIn, headerIn, clausesIn, parseText}
 use Rattle.dimacs.specs.Clauses.{oneOf, clauseFaults, clausesFaults}
 use Rattle.dimacs.specs.Reading.{textFaults, readFaults, readAnswer, readTable}
+use Rattle.stack.specs.Steps.{openedWith}
 use Rattle.promises.specs.Calls.{Call, opens, holds, lists, reads, Answer, ofListing, answer, outcome, after}
 use Rattle.promises.proofs.Boards.{lent, blank}
 use Rattle.promises.proofs.GroundBoards.{found, due}
@@ -110,5 +111,5 @@ boards =
     ∷ []
 
 listed-boards-hold : map found boards ≡ map due boards
-unfolding outcome answer after opp value occurs symbolsOf hit implicate prime ofSize gives next reached alone derives clashes smallerDerives carries smallest placeOf literalAt numbersAt ruleAt zeros rising rowSound ruleBefore ruleSound rowsSound decode rowsIn encode appended isFurnace heldBy withHeld premisesFit goodBoard openFaults opened flagFaults flagChanged smallestAt smallestFaults smallestOutcome smallestAnswer smallestSets upTo since wordsIn decimal numberOf literalOf pastComments startsWith countsIn headerIn clausesIn parseText oneOf clauseFaults clausesFaults textFaults readFaults readAnswer readTable
+unfolding outcome answer after opp value occurs symbolsOf hit implicate prime ofSize gives next reached alone derives clashes smallerDerives carries smallest placeOf literalAt numbersAt ruleAt zeros rising rowSound ruleBefore ruleSound rowsSound decode rowsIn encode appended isFurnace heldBy withHeld premisesFit goodBoard openFaults opened openedWith flagFaults flagChanged smallestAt smallestFaults smallestOutcome smallestAnswer smallestSets upTo since wordsIn decimal numberOf literalOf pastComments startsWith countsIn headerIn clausesIn parseText oneOf clauseFaults clausesFaults textFaults readFaults readAnswer readTable
 listed-boards-hold = refl

@@ -34,6 +34,8 @@ use Rattle.dimacs.specs.Form.{pastComments, startsWith, countsIn, headerIn, cla
 use Rattle.dimacs.specs.Clauses.{oneOf, clauseFaults, clausesFaults, passed}
 use Rattle.dimacs.specs.Reading.{textFaults, readFaults, readAnswer, readTable}
 use Rattle.dimacs.specs.Writing.{spaced, clauseLines, textOf, literalsOf, clausesAt, textOn, writeFaults, writeOutcome, writeAnswer}
+use Rattle.stack.specs.Stacking.{emptyStacks, stacked, goodStack, goodStacks}
+use Rattle.stack.specs.Steps.{openedWith, withdrawFaultsWith, withdrawnWith}
 use Rattle.promises.specs.Calls.{Call, opens, adds, enters, holds, withdraws, asks, asksWhole, explains, settles, grounds, blames, lists, asksLeast, reads, writes}
 use Rattle.promises.specs.Calls.{World, answer, outcome, after, run}
 use Rattle.promises.specs.Demands.{ruledRows}
@@ -113,6 +115,7 @@ numbered-so first second rules =
           negsuc 0 ∷ pos 2 ∷ pos 0 ∷ pos 0 ∷ pos 0 ∷ pos 0 ∷ pos 0 ∷ pos 0 ∷ first
           ∷ pos 1 ∷ negsuc 1 ∷ pos 0 ∷ pos 0 ∷ pos 0 ∷ pos 0 ∷ pos 0 ∷ pos 0 ∷ second
           ∷ replicate 54 (pos 0);
+      stacks = emptyStacks;
     }
 
 -- no rows, of so many rules
@@ -121,6 +124,7 @@ counted-so symbols rules =
     record {
       board = record { symbols = symbols; rows = 0; rules = rules; first = replicate 400 false; second = replicate 400 false };
       table = replicate lent (pos 0);
+      stacks = emptyStacks;
     }
 
 -- the row 1 implies 2, and the row 2 implies 1, of a rule
@@ -194,5 +198,5 @@ abbrev due : World × List Call × List (Question × Found) → List ℕ × List
 due b = (map (λ c. 0) (b .1), map (λ q. q .1) (b .2))
 
 numbered-boards-hold : map found boards ≡ map due boards
-unfolding tell outcome answer after opp value occurs symbolsOf hit implicate prime ofSize gives next reached rankBy firstGiver supportAt supportOf placeOf literalAt numbersAt ruleAt zeros rising rowSound ruleBefore ruleSound rowsSound decode rowsIn encode ruledIn symbolAt secondOf bodyOf parse wholeOf appended isFurnace heldBy withHeld premisesFit goodBoard openFaults opened flagFaults flagChanged ruleFaults ruled ruledTable noneOf exactlyOne formulaeOf symbolsFit wellFormed possible entryFaults entered settleFaults settleOutcome askFaults asked askedWhole explainFaults reasoned groundFaults groundOutcome blameFaults blameOutcome alone derives clashes smallerDerives carries smallest smallestAt smallestFaults smallestOutcome smallestAnswer ends least leastOn leastFaults leastAnswer digitsOf upTo since wordsIn decimal numberOf literalOf pastComments startsWith countsIn headerIn clausesIn parseText oneOf clauseFaults clausesFaults passed textFaults readFaults readAnswer readTable spaced clauseLines textOf literalsOf clausesAt textOn writeFaults writeOutcome writeAnswer
+unfolding tell outcome answer after opp value occurs symbolsOf hit implicate prime ofSize gives next reached rankBy firstGiver supportAt supportOf placeOf literalAt numbersAt ruleAt zeros rising rowSound ruleBefore ruleSound rowsSound decode rowsIn encode ruledIn symbolAt secondOf bodyOf parse wholeOf appended isFurnace heldBy withHeld premisesFit goodBoard openFaults opened openedWith stacked goodStack goodStacks withdrawFaultsWith withdrawnWith flagFaults flagChanged ruleFaults ruled ruledTable noneOf exactlyOne formulaeOf symbolsFit wellFormed possible entryFaults entered settleFaults settleOutcome askFaults asked askedWhole explainFaults reasoned groundFaults groundOutcome blameFaults blameOutcome alone derives clashes smallerDerives carries smallest smallestAt smallestFaults smallestOutcome smallestAnswer ends least leastOn leastFaults leastAnswer digitsOf upTo since wordsIn decimal numberOf literalOf pastComments startsWith countsIn headerIn clausesIn parseText oneOf clauseFaults clausesFaults passed textFaults readFaults readAnswer readTable spaced clauseLines textOf literalsOf clausesAt textOn writeFaults writeOutcome writeAnswer
 numbered-boards-hold = refl

@@ -23,6 +23,7 @@ use Rattle.board.specs.declared.asking.Reason.{Reason}
 use Rattle.board.specs.declared.rules.Addition.{Addition}
 use Rattle.board.specs.declared.Outcome.the-variants.{Done, Refused}
 use Rattle.board.proofs.Answered.{refused-not-done, told-by, rule-told}
+use Rattle.stack.specs.Steps.{openedWith, withdrawnWith, pushed, popped}
 use Rattle.positions.specs.Entering.{entryFaults, entered, enteredTable}
 use Rattle.smallest.specs.Listing.{smallestOutcome, smallestAnswer, smallestSets}
 use Rattle.least.specs.Withdrawing.{leastAnswer}
@@ -32,7 +33,7 @@ use Rattle.dimacs.specs.declared.reading.Reading.{Reading}
 use Rattle.text.specs.Reading.{bytesIn, readTextOutcome, readTextAnswer, readTextBytes}
 use Rattle.text.specs.Adding.{textRefused, ruledText, ruledTextTable}
 use Rattle.text.specs.Writing.{writeTextOutcome, writeTextAnswer, writeTextBytes}
-use Rattle.promises.specs.Calls.{Call, opens, adds, enters, holds, withdraws, asks, asksWhole, explains, settles, grounds, blames, lists, asksLeast, reads, writes}
+use Rattle.promises.specs.Calls.{Call, opens, adds, enters, holds, withdraws, pushes, pops, asks, asksWhole, explains, settles, grounds, blames, lists, asksLeast, reads, writes}
 use Rattle.promises.specs.Calls.{readsText, addsText, writesText, World, front, faults, askOutcome, answer, outcome, after, notOpen}
 use Rattle.promises.specs.Demands.{FirstGiven, here, later, RefusedExactly, DoneExactly, RefusedUntouched, RefusedUnwritten, RefusedHandsBack}
 use Rattle.promises.proofs.RuleTexts.{rule-text-told}
@@ -47,13 +48,15 @@ stands-done false false true = refl
 stands-done false false false = refl
 
 pub first-case : (w : World) (c : Call) → outcome w c ≡ firstFault (faults w c)
-unfolding answer outcome faults opened entered flagChanged asked askedWhole reasoned settleOutcome groundOutcome blameOutcome smallestAnswer smallestOutcome leastAnswer readAnswer writeAnswer writeOutcome readTextAnswer readTextOutcome writeTextAnswer writeTextOutcome
+unfolding answer outcome faults openedWith opened entered flagChanged withdrawnWith pushed popped asked askedWhole reasoned settleOutcome groundOutcome blameOutcome smallestAnswer smallestOutcome leastAnswer readAnswer writeAnswer writeOutcome readTextAnswer readTextOutcome writeTextAnswer writeTextOutcome
 first-case w (opens S) = refl
 first-case w (adds lent bytes) = rule-told (front w lent) (w .board) bytes
 first-case w (enters lent e) =
     told-by (λ (a : Addition). a .outcome) _ _ (firstFault (entryFaults (front w lent) (w .board) e)) (λ d. refl) (λ why d. refl)
 first-case w (holds lent furnace l) = refl
 first-case w (withdraws lent furnace l) = refl
+first-case w (pushes lent furnace l) = refl
+first-case w (pops lent furnace) = refl
 first-case w (asks lent furnace l) =
     told-by askOutcome _ _ (firstFault (askFaults (front w lent) (w .board) furnace l))
     (λ e. (let known = derivedOn (front w lent) (w .board) furnace in let p = placeOf l in
@@ -147,12 +150,14 @@ rule-text-refused w lent text why e = go (textRefused (front w lent) (w .board) 
     go false r = rw r (rule-refused w lent (bytesIn text) why (rw (r, outcome) at e))
 
 pub refused-untouched : RefusedUntouched
-unfolding after faults opened flagChanged readAnswer readTable
+unfolding after faults openedWith opened flagChanged withdrawnWith pushed popped readAnswer readTable
 refused-untouched w (opens S) why e = rw (cases w (opens S) e)
 refused-untouched w (adds lent bytes) why e = rule-refused w lent bytes why e .1
 refused-untouched w (enters lent entry) why e = entry-refused w lent entry why e .1
 refused-untouched w (holds lent furnace l) why e = rw (cases w (holds lent furnace l) e)
 refused-untouched w (withdraws lent furnace l) why e = rw (cases w (withdraws lent furnace l) e)
+refused-untouched w (pushes lent furnace l) why e = rw (cases w (pushes lent furnace l) e)
+refused-untouched w (pops lent furnace) why e = rw (cases w (pops lent furnace) e)
 refused-untouched w (asks lent furnace l) why e = refl
 refused-untouched w (asksWhole lent furnace l) why e = refl
 refused-untouched w (explains lent furnace l) why e = refl

@@ -3,7 +3,7 @@ use mathlib.Core.Path.{_≡_, refl, sym, _∙_}
 use mathlib.Core.Logic.{⊎-elim}
 use mathlib.Core.Bool.{Bool, true, false}
 use mathlib.Core.List.{List, [], _∷_, List·Memᴰ as In, Memᴰ·append-left}
-use Prim.Native.Nat.{ℕ, zero, suc}
+use Prim.Native.Nat.{ℕ}
 use borrow.Author.Tests.{eqb-true, eqb-false, eq-eqb}
 use lib.Dec.{eqb}
 use lib.IntN.{ℤ}
@@ -17,11 +17,14 @@ use Rattle.board.specs.Furnaces.{isFurnace, heldBy, withHeld}
 use Rattle.board.specs.Changes.{withFlag}
 use Rattle.board.specs.declared.Outcome.the-variants.{Done}
 use Rattle.board.proofs.TwoSets.{held-own, held-other}
-use Rattle.promises.specs.Calls.{Call, opens, adds, enters, holds, withdraws, asks, asksWhole, explains, settles, grounds, blames, lists, asksLeast, reads, writes}
+use Rattle.stack.specs.Stacking.{top, stackOf}
+use Rattle.stack.proofs.Own.{set-true}
+use Rattle.stack.specs.declared.Stacks.{Stacks}
+use Rattle.promises.specs.Calls.{Call, opens, adds, enters, holds, withdraws, pushes, pops, asks, asksWhole, explains, settles, grounds, blames, lists, asksLeast, reads, writes}
 use Rattle.promises.specs.Calls.{readsText, addsText, writesText, World, outcome, after, run, Each, notOpen, takes}
 use Rattle.promises.specs.Demands.{rowsOfWorld, premisesOf, Appends, Spares}
 use Rattle.promises.proofs.Refusals.{so-after}
-use Rattle.promises.proofs.Changes.{hold-puts, withdraw-takes}
+use Rattle.promises.proofs.Changes.{Flagged, hold-flagged, withdraw-flagged, push-flagged, pop-flagged}
 use Rattle.promises.proofs.Stored.{rows-grown, rule-appends, text-appends, read-appends, enter-appends}
 
 -- v has the rows of w, and maybe others, and for the furnace these premises, and maybe others
@@ -29,14 +32,6 @@ pub record Kept (w : World) (furnace : ℕ) (marked : List Bool) (v : World) : T
   pub symbols : v .board .symbols ≡ w .board .symbols
   pub rows : (row : List ℕ) → In row (rowsOfWorld w) → In row (rowsOfWorld v)
   pub premises : Within marked (premisesOf v furnace)
-
--- a premise held stays where another is put
-set-true : (held : List Bool) (x p : ℕ) → has held p ≡ true → has (set held x true) p ≡ true
-set-true [] x p e = e
-set-true (b ∷ held) zero zero e = refl
-set-true (b ∷ held) zero (suc p) e = e
-set-true (b ∷ held) (suc x) zero e = e
-set-true (b ∷ held) (suc x) (suc p) e = set-true held x p e
 
 module _ (w : World) (furnace : ℕ) (marked : List Bool) (premises : ℕ → Type 0) (is-furnace : isFurnace furnace ≡ true)
     (spare : (p : ℕ) → has marked p ≡ true → premises p) where
@@ -63,11 +58,11 @@ module _ (w : World) (furnace : ℕ) (marked : List Bool) (premises : ℕ → Ty
         getD-set-other (premisesOf v furnace) (placeOf l) p false false (λ s. eqb-false (placeOf l) p (out p (spare p h)) (sym s)) ∙ k .premises p h
 
     -- done for this furnace; for the other it leaves this one what it held
-    flagged : (named : ℕ) (l : ℤ) (flag : Bool) → (named ≡ furnace → Within marked (set (premisesOf v furnace) (placeOf l) flag))
-        → Stays (record { board = withFlag (v .board) named l flag; table = v .table })
+    flagged : {next : World} {named : ℕ} {l : ℤ} {flag : Bool} {stacks : Stacks} → Flagged v next named l flag stacks
+        → (named ≡ furnace → Within marked (set (premisesOf v furnace) (placeOf l) flag)) → Stays next
     unfolding withHeld
-    flagged named l flag own =
-        record { symbols = k .symbols; rows = k .rows; premises = ⊎-elim same another (true-or-false (eqb named furnace)) }
+    flagged {named = named} {l = l} {flag = flag} f own =
+        rw (f .next-is) (record { symbols = k .symbols; rows = k .rows; premises = ⊎-elim same another (true-or-false (eqb named furnace)) })
       where
         same : eqb named furnace ≡ true → Within marked (heldBy (withFlag (v .board) named l flag) furnace)
         same e p h =
@@ -78,18 +73,23 @@ module _ (w : World) (furnace : ℕ) (marked : List Bool) (premises : ℕ → Ty
         another e p h =
             rw (held-other (v .board) named (set (premisesOf v named) (placeOf l) flag) furnace (eqb-false named furnace e)) (k .premises p h)
 
-    step : (c : Call) → notOpen c ≡ true → ((h : ℕ) → premises h → outcome v c ≡ Done → takes furnace h c ≡ false) → Stays (after v c)
+    step : (c : Call) → notOpen c ≡ true → ((h : ℕ) → premises h → outcome v c ≡ Done → takes v furnace h c ≡ false) → Stays (after v c)
     unfolding after
     step (opens S) n out = clash n refl
     step (adds lent bytes) n out = so-after Stays v (adds lent bytes) refl k (λ d. grown (rule-appends v lent bytes d))
     step (enters lent e) n out = so-after Stays v (enters lent e) refl k (λ d. grown (enter-appends v lent e d))
     step (holds lent named l) n out =
-        so-after Stays v (holds lent named l) refl k (λ d. rw (hold-puts v lent named l d) (flagged named l true (λ is. more-held l)))
+        so-after Stays v (holds lent named l) refl k (λ d. flagged (hold-flagged v lent named l d) (λ is. more-held l))
     step (withdraws lent named l) n out =
         so-after Stays v (withdraws lent named l) refl k
+        (λ d. flagged (withdraw-flagged v lent named l d) (λ is. less-held l (λ h x. rw (eq-eqb named furnace is) at (out h x d))))
+    step (pushes lent named l) n out =
+        so-after Stays v (pushes lent named l) refl k (λ d. flagged (push-flagged v lent named l d) (λ is. more-held l))
+    step (pops lent named) n out =
+        so-after Stays v (pops lent named) refl k
         (λ d.
-        rw (withdraw-takes v lent named l d)
-        (flagged named l false (λ is. less-held l (λ h x. rw (eq-eqb named furnace is) at (out h x d)))))
+        flagged (pop-flagged v lent named d)
+        (λ is. less-held (top (stackOf (v .stacks) named)) (λ h x. rw (eq-eqb named furnace is) at (out h x d))))
     step (asks lent named l) n out = k
     step (asksWhole lent named l) n out = k
     step (explains lent named l) n out = k

@@ -149,6 +149,7 @@ module _ {w next : World} {lent : ℕ} {fs : List Formula} {count : ℕ} (a : Ad
         counted = ap (λ (b : Board). b .rules) (a .board);
         symbols = ap (λ (b : Board). b .symbols) (a .board);
         premises = λ furnace. ap (λ (b : Board). heldBy b furnace) (a .board);
+        stacks = a .stacks;
         before =
             rw (a .table) (front-kept (front w lent) (drop lent (w .table)) (w .board .rows) new new-room)
             ∙ ap (take (width * w .board .rows)) whole-table;

@@ -57,6 +57,7 @@ pub record Added (w next : World) (lent : ℕ) (fs : List Formula) (count : ℕ)
   pub told : count ≡ length (ruledFor w fs)
   pub board : next .board ≡ withRules (w .board) (length (ruledFor w fs)) (length fs)
   pub table : next .table ≡ appended (front w lent) (w .board .rows) (ruledFor w fs) ++ drop lent (w .table)
+  pub stacks : next .stacks ≡ w .stacks
 
 -- the rows of accepted rules are sound, and none has more literals than a row has places for
 pub sound-rows : (S : ℕ) (fs : List Formula) → all (accepted S) fs ≡ true → (row : List ℕ) → In row (allRows (rulesOf S fs)) → SoundRow S mostLiterals row
@@ -111,6 +112,7 @@ rule-added w lent bytes e =
       told = rw (done, one, ← long);
       board = rw (done, one, ← long);
       table = rw (done, one);
+      stacks = refl;
     }
 
 -- in text: the bytes, read, are the formula that the text says
@@ -162,6 +164,7 @@ module _ (w : World) (lent : ℕ) (e : Entry) (d : outcome w (enters lent e) ≡
         told = rw (entry-done, long);
         board = rw (entry-done, long);
         table = rw entry-done;
+        stacks = refl;
       }
 
 -- ---- a text
@@ -185,4 +188,5 @@ module _ (w : World) (lent : ℕ) (text : List ℕ) (e : outcome w (reads lent t
         told = rw (text-done, long);
         board = rw (text-done, long, length-map (clausesOf (parseText text)) oneOf);
         table = rw text-done;
+        stacks = refl;
       }

@@ -24,6 +24,8 @@ use Rattle.board.proofs.Answered.{none-given}
 use Rattle.dimacs.specs.Writing.{textOn, writeFaults, writeOutcome, writeAnswer, writeBytes}
 use Rattle.dimacs.specs.declared.reading.Reading.{Reading}
 use Rattle.dimacs.proofs.SameRows.{same-rows}
+use Rattle.stack.specs.Stacking.{emptyStacks}
+use Rattle.stack.specs.Steps.{openedWith}
 use Rattle.promises.specs.Calls.{opens, reads, writes, World, front, answer, outcome, after}
 use Rattle.promises.specs.Demands.{rowsOfWorld, RoundTrip}
 use Rattle.promises.proofs.Changes.{open-leaves}
@@ -55,10 +57,10 @@ module _ (w : World) (lent : ℕ) (out : List ℕ) (v : World) (room : ℕ) (e :
 
   -- the new board
   abbrev new : World
-  new = record { board = emptyBoard S; table = v .table }
+  new = record { board = emptyBoard S; table = v .table; stacks = emptyStacks }
 
   opens-new : after v (opens S) ≡ new
-  unfolding answer outcome opened openFaults
+  unfolding answer outcome opened openedWith openFaults
   opens-new = open-leaves v S (rw (le-leb 1 S (known .some), le-leb S 200 (known .sound .symbols)))
 
   -- the rows that are read: those written, each with a number of its own

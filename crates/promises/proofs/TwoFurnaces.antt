@@ -40,6 +40,8 @@ use Rattle.chains.specs.Spelling.{unitText, spelled}
 use Rattle.text.specs.Reading.{readTextFaults, readTextOutcome, readTextAnswer}
 use Rattle.text.specs.Adding.{ruledText}
 use Rattle.text.specs.Writing.{writeTextFaults, writeTextOutcome, writeTextAnswer}
+use Rattle.stack.specs.Stacking.{stacked, goodStack, goodStacks}
+use Rattle.stack.specs.Steps.{openedWith, withdrawFaultsWith, withdrawnWith}
 use Rattle.promises.specs.Calls.{Call, opens, enters, holds, withdraws, asks, asksWhole, explains, settles, grounds, blames, reads, writes, readsText}
 use Rattle.promises.specs.Calls.{addsText, writesText, World, Answer, ofSettle, ofAsk, answer, outcome, after, run}
 use Rattle.promises.proofs.Boards.{lent, fresh, blank, forth, answers}
@@ -124,7 +126,7 @@ unnamed =
 
 -- a board of 2 symbols on which one furnace holds one literal, of whatever symbol
 abbrev holding : (furnace : ℕ) → ℤ → World
-holding furnace l = record { board = withFlag (emptyBoard 2) furnace l true; table = fresh .table }
+holding furnace l = record { board = withFlag (emptyBoard 2) furnace l true; table = fresh .table; stacks = fresh .stacks }
 
 -- a board to start with, the calls that are made on it, and what is then asked
 abbrev boards : List (World × List Call × List (Question × Found))
@@ -203,5 +205,5 @@ abbrev due : World × List Call × List (Question × Found) → List ℕ × List
 due b = (map (λ c. 0) (b .1), map (λ q. q .1) (b .2))
 
 two-furnaces-hold : map found boards ≡ map due boards
-unfolding tell outcome answer after opp value occurs symbolsOf hit implicate prime ofSize gives next reached rankBy firstGiver supportAt supportOf ranksOf supportsOf labelsOf placeOf literalAt numbersAt ruleAt zeros rising rowSound ruleBefore ruleSound rowsSound decode rowsIn encode symbolAt secondOf bodyOf parse wholeOf appended isFurnace heldBy withHeld premisesFit goodBoard openFaults opened flagFaults flagChanged ruleFaults ruled ruledTable noneOf exactlyOne formulaeOf symbolsFit wellFormed possible entryFaults entered settleFaults settleOutcome settledLabels settledRanks settledSupports askFaults asked askedWhole explainFaults reasoned groundFaults groundOutcome blameFaults blameOutcome digitsOf upTo since wordsIn decimal numberOf literalOf pastComments startsWith countsIn headerIn clausesIn parseText oneOf clauseFaults clausesFaults passed textFaults readFaults readAnswer spaced clauseLines textOf literalsOf clausesAt textOn writeFaults writeOutcome writeAnswer bytesOf lead unitOf fromMark goOn more atClose closed bracketAt wholeText unitText spelled readTextFaults readTextOutcome readTextAnswer ruledText writeTextFaults writeTextOutcome writeTextAnswer
+unfolding tell outcome answer after opp value occurs symbolsOf hit implicate prime ofSize gives next reached rankBy firstGiver supportAt supportOf ranksOf supportsOf labelsOf placeOf literalAt numbersAt ruleAt zeros rising rowSound ruleBefore ruleSound rowsSound decode rowsIn encode symbolAt secondOf bodyOf parse wholeOf appended isFurnace heldBy withHeld premisesFit goodBoard openFaults opened openedWith stacked goodStack goodStacks withdrawFaultsWith withdrawnWith flagFaults flagChanged ruleFaults ruled ruledTable noneOf exactlyOne formulaeOf symbolsFit wellFormed possible entryFaults entered settleFaults settleOutcome settledLabels settledRanks settledSupports askFaults asked askedWhole explainFaults reasoned groundFaults groundOutcome blameFaults blameOutcome digitsOf upTo since wordsIn decimal numberOf literalOf pastComments startsWith countsIn headerIn clausesIn parseText oneOf clauseFaults clausesFaults passed textFaults readFaults readAnswer spaced clauseLines textOf literalsOf clausesAt textOn writeFaults writeOutcome writeAnswer bytesOf lead unitOf fromMark goOn more atClose closed bracketAt wholeText unitText spelled readTextFaults readTextOutcome readTextAnswer ruledText writeTextFaults writeTextOutcome writeTextAnswer
 two-furnaces-hold = refl

@@ -32,6 +32,8 @@ use Rattle.board.specs.Asking.{askFaults, asked, askedWhole}
 use Rattle.board.specs.declared.Outcome.the-variants.{Done, Refused}
 use Rattle.board.specs.declared.asking.Standing.the-variants.{Conflict, Stands, RuledOut, Open}
 use Rattle.positions.specs.Entering.{variableOf, pairsOf, entryFaults, entered, enteredTable}
+use Rattle.stack.specs.Stacking.{emptyStacks}
+use Rattle.stack.specs.Steps.{openedWith}
 use Rattle.promises.specs.Calls.{Call, opens, enters, holds, asks, asksWhole, World, Answer, ofAddition, ofAsk, answer, outcome, after, run, rulesAfter}
 use Rattle.promises.specs.Demands.{premisesOf, ruledRows, since, acceptedSince, enteredSince, OnlySuch, ToldOfValves}
 use Rattle.promises.proofs.Boards.{lent, fresh, forth, answers}
@@ -72,7 +74,7 @@ abbrev chain-lent : ℕ
 chain-lent = 126
 
 abbrev chain-table : World
-chain-table = record { board = emptyBoard 0; table = replicate chain-lent (pos 0) }
+chain-table = record { board = emptyBoard 0; table = replicate chain-lent (pos 0); stacks = emptyStacks }
 
 abbrev chain : List Call
 chain =
@@ -194,12 +196,12 @@ abbrev due : World × List Call × List (Call × Answer) → List ℕ × List An
 due b = (map (λ c. 0) (b .1), map (λ q. q .1) (b .2))
 
 valve-boards-hold : map found boards ≡ map due boards
-unfolding outcome answer after opp value occurs symbolsOf hit implicate prime ofSize gives next reached placeOf literalAt numbersAt ruleAt zeros rising rowSound ruleBefore ruleSound rowsSound decode rowsIn encode appended isFurnace heldBy withHeld premisesFit goodBoard openFaults opened flagFaults flagChanged askFaults asked askedWhole noneOf exactlyOne falseOr formulaeOf symbolsFit wellFormed possible entryFaults entered enteredTable
+unfolding outcome answer after opp value occurs symbolsOf hit implicate prime ofSize gives next reached placeOf literalAt numbersAt ruleAt zeros rising rowSound ruleBefore ruleSound rowsSound decode rowsIn encode appended isFurnace heldBy withHeld premisesFit goodBoard openFaults opened openedWith flagFaults flagChanged askFaults asked askedWhole noneOf exactlyOne falseOr formulaeOf symbolsFit wellFormed possible entryFaults entered enteredTable
 valve-boards-hold = refl
 
 -- "wholly or not at all": refused, one after the other, they leave the board and the table
 nothing-entered : run fresh (two-valves ++ map (λ q. q .0) in-order) ≡ run fresh two-valves
-unfolding outcome answer after opp value occurs symbolsOf hit implicate prime ofSize literalAt numbersAt ruleAt zeros rising rowSound ruleBefore ruleSound rowsSound encode appended premisesFit goodBoard openFaults opened noneOf exactlyOne falseOr formulaeOf symbolsFit wellFormed possible entryFaults entered enteredTable
+unfolding outcome answer after opp value occurs symbolsOf hit implicate prime ofSize literalAt numbersAt ruleAt zeros rising rowSound ruleBefore ruleSound rowsSound encode appended premisesFit goodBoard openFaults opened openedWith noneOf exactlyOne falseOr formulaeOf symbolsFit wellFormed possible entryFaults entered enteredTable
 nothing-entered = refl
 
 -- ---- the rows, with the numbers of their rules
@@ -223,7 +225,7 @@ rows-numbered :
     × (ruledRows (run (counted-so 4 32763) (enter (unlike 3 1) ∷ [])) ≡
     of-rule 32764 (plus 2 ∷ minus 3 ∷ []) ∷ of-rule 32765 (plus 1 ∷ minus 4 ∷ [])
     ∷ of-rule 32766 (minus 1 ∷ plus 4 ∷ []) ∷ of-rule 32767 (minus 2 ∷ plus 3 ∷ []) ∷ [])
-unfolding outcome answer after opp value occurs symbolsOf hit implicate prime ofSize placeOf literalAt numbersAt ruleAt zeros rising rowSound ruleBefore ruleSound rowsSound decode rowsIn ruledIn encode appended premisesFit goodBoard openFaults opened noneOf exactlyOne falseOr formulaeOf symbolsFit wellFormed possible entryFaults entered enteredTable
+unfolding outcome answer after opp value occurs symbolsOf hit implicate prime ofSize placeOf literalAt numbersAt ruleAt zeros rising rowSound ruleBefore ruleSound rowsSound decode rowsIn ruledIn encode appended premisesFit goodBoard openFaults opened openedWith noneOf exactlyOne falseOr formulaeOf symbolsFit wellFormed possible entryFaults entered enteredTable
 rows-numbered = (refl, refl)
 
 -- ---- what was entered, and whether there are other rules
@@ -232,12 +234,12 @@ rows-numbered = (refl, refl)
 entered-since :
     (enteredSince fresh 4 (unlike-valves (enter (valve 4) ∷ [])) ≡ valve 1 ∷ valve 3 ∷ unlike 1 3 ∷ [])
     × (enteredSince fresh 4 (unlike-valves (opens 4 ∷ enter (valve 1) ∷ [])) ≡ valve 1 ∷ [])
-unfolding outcome answer after opp value occurs symbolsOf hit implicate prime ofSize literalAt numbersAt ruleAt zeros rising rowSound ruleBefore ruleSound rowsSound encode appended premisesFit goodBoard openFaults opened noneOf exactlyOne falseOr formulaeOf symbolsFit wellFormed possible entryFaults entered enteredTable
+unfolding outcome answer after opp value occurs symbolsOf hit implicate prime ofSize literalAt numbersAt ruleAt zeros rising rowSound ruleBefore ruleSound rowsSound encode appended premisesFit goodBoard openFaults opened openedWith noneOf exactlyOne falseOr formulaeOf symbolsFit wellFormed possible entryFaults entered enteredTable
 entered-since = (refl, refl)
 
 -- with a rule in bytes besides, the board has others
 others-too : ¬ OnlySuch fresh 4 (enter (valve 1) ∷ forth ∷ [])
-unfolding outcome answer after rulesAfter opp value occurs symbolsOf hit implicate prime ofSize literalAt numbersAt ruleAt zeros rising rowSound ruleBefore ruleSound rowsSound encode appended premisesFit goodBoard openFaults opened symbolNumber secondOf bodyOf parse wholeOf ruleFaults ruled ruledTable noneOf exactlyOne falseOr formulaeOf symbolsFit wellFormed possible entryFaults entered enteredTable
+unfolding outcome answer after rulesAfter opp value occurs symbolsOf hit implicate prime ofSize literalAt numbersAt ruleAt zeros rising rowSound ruleBefore ruleSound rowsSound encode appended premisesFit goodBoard openFaults opened openedWith symbolNumber secondOf bodyOf parse wholeOf ruleFaults ruled ruledTable noneOf exactlyOne falseOr formulaeOf symbolsFit wellFormed possible entryFaults entered enteredTable
 others-too e = let lengths : _≡_ {A = ℕ} 2 1 = ap length e in omega arith
 
 -- ---- a board such as the promise speaks of
@@ -254,7 +256,7 @@ held = true ∷ replicate 399 false
 
 as-computed :
     (acceptedSince fresh 4 calls ≡ formulaeOfAll entries) × (enteredSince fresh 4 calls ≡ entries) × (premisesOf (since fresh 4 calls) 2 ≡ held)
-unfolding outcome answer after rulesAfter opp value occurs symbolsOf hit implicate prime ofSize placeOf literalAt numbersAt ruleAt zeros rising rowSound ruleBefore ruleSound rowsSound encode appended isFurnace heldBy withHeld premisesFit goodBoard openFaults opened flagFaults flagChanged noneOf exactlyOne falseOr formulaeOf symbolsFit wellFormed possible entryFaults entered enteredTable
+unfolding outcome answer after rulesAfter opp value occurs symbolsOf hit implicate prime ofSize placeOf literalAt numbersAt ruleAt zeros rising rowSound ruleBefore ruleSound rowsSound encode appended isFurnace heldBy withHeld premisesFit goodBoard openFaults opened openedWith flagFaults flagChanged noneOf exactlyOne falseOr formulaeOf symbolsFit wellFormed possible entryFaults entered enteredTable
 as-computed = (refl, refl, refl)
 
 -- "a board with only such rules"

@@ -23,7 +23,7 @@ use Rattle.board.specs.declared.Outcome.{Outcome}
 use Rattle.board.specs.declared.Outcome.the-variants.{Done, Refused}
 use Rattle.board.specs.declared.asking.Standing.the-variants.{Conflict, RuledOut}
 use Rattle.positions.specs.Entering.{entryFaults, entered}
-use Rattle.promises.specs.Calls.{Call, opens, adds, enters, holds, withdraws, asks, asksWhole, explains, settles, grounds, blames, lists, asksLeast, reads, writes}
+use Rattle.promises.specs.Calls.{Call, opens, adds, enters, holds, withdraws, pushes, pops, asks, asksWhole, explains, settles, grounds, blames, lists, asksLeast, reads, writes}
 use Rattle.promises.specs.Calls.{readsText, addsText, writesText, World, front, outcome, after, run, notOpen, entryOf, entriesAfter, entriesAfterAll}
 use Rattle.promises.specs.Demands.{rowsOfWorld, premisesOf, derivedSet, since, enteredSince, EnterNoPlace, EntriesSuit, ValvesRemove, ValvesTold}
 use Rattle.promises.proofs.Tested.{entry-suits}
@@ -54,6 +54,8 @@ own-suits w (adds lent bytes) d = refl
 own-suits w (enters lent e) d = and-intro (suits (w .board .symbols) e) true (entry-suits w lent e d) refl
 own-suits w (holds lent furnace l) d = refl
 own-suits w (withdraws lent furnace l) d = refl
+own-suits w (pushes lent furnace l) d = refl
+own-suits w (pops lent furnace) d = refl
 own-suits w (asks lent furnace l) d = refl
 own-suits w (asksWhole lent furnace l) d = refl
 own-suits w (explains lent furnace l) d = refl

@@ -25,9 +25,10 @@ use Rattle.meaning.proofs.Sets.{chosen-in, chosen-map}
 use Rattle.meaning.proofs.Smallest.{conflict-words}
 use Rattle.meaning.proofs.Least.{struck-more, least-is, empty-exactly, least-below}
 use Rattle.literals.specs.Literal.{inRange, placeOf}
+use Rattle.literals.proofs.Arguments.{place-fits}
 use Rattle.board.specs.Furnaces.{isFurnace, withHeld}
 use Rattle.board.specs.Faults.{Fault, goodBoard}
-use Rattle.board.specs.Changes.{withFlag, flagFaults, flagChanged}
+use Rattle.board.specs.Changes.{withFlag, flagFaults}
 use Rattle.board.specs.Ranking.{rowsOn}
 use Rattle.board.specs.declared.Outcome.the-variants.{Done}
 use Rattle.board.proofs.TwoSets.{held-own}
@@ -35,10 +36,12 @@ use Rattle.board.proofs.Goodness.{flag-good}
 use Rattle.board.proofs.Answered.{none-given}
 use Rattle.candidates.specs.Given.{mostCandidates, tooMany, placesOf, repeats}
 use Rattle.candidates.proofs.Different.{chosen-different}
+use Rattle.stack.specs.Steps.{withdrawFaultsWith, withdrawnWith}
+use Rattle.stack.proofs.Kept.{stacks-less}
 use Rattle.least.specs.Withdrawing.{leastOn, leastFaults, leastAnswer}
 use Rattle.promises.specs.Calls.{withdraws, asksLeast, World, front, faults, answer, outcome, after, run, Each}
 use Rattle.promises.specs.Demands.{FirstGiven, here, later, rowsOfWorld, premisesOf}
-use Rattle.promises.specs.Demands.{leastSet, LeastTells, EmptySet, withdrawEach, Withdrawn, SetEnds, MoreEnds, SmallerLeaves, StaysExactly}
+use Rattle.promises.specs.Demands.{leastSet, LeastTells, EmptySet, withdrawEach, Withdrawn, Unstacked, SetEnds, MoreEnds, SmallerLeaves, StaysExactly}
 use Rattle.promises.proofs.Refusals.{refused-exactly}
 use Rattle.promises.proofs.Told.{rows-read}
 use Rattle.promises.proofs.Changes.{withdraw-takes}
@@ -58,14 +61,16 @@ module _ (lent furnace : ℕ) (named : isFurnace furnace ≡ true) where
     range : (l : ℤ) → In l gone → inRange (w .board .symbols) l ≡ true
     held : (l : ℤ) → In l gone → has (premisesOf w furnace) (placeOf l) ≡ true
     different : repeats (placesOf gone) ≡ false
+    unstacked : Unstacked w furnace gone
 
   module _ (w : World) (l : ℤ) (gone : List ℤ) (r : Ready w (l ∷ gone)) where
     withdraw-done : outcome w (withdraws lent furnace l) ≡ Done
-    unfolding answer outcome flagChanged flagFaults
-    withdraw-done = rw (r .good, named, r .range l (head refl), r .held l (head refl))
+    unfolding answer outcome withdrawnWith withdrawFaultsWith flagFaults
+    withdraw-done =
+        rw (r .unstacked .good, r .good, named, r .range l (head refl), r .held l (head refl), r .unstacked .free l (head refl))
 
     abbrev next : World
-    next = record { board = withFlag (w .board) furnace l false; table = w .table }
+    next = record { board = withFlag (w .board) furnace l false; table = w .table; stacks = w .stacks }
 
     next-is : after w (withdraws lent furnace l) ≡ next
     next-is = withdraw-takes w lent furnace l withdraw-done
@@ -78,7 +83,7 @@ module _ (lent furnace : ℕ) (named : isFurnace furnace ≡ true) where
     next-ready =
         let apart = both-false (member (placeOf l) (placesOf gone)) (repeats (placesOf gone)) (r .different) in
         record {
-          good = flag-good (w .board) furnace l false (r .range l (head refl)) (front w lent) ∙ r .good;
+          good = flag-good (w .board) furnace l false (place-fits (w .board .symbols) l (r .range l (head refl))) (front w lent) ∙ r .good;
           range = λ q i. r .range q (tail i);
           held =
               λ q i. ap (λ (h : List Bool). has h (placeOf q)) next-held
@@ -86,6 +91,11 @@ module _ (lent furnace : ℕ) (named : isFurnace furnace ≡ true) where
               (λ e. clash (in-member (rw e at (Memᴰ·map placeOf i))) (apart .0))
               ∙ r .held q (tail i);
           different = apart .1;
+          unstacked =
+              record {
+                good = stacks-less (w .board) (w .stacks) furnace l (r .unstacked .good) (r .unstacked .free l (head refl));
+                free = λ q i. r .unstacked .free q (tail i);
+              };
         }
 
   -- every one is good, and these premises are gone
@@ -130,10 +140,10 @@ module _ (w : World) (lent furnace : ℕ) (cands : List ℤ) where
   abbrev left : (gone : List ℕ) → Bool
   left gone = conflict (derived (2 * S) (rowsOfWorld w) (struckOff held gone))
 
-  module _ (p : Passed w lent furnace cands) where
-    read : rowsOn (front w lent) (w .board) ≡ rowsOfWorld w
-    read = rows-read w lent (ap not (p .good))
+  read : Passed w lent furnace cands → rowsOn (front w lent) (w .board) ≡ rowsOfWorld w
+  read p = rows-read w lent (ap not (p .good))
 
+  module _ (p : Passed w lent furnace cands) (u : Unstacked w furnace cands) where
     -- different candidates may be withdrawn one after the other
     ready : (gone : List ℤ) → ((l : ℤ) → In l gone → In l cands) → repeats (placesOf gone) ≡ false → Ready lent furnace (p .named) w gone
     ready gone of apart =
@@ -142,6 +152,7 @@ module _ (w : World) (lent furnace : ℕ) (cands : List ℤ) where
           range = λ l i. all-at (inRange S) (p .range) (of l i);
           held = λ l i. all-at (has held) (p .held) (Memᴰ·map placeOf (of l i));
           different = apart;
+          unstacked = record { good = u .good; free = λ l i. u .free l (of l i) };
         }
 
     withdrawn-so : (gone : List ℤ) → ((l : ℤ) → In l gone → In l cands) → repeats (placesOf gone) ≡ false → {is : Bool} → left (placesOf gone) ≡ is
@@ -222,12 +233,12 @@ set-quiet w lent furnace cands e =
     false-of (left w lent furnace cands gone) (λ k. least-tells w lent furnace cands e .ends-it (c .0 k))
 
 pub set-ends : SetEnds
-set-ends w lent furnace cands e =
-    withdrawn-set w lent furnace cands (all-passed w lent furnace cands e) (leastSet w lent furnace cands) (set-quiet w lent furnace cands e)
+set-ends w lent furnace cands e u =
+    withdrawn-set w lent furnace cands (all-passed w lent furnace cands e) u (leastSet w lent furnace cands) (set-quiet w lent furnace cands e)
 
 pub more-ends : MoreEnds
-more-ends w lent furnace cands gone e apart of has-all =
-    withdrawn-so w lent furnace cands (all-passed w lent furnace cands e) gone of apart
+more-ends w lent furnace cands gone e u apart of has-all =
+    withdrawn-so w lent furnace cands (all-passed w lent furnace cands e) u gone of apart
     (false-of (left w lent furnace cands (placesOf gone))
     (λ k. clash (no-conflict-more (2 * w .board .symbols) (rowsOfWorld w) (struckOff held' (placesOf gone)) (struckOff held' its) (struck-more held' its (placesOf gone) with-all) k)
     (set-quiet w lent furnace cands e)))
@@ -244,8 +255,8 @@ more-ends w lent furnace cands gone e apart of has-all =
         rw (r .2) at (Memᴰ·map placeOf (has-all (r .0) (r .1)))
 
 pub smaller-leaves : SmallerLeaves
-smaller-leaves w lent furnace cands a e low before =
-    withdrawn-set w lent furnace cands (all-passed w lent furnace cands e) a
+smaller-leaves w lent furnace cands a e u low before =
+    withdrawn-set w lent furnace cands (all-passed w lent furnace cands e) u a
     (⊎-elim (λ c. c) (λ c. absurd (no before (least .smallest a low' (ends c)) (least .lowest a low' (ends c)))) (true-or-false (left w lent furnace cands gone)))
   where
     n : ℕ
@@ -272,10 +283,10 @@ smaller-leaves w lent furnace cands a e low before =
 
 pub stays-exactly : StaysExactly
 unfolding faults leastFaults
-stays-exactly w lent furnace cands =
+stays-exactly w lent furnace cands u =
     record {
       refused = λ n. all-left (refused-exactly w (asksLeast lent furnace cands) 18 (omega arith) .0 n);
-      done = λ e. withdrawn-all w lent furnace cands (all-passed w lent furnace cands e) (none-left w lent furnace cands e);
+      done = λ e. withdrawn-all w lent furnace cands (all-passed w lent furnace cands e) u (none-left w lent furnace cands e);
     }
   where
     all-left : FirstGiven 18 (leastFaults (front w lent) (w .board) furnace cands) → Withdrawn w lent furnace cands true
@@ -286,4 +297,4 @@ stays-exactly w lent furnace cands =
     all-left (later a (later b (later c (later d (here g n))))) = absurd (omega arith)
     all-left (later a (later b (later c (later d (later f (here g n)))))) =
         let p = passed-of w lent furnace cands a b c d f in
-        withdrawn-all w lent furnace cands p (rw (read w lent furnace cands p) at g)
+        withdrawn-all w lent furnace cands p u (rw (read w lent furnace cands p) at g)

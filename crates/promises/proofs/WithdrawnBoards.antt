@@ -28,6 +28,8 @@ use Rattle.dimacs.specs.Words.{upTo, since, wordsIn, numberOf, literalOf}
 use Rattle.dimacs.specs.Form.{pastComments, startsWith, countsIn, headerIn, clausesIn, parseText}
 use Rattle.dimacs.specs.Clauses.{oneOf, clauseFaults, clausesFaults}
 use Rattle.dimacs.specs.Reading.{textFaults, readFaults, readAnswer, readTable}
+use Rattle.stack.specs.Stacking.{stacked, goodStack, goodStacks}
+use Rattle.stack.specs.Steps.{openedWith, withdrawFaultsWith, withdrawnWith}
 use Rattle.promises.specs.Calls.{Call, opens, holds, withdraws, asksWhole, asksLeast, reads, Answer, ofChange, ofAsk, ofWithdrawal, answer, outcome, after}
 use Rattle.promises.proofs.Boards.{lent}
 use Rattle.promises.proofs.GroundBoards.{found, due}
@@ -118,5 +120,5 @@ boards =
     ∷ []
 
 withdrawn-boards-hold : map found boards ≡ map due boards
-unfolding outcome answer after opp value occurs symbolsOf hit implicate prime ofSize gives next reached ends least placeOf literalAt numbersAt ruleAt zeros rising rowSound ruleBefore ruleSound rowsSound decode rowsIn encode appended isFurnace heldBy withHeld premisesFit goodBoard openFaults opened flagFaults flagChanged askFaults askedWhole leastOn leastFaults leastAnswer upTo since wordsIn decimal numberOf literalOf pastComments startsWith countsIn headerIn clausesIn parseText oneOf clauseFaults clausesFaults textFaults readFaults readAnswer readTable
+unfolding outcome answer after opp value occurs symbolsOf hit implicate prime ofSize gives next reached ends least placeOf literalAt numbersAt ruleAt zeros rising rowSound ruleBefore ruleSound rowsSound decode rowsIn encode appended isFurnace heldBy withHeld premisesFit goodBoard openFaults opened openedWith stacked goodStack goodStacks withdrawFaultsWith withdrawnWith flagFaults flagChanged askFaults askedWhole leastOn leastFaults leastAnswer upTo since wordsIn decimal numberOf literalOf pastComments startsWith countsIn headerIn clausesIn parseText oneOf clauseFaults clausesFaults textFaults readFaults readAnswer readTable
 withdrawn-boards-hold = refl

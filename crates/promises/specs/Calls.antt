@@ -1,5 +1,5 @@
--- "After every sequence of calls": the calls with all that each is lent, and what they do to the board and the caller's table, by the
--- very definitions that the contracts of `board`, `positions`, `smallest`, `least`, `dimacs` and `text` cite.
+-- "After every sequence of calls": the calls with all that each is lent, and what they do to the board, the caller's table and the record of the
+-- stacks, by the very definitions that the contracts of `board`, `stack`, `positions`, `smallest`, `least`, `dimacs` and `text` cite.
 use Prim.Native.Nat.{ℕ}
 use mathlib.Core.Bool.{Bool, true, false, cond, not, _&&_}
 use mathlib.Core.List.{List, [], _∷_, _++_}
@@ -13,11 +13,13 @@ use Rattle.literals.specs.Literal.{placeOf}
 use Rattle.formula.specs.Parse.{wholeOf}
 use Rattle.formula.specs.Answers.{formulaOf}
 use Rattle.board.specs.Faults.{Fault, ifDone}
-use Rattle.board.specs.Changes.{openFaults, opened, holdFaults, held, withdrawFaults, withdrawn}
+use Rattle.board.specs.Changes.{openFaults, holdFaults, held}
 use Rattle.board.specs.Rules.{ruleFaults, ruled, ruledTable}
 use Rattle.board.specs.Settling.{settleFaults, settleOutcome, settledLabels, settledRanks, settledSupports}
 use Rattle.board.specs.Asking.{askFaults, asked, askedWhole, explainFaults, reasoned, Span, explained}
 use Rattle.board.specs.Grounds.{groundFaults, groundOutcome, groundMarks, blameFaults, blameOutcome, blameMarks}
+use Rattle.stack.specs.Stacking.{top, stackOf}
+use Rattle.stack.specs.Steps.{openedWith, withdrawFaultsWith, withdrawnWith, pushFaults, pushed, popFaults, popped}
 use Rattle.positions.specs.Entering.{entryFaults, entered, enteredTable}
 use Rattle.smallest.specs.Listing.{smallestFaults, smallestAnswer, smallestSets}
 use Rattle.least.specs.Withdrawing.{leastFaults, leastAnswer}
@@ -34,6 +36,8 @@ use Rattle.board.specs.declared.Outcome.the-variants.{Done, Refused}
 use Rattle.board.specs.declared.asking.Reason.{Reason}
 use Rattle.board.specs.declared.asking.Standing.{Standing}
 use Rattle.board.specs.declared.asking.Standing.the-variants.{Conflict, Stands, RuledOut, Open, Refused as Unasked}
+use Rattle.stack.specs.declared.Stacks.{Stacks}
+use Rattle.stack.specs.declared.Step.{Step}
 use Rattle.smallest.specs.declared.Listing.{Listing}
 use Rattle.least.specs.declared.Withdrawal.{Withdrawal}
 use Rattle.dimacs.specs.declared.writing.Writing.{Writing}
@@ -41,12 +45,13 @@ use Rattle.text.specs.declared.Spelling.{Spelling}
 
 -- Every call but open is lent the table "from its front": its first `lent` numbers, as many as the caller likes at each call. 02, Ticket 6: "Every
 -- call but open and adding a rule names a furnace", "DIMACS and formula calls name no furnace"; Ticket 10: "no furnace is named". The two calls of
--- Ticket 13 are one here, by what is entered: a position variable or a pair table.
+-- Ticket 13 are one here, by what is entered: a position variable or a pair table. Ticket 14: open, withdraw, push and pop are lent the one record.
 pub data Call : Type 0 where
   opens : (symbols : ℕ) → Call
   adds : (lent : ℕ) (bytes : List ℕ) → Call
   enters : (lent : ℕ) (e : Entry) → Call
-  holds withdraws asks asksWhole explains : (lent furnace : ℕ) (l : ℤ) → Call
+  holds withdraws pushes asks asksWhole explains : (lent furnace : ℕ) (l : ℤ) → Call
+  pops : (lent furnace : ℕ) → Call
   settles : (lent furnace : ℕ) (labels ranks supports : List ℕ) → Call
   grounds : (lent furnace : ℕ) (l : ℤ) (marks : List ℕ) → Call
   blames : (lent furnace : ℕ) (marks : List ℕ) → Call
@@ -58,10 +63,11 @@ pub data Call : Type 0 where
   addsText : (lent : ℕ) (text : List ℕ) → Call
   writesText : (lent : ℕ) (bytes out : List ℕ) → Call
 
--- the board and the whole table, "written by nobody else"
+-- the board, the whole table, "written by nobody else", and the record of both stacks
 pub record World : Type 0 where
   pub board : Board
   pub table : List ℤ
+  pub stacks : Stacks
 
 -- the front of the table, as a call is lent it
 abbrev pub front : World → ℕ → List ℤ
@@ -73,7 +79,9 @@ faults w (opens S) = openFaults S
 faults w (adds lent bytes) = ruleFaults (front w lent) (w .board) bytes
 faults w (enters lent e) = entryFaults (front w lent) (w .board) e
 faults w (holds lent furnace l) = holdFaults (front w lent) (w .board) furnace l
-faults w (withdraws lent furnace l) = withdrawFaults (front w lent) (w .board) furnace l
+faults w (withdraws lent furnace l) = withdrawFaultsWith (front w lent) (w .board) (w .stacks) furnace l
+faults w (pushes lent furnace l) = pushFaults (front w lent) (w .board) (w .stacks) furnace l
+faults w (pops lent furnace) = popFaults (front w lent) (w .board) (w .stacks) furnace
 faults w (asks lent furnace l) = askFaults (front w lent) (w .board) furnace l
 faults w (asksWhole lent furnace l) = askFaults (front w lent) (w .board) furnace l
 faults w (explains lent furnace l) = explainFaults (front w lent) (w .board) furnace l
@@ -113,11 +121,13 @@ pub data Answer : Type 0 where
   ofWithdrawal : Withdrawal → Answer
 
 unfoldable pub answer : World → Call → Answer
-answer w (opens S) = ofChange (opened S .outcome)
+answer w (opens S) = ofChange (openedWith S (w .stacks) .change .outcome)
 answer w (adds lent bytes) = let a = ruled (front w lent) (w .board) bytes in ofAddition (a .outcome) (a .place) (a .added)
 answer w (enters lent e) = let a = entered (front w lent) (w .board) e in ofAddition (a .outcome) (a .place) (a .added)
 answer w (holds lent furnace l) = ofChange (held (front w lent) (w .board) furnace l .outcome)
-answer w (withdraws lent furnace l) = ofChange (withdrawn (front w lent) (w .board) furnace l .outcome)
+answer w (withdraws lent furnace l) = ofChange (withdrawnWith (front w lent) (w .board) (w .stacks) furnace l .change .outcome)
+answer w (pushes lent furnace l) = ofChange (pushed (front w lent) (w .board) (w .stacks) furnace l .change .outcome)
+answer w (pops lent furnace) = ofChange (popped (front w lent) (w .board) (w .stacks) furnace .change .outcome)
 answer w (asks lent furnace l) = ofAsk (asked (front w lent) (w .board) furnace l)
 answer w (asksWhole lent furnace l) = ofAsk (askedWhole (front w lent) (w .board) furnace l)
 answer w (explains lent furnace l) = ofExplain (reasoned (front w lent) (w .board) furnace l) (explained (front w lent) (w .board) furnace l)
@@ -158,21 +168,29 @@ outcomeOf (ofWithdrawal a) = a .outcome
 unfoldable pub outcome : World → Call → Outcome
 outcome w c = outcomeOf (answer w c)
 
+-- a call that is lent the record leaves its own board and record
+abbrev pub stepTo : World → Step → World
+stepTo w s = record { board = s .change .board; table = w .table; stacks = s .stacks }
+
 -- "In a sequence of calls each is given the board that the one before handed back."
 unfoldable pub after : World → Call → World
-after w (opens S) = record { board = opened S .board; table = w .table }
+after w (opens S) = stepTo w (openedWith S (w .stacks))
 after w (adds lent bytes) =
     record {
       board = ruled (front w lent) (w .board) bytes .board;
       table = ruledTable (front w lent) (w .board) bytes ++ drop lent (w .table);
+      stacks = w .stacks;
     }
 after w (enters lent e) =
     record {
       board = entered (front w lent) (w .board) e .board;
       table = enteredTable (front w lent) (w .board) e ++ drop lent (w .table);
+      stacks = w .stacks;
     }
-after w (holds lent furnace l) = record { board = held (front w lent) (w .board) furnace l .board; table = w .table }
-after w (withdraws lent furnace l) = record { board = withdrawn (front w lent) (w .board) furnace l .board; table = w .table }
+after w (holds lent furnace l) = record { board = held (front w lent) (w .board) furnace l .board; table = w .table; stacks = w .stacks }
+after w (withdraws lent furnace l) = stepTo w (withdrawnWith (front w lent) (w .board) (w .stacks) furnace l)
+after w (pushes lent furnace l) = stepTo w (pushed (front w lent) (w .board) (w .stacks) furnace l)
+after w (pops lent furnace) = stepTo w (popped (front w lent) (w .board) (w .stacks) furnace)
 after w (asks lent furnace l) = w
 after w (asksWhole lent furnace l) = w
 after w (explains lent furnace l) = w
@@ -185,6 +203,7 @@ after w (reads lent text) =
     record {
       board = readAnswer (front w lent) (w .board) text .board;
       table = readTable (front w lent) (w .board) text ++ drop lent (w .table);
+      stacks = w .stacks;
     }
 after w (writes lent out) = w
 after w (readsText lent text out) = w
@@ -192,6 +211,7 @@ after w (addsText lent text) =
     record {
       board = ruledText (front w lent) (w .board) text .board;
       table = ruledTextTable (front w lent) (w .board) text ++ drop lent (w .table);
+      stacks = w .stacks;
     }
 after w (writesText lent bytes out) = w
 
@@ -218,6 +238,8 @@ rulesAfter w fs (adds lent bytes) = ifDone (outcome w (adds lent bytes)) (fs ++ 
 rulesAfter w fs (enters lent e) = ifDone (outcome w (enters lent e)) (fs ++ formulaeOf e) (λ _. fs)
 rulesAfter w fs (holds lent furnace l) = fs
 rulesAfter w fs (withdraws lent furnace l) = fs
+rulesAfter w fs (pushes lent furnace l) = fs
+rulesAfter w fs (pops lent furnace) = fs
 rulesAfter w fs (asks lent furnace l) = fs
 rulesAfter w fs (asksWhole lent furnace l) = fs
 rulesAfter w fs (explains lent furnace l) = fs
@@ -244,6 +266,8 @@ notOpen (adds lent bytes) = true
 notOpen (enters lent e) = true
 notOpen (holds lent furnace l) = true
 notOpen (withdraws lent furnace l) = true
+notOpen (pushes lent furnace l) = true
+notOpen (pops lent furnace) = true
 notOpen (asks lent furnace l) = true
 notOpen (asksWhole lent furnace l) = true
 notOpen (explains lent furnace l) = true
@@ -267,6 +291,8 @@ entryOf (adds lent bytes) = []
 entryOf (enters lent e) = e ∷ []
 entryOf (holds lent furnace l) = []
 entryOf (withdraws lent furnace l) = []
+entryOf (pushes lent furnace l) = []
+entryOf (pops lent furnace) = []
 entryOf (asks lent furnace l) = []
 entryOf (asksWhole lent furnace l) = []
 entryOf (explains lent furnace l) = []
@@ -298,6 +324,8 @@ names f (adds lent bytes) = false
 names f (enters lent e) = false
 names f (holds lent furnace l) = eqb furnace f
 names f (withdraws lent furnace l) = eqb furnace f
+names f (pushes lent furnace l) = eqb furnace f
+names f (pops lent furnace) = eqb furnace f
 names f (asks lent furnace l) = eqb furnace f
 names f (asksWhole lent furnace l) = eqb furnace f
 names f (explains lent furnace l) = eqb furnace f
@@ -312,13 +340,15 @@ names f (readsText lent text out) = false
 names f (addsText lent text) = false
 names f (writesText lent bytes out) = false
 
--- the call changes premises: it is a hold or a withdraw
+-- the call changes premises: it is a hold, a withdraw, a push or a pop
 abbrev pub changes : Call → Bool
 changes (opens S) = false
 changes (adds lent bytes) = false
 changes (enters lent e) = false
 changes (holds lent furnace l) = true
 changes (withdraws lent furnace l) = true
+changes (pushes lent furnace l) = true
+changes (pops lent furnace) = true
 changes (asks lent furnace l) = false
 changes (asksWhole lent furnace l) = false
 changes (explains lent furnace l) = false
@@ -340,6 +370,8 @@ brings f (adds lent bytes) = true
 brings f (enters lent e) = true
 brings f (holds lent furnace l) = eqb furnace f
 brings f (withdraws lent furnace l) = false
+brings f (pushes lent furnace l) = eqb furnace f
+brings f (pops lent furnace) = false
 brings f (asks lent furnace l) = false
 brings f (asksWhole lent furnace l) = false
 brings f (explains lent furnace l) = false
@@ -354,27 +386,29 @@ brings f (readsText lent text out) = false
 brings f (addsText lent text) = true
 brings f (writesText lent bytes out) = false
 
--- the call, if it is done, takes the premise at the place h from this furnace
-abbrev pub takes : (furnace h : ℕ) → Call → Bool
-takes f h (opens S) = true
-takes f h (adds lent bytes) = false
-takes f h (enters lent e) = false
-takes f h (holds lent furnace l) = false
-takes f h (withdraws lent furnace l) = eqb furnace f && eqb (placeOf l) h
-takes f h (asks lent furnace l) = false
-takes f h (asksWhole lent furnace l) = false
-takes f h (explains lent furnace l) = false
-takes f h (settles lent furnace labels ranks supports) = false
-takes f h (grounds lent furnace l marks) = false
-takes f h (blames lent furnace marks) = false
-takes f h (lists lent cands l sets) = false
-takes f h (asksLeast lent furnace cands) = false
-takes f h (reads lent text) = false
-takes f h (writes lent out) = false
-takes f h (readsText lent text out) = false
-takes f h (addsText lent text) = false
-takes f h (writesText lent bytes out) = false
+-- the call, if it is done, takes the premise at the place h from this furnace; a pop takes the top of its stack
+abbrev pub takes : World → (furnace h : ℕ) → Call → Bool
+takes w f h (opens S) = true
+takes w f h (adds lent bytes) = false
+takes w f h (enters lent e) = false
+takes w f h (holds lent furnace l) = false
+takes w f h (withdraws lent furnace l) = eqb furnace f && eqb (placeOf l) h
+takes w f h (pushes lent furnace l) = false
+takes w f h (pops lent furnace) = eqb furnace f && eqb (placeOf (top (stackOf (w .stacks) furnace))) h
+takes w f h (asks lent furnace l) = false
+takes w f h (asksWhole lent furnace l) = false
+takes w f h (explains lent furnace l) = false
+takes w f h (settles lent furnace labels ranks supports) = false
+takes w f h (grounds lent furnace l marks) = false
+takes w f h (blames lent furnace marks) = false
+takes w f h (lists lent cands l sets) = false
+takes w f h (asksLeast lent furnace cands) = false
+takes w f h (reads lent text) = false
+takes w f h (writes lent out) = false
+takes w f h (readsText lent text out) = false
+takes w f h (addsText lent text) = false
+takes w f h (writesText lent bytes out) = false
 
--- the calls without the holds and withdraws for this furnace
+-- the calls without those that change premises for this furnace
 abbrev pub without : (furnace : ℕ) → List Call → List Call
 without furnace calls = keep (λ c. not (changes c && names furnace c)) calls

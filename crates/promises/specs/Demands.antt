@@ -6,7 +6,7 @@ use mathlib.Core.List.{List, [], _∷_, _++_, map, List·Memᴰ as In}
 use Prim.Native.Nat.{ℕ, suc, _+_, _-_, _*_, _^_, _≤_, _<_}
 use lib.Dec.{leb}
 use lib.IntN.{ℤ, pos, negsuc, natAbs}
-use lib.ListN.{length, take, drop, getD}
+use lib.ListN.{length, take, drop, getD, set, replicate}
 use Rattle.meaning.specs.Tests.{all}
 use Rattle.meaning.specs.BySize.{BySize, EachBefore}
 use Rattle.meaning.specs.Literals.{place, opp, has, conflict}
@@ -27,7 +27,7 @@ use Rattle.formula.specs.Parse.{good, wholeOf}
 use Rattle.formula.specs.Answers.{isGood as isFormula, formulaOf}
 use Rattle.board.specs.Furnaces.{heldBy}
 use Rattle.board.specs.Faults.{Fault, firstFault, numberIn, goodBoard}
-use Rattle.board.specs.Changes.{emptyBoard, withFlag}
+use Rattle.board.specs.Changes.{emptyBoard, withFlag, withdrawn}
 use Rattle.board.specs.Rules.{noPlace, ruled}
 use Rattle.board.specs.Settling.{settledLabels, settledRanks, settledSupports, RanksBounded}
 use Rattle.board.specs.Ranking.{rowsOn, derivedOn, rankOn, supportOn}
@@ -36,6 +36,7 @@ use Rattle.board.specs.Grounds.{byteOf, groundMarks, blameMarks}
 use Rattle.board.specs.declared.Outcome.the-variants.{Done, Refused}
 use Rattle.board.specs.declared.asking.Standing.{Standing}
 use Rattle.board.specs.declared.asking.Standing.the-variants.{Conflict, Stands, RuledOut, Open}
+use Rattle.stack.specs.Stacking.{onStack, top, onTop, lessTop, emptyStacks, stackOf, withStack, stacked, goodStacks}
 use Rattle.positions.specs.Entering.{entered}
 use Rattle.candidates.specs.Given.{placesOf, repeats}
 use Rattle.smallest.specs.Listing.{smallestOn, smallestAnswer, smallestSets}
@@ -49,8 +50,8 @@ use Rattle.chains.specs.Promises.{Says, Offends}
 use Rattle.text.specs.Reading.{bytesIn, readTextAnswer, readTextBytes}
 use Rattle.text.specs.Adding.{ruledText}
 use Rattle.text.specs.Writing.{textIn, writeTextAnswer, writeTextBytes}
-use Rattle.promises.specs.Calls.{Call, opens, adds, enters, holds, withdraws, asks, asksWhole, explains, settles, grounds, blames, lists, asksLeast, reads, writes, readsText, addsText, writesText}
-use Rattle.promises.specs.Calls.{World, front, faults, outcome, after, run, Each, formulaIn, rulesAfterAll, entriesAfterAll, notOpen, names, brings, takes, without, Answer, ofAsk, answer}
+use Rattle.promises.specs.Calls.{Call, opens, adds, enters, holds, withdraws, pushes, pops, asks, asksWhole, explains, settles, grounds, blames, lists, asksLeast, reads, writes, readsText, addsText, writesText}
+use Rattle.promises.specs.Calls.{World, front, faults, outcome, after, run, Each, formulaIn, rulesAfterAll, entriesAfterAll, notOpen, names, changes, brings, takes, without, Answer, ofAsk, answer}
 
 -- ---- demand 1: "Each refusal is given exactly in the case document 01 names, and leaves each table untouched."
 
@@ -67,10 +68,10 @@ RefusedExactly = (w : World) (c : Call) (number : ℕ) → 0 < number → (numbe
 abbrev pub DoneExactly : Type 0
 DoneExactly = (w : World) (c : Call) → (outcome w c ≡ Done) ↔ ((f : Fault) → In f (faults w c) → f .given ≡ false)
 
--- what a refused call leaves: board and table as they were, "except that a refused open returns a board with S = 0, no rows in use
+-- what a refused call leaves: board, table and record as they were, "except that a refused open returns a board with S = 0, no rows in use
 -- and no premises". 02, Ticket 8: "every open, a refused one too, sets the count to 0"
 abbrev pub asBefore : World → Call → World
-asBefore w c = cond (notOpen c) w (record { board = emptyBoard 0; table = w .table })
+asBefore w c = cond (notOpen c) w (record { board = emptyBoard 0; table = w .table; stacks = w .stacks })
 
 abbrev pub RefusedUntouched : Type 0
 RefusedUntouched = (w : World) (c : Call) (why : Refusal) → outcome w c ≡ Refused why → after w c ≡ asBefore w c
@@ -184,21 +185,45 @@ WriteTextPlaces =
 -- ---- demand 2: what the calls leave
 
 -- "A good open touches no row; rows in use and premises start empty." 02, Ticket 6: "opening empties both sets"; and Ticket 8: "every open, a refused
--- one too, sets the count to 0"
+-- one too, sets the count to 0"; Ticket 14: "a good open empties the stacks"
 abbrev pub OpenLeaves : Type 0
-OpenLeaves = (w : World) (S : ℕ) → outcome w (opens S) ≡ Done → after w (opens S) ≡ record { board = emptyBoard S; table = w .table }
+OpenLeaves =
+    (w : World) (S : ℕ) → outcome w (opens S) ≡ Done
+    → after w (opens S) ≡ record { board = emptyBoard S; table = w .table; stacks = emptyStacks }
 
 -- "A good hold puts its literal into the premises, a good withdraw takes it out, and neither changes anything else in the board": the premises of
 -- the furnace that is named
 abbrev pub HoldPuts : Type 0
 HoldPuts =
     (w : World) (lent furnace : ℕ) (l : ℤ) → outcome w (holds lent furnace l) ≡ Done
-    → after w (holds lent furnace l) ≡ record { board = withFlag (w .board) furnace l true; table = w .table }
+    → after w (holds lent furnace l) ≡ record { board = withFlag (w .board) furnace l true; table = w .table; stacks = w .stacks }
 
 abbrev pub WithdrawTakes : Type 0
 WithdrawTakes =
     (w : World) (lent furnace : ℕ) (l : ℤ) → outcome w (withdraws lent furnace l) ≡ Done
-    → after w (withdraws lent furnace l) ≡ record { board = withFlag (w .board) furnace l false; table = w .table }
+    → after w (withdraws lent furnace l) ≡ record { board = withFlag (w .board) furnace l false; table = w .table; stacks = w .stacks }
+
+-- 02, Ticket 14: "push holds a literal and puts it on top,
+abbrev pub PushPuts : Type 0
+PushPuts =
+    (w : World) (lent furnace : ℕ) (l : ℤ) → outcome w (pushes lent furnace l) ≡ Done
+    → after w (pushes lent furnace l)
+    ≡ record {
+      board = withFlag (w .board) furnace l true;
+      table = w .table;
+      stacks = withStack (w .stacks) furnace (onTop (stackOf (w .stacks) furnace) l);
+    }
+
+-- pop withdraws the top", and neither changes anything else
+abbrev pub PopTakes : Type 0
+PopTakes =
+    (w : World) (lent furnace : ℕ) → outcome w (pops lent furnace) ≡ Done
+    → after w (pops lent furnace)
+    ≡ record {
+      board = withFlag (w .board) furnace (top (stackOf (w .stacks) furnace)) false;
+      table = w .table;
+      stacks = withStack (w .stacks) furnace (lessTop (stackOf (w .stacks) furnace));
+    }
 
 -- the premises that a furnace holds
 abbrev pub premisesOf : World → (furnace : ℕ) → List Bool
@@ -224,6 +249,7 @@ pub record Appends (w next : World) (rules : ℕ) (new : List Ruled) (added : �
   -- "adding a rule changes neither S nor the premises", those of both furnaces
   pub symbols : next .board .symbols ≡ w .board .symbols
   pub premises : (furnace : ℕ) → premisesOf next furnace ≡ premisesOf w furnace
+  pub stacks : next .stacks ≡ w .stacks
   -- "a good call writes only the places named for it": those of the new rows
   pub before : take (width * w .board .rows) (next .table) ≡ take (width * w .board .rows) (w .table)
   pub beyond : drop (width * (w .board .rows + length new)) (next .table) ≡ drop (width * (w .board .rows + length new)) (w .table)
@@ -396,7 +422,7 @@ BlameAlone =
 
 -- the call is no open, and if it is done it takes none of these premises from this furnace
 abbrev pub Spares : (furnace : ℕ) → (premises : ℕ → Type 0) → World → Call → Type 0
-Spares furnace premises w c = (notOpen c ≡ true) × ((h : ℕ) → premises h → outcome w c ≡ Done → takes furnace h c ≡ false)
+Spares furnace premises w c = (notOpen c ≡ true) × ((h : ℕ) → premises h → outcome w c ≡ Done → takes w furnace h c ≡ false)
 
 -- so the furnace stays in conflict, whatever rules are added and premises held or withdrawn for either furnace, until one of those is withdrawn for
 -- it or the board is opened anew
@@ -459,21 +485,23 @@ TextRoundTrip =
 
 -- ---- 02, Ticket 6: "Holding and withdrawing for one furnace change no answer of the other, refusals 10 to 12 included."
 
--- all but the premises of this furnace is the same
+-- all but the premises of this furnace and its stack is the same
 pub record Alike (furnace : ℕ) (v u : World) : Type 0 where
   pub table : v .table ≡ u .table
   pub symbols : v .board .symbols ≡ u .board .symbols
   pub rows : v .board .rows ≡ u .board .rows
   pub rules : v .board .rules ≡ u .board .rules
   pub premises : (other : ℕ) → other ≢ furnace → premisesOf v other ≡ premisesOf u other
+  pub stack : (other : ℕ) → other ≢ furnace → stackOf (v .stacks) other ≡ stackOf (u .stacks) other
 
--- Of any sequence of calls, leave out every hold and withdraw for one furnace, wherever they stand. Then every call that does not name that furnace
--- (it names the other, a number of no furnace, or none) is answered the same, writes the same, and leaves all the same but that furnace's premises.
+-- Whatever went before, an open, and then any sequence of calls: leave out of it every hold, withdraw, push and pop for one furnace, wherever they
+-- stand. Then every call that does not name that furnace (it names the other, a number of no furnace, or none) is answered the same, writes the same,
+-- and leaves all the same but that furnace's premises and stack.
 abbrev pub FurnacesApart : Type 0
 FurnacesApart =
-    (w : World) (furnace : ℕ) (calls : List Call) (c : Call) → names furnace c ≡ false
-    → let v = run w (without furnace calls) in
-    let u = run w calls in
+    (w₀ : World) (S furnace : ℕ) (calls : List Call) (c : Call) → names furnace c ≡ false
+    → let v = run w₀ (opens S ∷ without furnace calls) in
+    let u = run w₀ (opens S ∷ calls) in
     (answer v c ≡ answer u c) × Alike furnace (after v c) (after u c)
 
 -- ---- demand 3
@@ -767,24 +795,29 @@ pub record Withdrawn (w : World) (lent furnace : ℕ) (gone : List ℤ) (left : 
   pub good : Each (λ v c. outcome v c ≡ Done) w (withdrawEach lent furnace gone)
   pub in-conflict : conflict (derivedSet (run w (withdrawEach lent furnace gone)) furnace) ≡ left
 
+-- 02, Ticket 14: no withdrawal of these is refused for the sake of the record
+pub record Unstacked (w : World) (furnace : ℕ) (gone : List ℤ) : Type 0 where
+  pub good : goodStacks (w .board) (w .stacks) ≡ true
+  pub free : (l : ℤ) → In l gone → stacked (w .stacks) furnace l ≡ false
+
 -- once exactly the set's candidates are withdrawn, one after the other, there is no conflict;
 abbrev pub SetEnds : Type 0
 SetEnds =
-    (w : World) (lent furnace : ℕ) (cands : List ℤ) → outcome w (asksLeast lent furnace cands) ≡ Done
+    (w : World) (lent furnace : ℕ) (cands : List ℤ) → outcome w (asksLeast lent furnace cands) ≡ Done → Unstacked w furnace cands
     → Withdrawn w lent furnace (chosen cands (leastSet w lent furnace cands)) false
 
 -- nor if they are in any order, and other candidates with them: any that are different, with all of the set's among them
 abbrev pub MoreEnds : Type 0
 MoreEnds =
-    (w : World) (lent furnace : ℕ) (cands gone : List ℤ) → outcome w (asksLeast lent furnace cands) ≡ Done → repeats (placesOf gone) ≡ false
-    → ((l : ℤ) → In l gone → In l cands) → ((l : ℤ) → In l (chosen cands (leastSet w lent furnace cands)) → In l gone)
+    (w : World) (lent furnace : ℕ) (cands gone : List ℤ) → outcome w (asksLeast lent furnace cands) ≡ Done → Unstacked w furnace cands
+    → repeats (placesOf gone) ≡ false → ((l : ℤ) → In l gone → In l cands) → ((l : ℤ) → In l (chosen cands (leastSet w lent furnace cands)) → In l gone)
     → Withdrawn w lent furnace gone false
 
 -- once the candidates of a smaller set are withdrawn, one after the other, or those of one of equal size with a smaller number, the conflict is left
 abbrev pub SmallerLeaves : Type 0
 SmallerLeaves =
-    (w : World) (lent furnace : ℕ) (cands : List ℤ) (a : ℕ) → outcome w (asksLeast lent furnace cands) ≡ Done → a < 2 ^ length cands
-    → BySize (size (length cands)) (λ x y. x < y) a (leastSet w lent furnace cands)
+    (w : World) (lent furnace : ℕ) (cands : List ℤ) (a : ℕ) → outcome w (asksLeast lent furnace cands) ≡ Done → Unstacked w furnace cands
+    → a < 2 ^ length cands → BySize (size (length cands)) (λ x y. x < y) a (leastSet w lent furnace cands)
     → Withdrawn w lent furnace (chosen cands a) true
 
 -- "18 exactly when withdrawing all of them leaves the conflict": where the call is refused so it is left, and where it is done it is not. (That the
@@ -794,7 +827,7 @@ pub record Stays (w : World) (lent furnace : ℕ) (cands : List ℤ) : Type 0 wh
   pub done : outcome w (asksLeast lent furnace cands) ≡ Done → Withdrawn w lent furnace cands false
 
 abbrev pub StaysExactly : Type 0
-StaysExactly = (w : World) (lent furnace : ℕ) (cands : List ℤ) → Stays w lent furnace cands
+StaysExactly = (w : World) (lent furnace : ℕ) (cands : List ℤ) → Unstacked w furnace cands → Stays w lent furnace cands
 
 -- ---- 02, Ticket 13: "Valves with several positions."
 
@@ -846,3 +879,87 @@ abbrev pub StaysGood : Type 0
 StaysGood =
     (w₀ : World) (S : ℕ) (calls : List Call) → leb 1 S && leb S 200 ≡ true → all notOpen calls ≡ true
     → let w = since w₀ S calls in goodBoard (w .table) (w .board) ≡ true
+
+-- ---- 02, Ticket 14: "Try a reading and take it back."
+
+-- what is so of every world since a good open, the calls being no opens: the one record is lent to every call, and written by nobody else
+abbrev pub AlwaysSince : (World → Type 0) → Type 0
+AlwaysSince So =
+    (w₀ : World) (S : ℕ) (calls : List Call) → leb 1 S && leb S 200 ≡ true → all notOpen calls ≡ true → So (since w₀ S calls)
+
+-- Refusal 1 is "also .. when either stack has more than 2S literals, a repeated one or one its furnace doesn't hold": no caller who lends the record
+-- to each call meets it
+abbrev pub StacksStayGood : Type 0
+StacksStayGood = AlwaysSince (λ w. goodStacks (w .board) (w .stacks) ≡ true)
+
+-- what is stacked is held
+abbrev pub StackedHeld : Type 0
+StackedHeld =
+    AlwaysSince (λ w. (furnace : ℕ) (l : ℤ) → In l (onStack (stackOf (w .stacks) furnace)) → has (premisesOf w furnace) (placeOf l) ≡ true)
+
+-- and beyond the stacks there are zeros
+abbrev pub ZerosBeyond : Type 0
+ZerosBeyond =
+    AlwaysSince
+    (λ w. (furnace : ℕ) → let s = stackOf (w .stacks) furnace in drop (s .count) (s .literals) ≡ replicate (400 - s .count) (pos 0))
+
+-- "A stacked premise can't be withdrawn except by pop": a call that is done, and no open, and takes a stacked premise from its furnace is a pop
+abbrev pub OnlyPop : Type 0
+OnlyPop =
+    (w : World) (c : Call) (furnace : ℕ) (l : ℤ) → outcome w c ≡ Done → notOpen c ≡ true → stacked (w .stacks) furnace l ≡ true
+    → takes w furnace (placeOf l) c ≡ true → (lent : ℕ) × (c ≡ pops lent furnace)
+
+-- "After a pop the labels are those of the premises still held and the rules then in the table": v is w with the top of the furnace's stack
+-- withdrawn, for it alone, and what settle writes, for either furnace, is of v. (For any board, table and record, so after every sequence too.)
+pub record StillHeld (w v : World) (furnace : ℕ) : Type 0 where
+  pub table : v .table ≡ w .table
+  pub symbols : v .board .symbols ≡ w .board .symbols
+  pub rows : v .board .rows ≡ w .board .rows
+  pub own : premisesOf v furnace ≡ set (premisesOf w furnace) (placeOf (top (stackOf (w .stacks) furnace))) false
+  pub others : (other : ℕ) → furnace ≢ other → premisesOf v other ≡ premisesOf w other
+  pub settle : (lent named : ℕ) (labels ranks supports : List ℕ) → outcome v (settles lent named labels ranks supports) ≡ Done
+      → Tells v named (settledLabels (front v lent) (v .board) named labels ranks supports)
+      (settledRanks (front v lent) (v .board) named labels ranks supports)
+      (settledSupports (front v lent) (v .board) named labels ranks supports)
+
+abbrev pub PopTells : Type 0
+PopTells = (w : World) (lent furnace : ℕ) → outcome w (pops lent furnace) ≡ Done → StillHeld w (after w (pops lent furnace)) furnace
+
+-- calls that push and pop evenly for this furnace, where so many of its tries are begun and not yet taken back; whatever else they do, they open no
+-- board, and hold and withdraw for the other furnace alone
+pub data Even (furnace : ℕ) : (begun : ℕ) → World → List Call → Type 0 where
+  over : {w : World} → Even furnace 0 w []
+  begin : {w : World} {begun : ℕ} {calls : List Call} (lent : ℕ) (l : ℤ) → outcome w (pushes lent furnace l) ≡ Done
+      → Even furnace (suc begun) (after w (pushes lent furnace l)) calls → Even furnace begun w (pushes lent furnace l ∷ calls)
+  back : {w : World} {begun : ℕ} {calls : List Call} (lent : ℕ) → outcome w (pops lent furnace) ≡ Done
+      → Even furnace begun (after w (pops lent furnace)) calls → Even furnace (suc begun) w (pops lent furnace ∷ calls)
+  other : {w : World} {begun : ℕ} {calls : List Call} (c : Call) → notOpen c ≡ true → (outcome w c ≡ Done → changes c && names furnace c ≡ false)
+      → Even furnace begun (after w c) calls → Even furnace begun w (c ∷ calls)
+
+-- a furnace holds what it held, and its stack is what it was
+pub record GivenBack (w v : World) (furnace : ℕ) : Type 0 where
+  pub premises : premisesOf v furnace ≡ premisesOf w furnace
+  pub stack : stackOf (v .stacks) furnace ≡ stackOf (w .stacks) furnace
+
+-- after a good open and any calls, even ones give back the premises and the stack,
+abbrev pub EvenGivesBack : Type 0
+EvenGivesBack = AlwaysSince (λ w. (furnace : ℕ) (calls : List Call) → Even furnace 0 w calls → GivenBack w (run w calls) furnace)
+
+-- and so do a push, even calls and then its pop: nested tries are taken back in their order, whatever rules are added in between
+abbrev pub TryGivesBack : Type 0
+TryGivesBack =
+    AlwaysSince
+    (λ w.
+    (furnace lent some : ℕ) (l : ℤ) (calls : List Call) → outcome w (pushes lent furnace l) ≡ Done
+    → let tried = after w (pushes lent furnace l) in
+    let before = run tried calls in
+    Even furnace 0 tried calls → outcome before (pops some furnace) ≡ Done
+    → (top (stackOf (before .stacks) furnace) ≡ l) × GivenBack w (after before (pops some furnace)) furnace)
+
+-- For a caller that never stacks nothing is new: lent a record with nothing on either stack, withdraw answers and leaves as 01 has it
+abbrev pub NeverStacked : Type 0
+NeverStacked =
+    (w : World) (lent furnace : ℕ) (l : ℤ) → w .stacks .first .count ≡ 0 → w .stacks .second .count ≡ 0
+    → (outcome w (withdraws lent furnace l) ≡ withdrawn (front w lent) (w .board) furnace l .outcome)
+    × (after w (withdraws lent furnace l)
+    ≡ record { board = withdrawn (front w lent) (w .board) furnace l .board; table = w .table; stacks = w .stacks })

@@ -1,17 +1,32 @@
--- `tup_withdraw` meets its contract: it is the board's `withdraw`, whose board is as narrow as the given one.
-use borrow.Author.Needs.{needs}
-use native.Mathlib.Omega.{arith}
-use mir.Facts.{toZ-ofZ}
-use Rattle.panel.proofs.Narrow.{narrow-withdrawn}
+-- `panel::tup_withdraw` meets its contract: the walk of `LentLiteral` at `withdraw_step`.
+-- Its MIR and its contract are those of the walk, as they compute.
+use Prim.Native.Nat.{ℕ}
+use mathlib.Core.List.{List}
+use lib.IntN.{ℤ}
+use contract.Running.{givenOf, tables, tablesOf}
+use denote.Triple.Spec.{tripleOf}
+use denote.Triple.Table.{entered, cited}
+use Rattle.stack.specs.declared.Stacks.{Stacks}
+use Rattle.stack.specs.Steps.{withdrawnWith}
+use Rattle.panel.specs.Crossing.{boardIn, stepOut}
+use Rattle.panel.specs.declared.PanelBoard.{PanelBoard}
+use Rattle.panel.specs.declared.steps.PanelStep.{PanelStep}
+use Rattle.panel.proofs.LentLiteral.{Work, meets}
+use Rattle.panel.proofs.steps.withdraw_step.Symbol as callee
+use Rattle.panel.proofs.steps.withdraw_step.Met.{met}
+use Rattle.panel.proofs.tup_withdraw as own
+use Rattle.panel.proofs.tup_withdraw.Key as key
+use Rattle.panel.proofs.tup_withdraw.Code as code
 use Rattle.panel.proofs.tup_withdraw.Statement.{statement}
-use Rattle.panel.proofs.tup_withdraw.Tie as tie
 
-change-out-requires : tie.Need-change-out-requires
-change-out-requires c κs = rw (c .withdraw .ensures, c .before .board-in .ensures) (narrow-withdrawn _ _ (record { symbols = omega arith; rows = omega arith; rules = omega arith }) _ _)
-
-returns : tie.Need-returns
-returns c = rw (← c .before .before .board-in .ensures, ← toZ-ofZ (c .before .before .before .fits .l), ← c .before .withdraw .ensures) (c .change-out .ensures)
+-- what the contract of `withdraw_step` says
+abbrev answer : List ℤ → PanelBoard → Stacks → ℕ → ℤ → PanelStep
+answer table given s furnace l = stepOut given (withdrawnWith table (boardIn given) s furnace l)
 
 pub tup-withdraw-spec : {M : Type 1} → statement M
-tup-withdraw-spec =
-    tie.close (tie.spec (λ c κs. search needs) (λ c κs. search needs) change-out-requires returns)
+unfolding code.routine tablesOf
+tup-withdraw-spec 𝓤 H 𝓜 𝓖 𝓡 =
+    entered 𝓤 H (tripleOf 𝓤 H (𝓖 .A) own.signature (own.spec 𝓤 H (𝓖 .A) (𝓜 .mem) (𝓡 .run)))
+    (tables 𝓤 H 𝓜 𝓡 code.env .C) (tables 𝓤 H 𝓜 𝓡 code.env .Λ) key.name code.function (code.unfolded 𝓤 H 𝓜 𝓡)
+    (meets answer callee.name 𝓤 H (𝓖 .A) (givenOf 𝓤 H 𝓜 𝓖) (tablesOf 𝓤 H 𝓜 (tables 𝓤 H 𝓜 𝓡 code.env))
+    (cited 𝓤 H (Work answer callee.name 𝓤 H (𝓖 .A)) 𝓜 𝓡 code.env callee.name callee.routine code.calls-panel·steps·withdraw-step (met 𝓤 H 𝓜 𝓖 𝓡)))

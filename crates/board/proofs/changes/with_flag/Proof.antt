@@ -1,9 +1,9 @@
--- `furnaces::with_flag` meets its contract.
+-- `changes::with_flag` meets its contract.
 use borrow.Author.Tests.{ne-eqb}
 use native.Mathlib.Omega.{arith}
 use Rattle.board.specs.Furnaces.{heldBy, withHeld}
-use Rattle.board.proofs.furnaces.with_flag.Statement.{statement}
-use Rattle.board.proofs.furnaces.with_flag.Tie as tie
+use Rattle.board.proofs.changes.with_flag.Statement.{statement}
+use Rattle.board.proofs.changes.with_flag.Tie as tie
 
 returns : tie.Need-returns
 unfolding heldBy withHeld
