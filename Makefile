@@ -8,12 +8,13 @@ KIT := set -euo pipefail; . tools/kit.sh;
 ARCHIVE := target/staticlib/libpanel.a
 PANEL ?= $(ARCHIVE)
 
-.PHONY: help test run lib install demo valves tries second bench peer peer-needs clean
+.PHONY: help test run desk lib install demo valves tries second bench peer peer-needs clean
 .DELETE_ON_ERROR:
 
 help:
 	@echo 'make test                     the gate: every proof from nothing, then the tests'
 	@echo 'make run                      prove and build the journal, and run it on an example'
+	@echo 'make desk                     prove and build the desk, and run the night of the March case, typed by a shift leader'
 	@echo 'make lib                      prove the C boundary and write $(ARCHIVE)'
 	@echo 'make install PREFIX=DIR       put the header, the archive and a pkg-config file in place'
 	@echo 'make demo                     the trend screen of a night shift, drawn to target/trend.svg'
@@ -29,6 +30,9 @@ test:
 
 run:
 	@set -o pipefail; examples/hex examples/cases/printed/input.hex | ./run journal
+
+desk:
+	@./run desk <examples/desk/march.txt
 
 lib: $(ARCHIVE)
 	@echo 'the archive is $(ARCHIVE)'

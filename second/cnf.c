@@ -66,7 +66,7 @@ static void draw_text(Page *page, uint64_t n) {
 static bool write_one(const char *directory, uint64_t seed, uint64_t n) {
     static Page page;
     Random random = random_for(seed, n);
-    FILE *in = open_numbered(directory, n, "in"), *out = open_numbered(directory, n, "out"), *err = open_numbered(directory, n, "err");
+    FILE *in = open_numbered(directory, n, 3, "in"), *out = open_numbered(directory, n, 3, "out"), *err = open_numbered(directory, n, 3, "err");
     if (in == NULL || out == NULL || err == NULL) return false;
     page.random = &random;
     draw_text(&page, n);

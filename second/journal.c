@@ -366,7 +366,7 @@ static bool are_printed(FILE *out) {
 int write_journals(const char *directory, uint64_t seed, uint64_t count) {
     static Script script;
     for (uint64_t n = 0; n < count; n++) {
-        FILE *in = open_numbered(directory, n, "in"), *out = open_numbered(directory, n, "out");
+        FILE *in = open_numbered(directory, n, 3, "in"), *out = open_numbered(directory, n, 3, "out");
         if (in == NULL || out == NULL) return 2;
         write_script(&script, seed, n);
         fwrite(script.bytes, 1, script.length, in);

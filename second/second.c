@@ -1,14 +1,16 @@
 /* The independent second program of Tupahineka: random sequences of calls, the library against the documents by brute force.
  *
- * Written from document 01, Tickets 1, 2 and 4 to 14 of document 02, the project's exact readings of Tickets 5, 6, 8 to 11 and 14, and
- * include/tupahineka.h alone. No proved code was read for it; but the checks of Ticket 11 (answers.c, asktries.c, coveranswers.c) were written with
- * the project's definition of ask known, the model's two asks without. Of the project's other files only those were read that build and run it:
- * Makefile, tests/panel.sh and tools/kit.sh.
+ * Written from document 01, Tickets 1, 2 and 4 to 14 of document 02, the project's exact readings of Tickets 5, 6, 8 to 11 and 14, docs/DESK.md for
+ * the program desk, and include/tupahineka.h alone. No proved code was read for it; but the checks of Ticket 11 (answers.c, asktries.c,
+ * coveranswers.c) were written with the project's definition of ask known, the model's two asks without. Of the project's other files only those
+ * were read that build and run it: Makefile, tests/panel.sh and tools/kit.sh.
  *
  *   second SEED COUNT               plays COUNT sequences and compares everything after every call
  *   second show SEED NUMBER         prints sequence NUMBER in words, by the model alone
  *   second journals DIR SEED COUNT  writes COUNT journals and what the journal program has to print for them
- *   second texts DIR SEED COUNT     writes COUNT texts and what the program cnf has to write and say of them */
+ *   second texts DIR SEED COUNT     writes COUNT texts and what the program cnf has to write and say of them
+ *   second desk DIR SEED COUNT      writes COUNT inputs of 100 scripts and what the program desk has to print for them
+ *   second noise SEED LINES         prints LINES lines of noise for desk */
 #include <signal.h>
 #include <stdio.h>
 #include <stdlib.h>
@@ -18,6 +20,7 @@
 #include "asktries.h"
 #include "cnf.h"
 #include "cover.h"
+#include "deskscripts.h"
 #include "document.h"
 #include "draw.h"
 #include "furnacetries.h"
@@ -163,6 +166,9 @@ int main(int argc, char **argv) {
     if (argc == 5 && strcmp(argv[1], "journals") == 0)
         return write_journals(argv[2], strtoull(argv[3], NULL, 0), strtoull(argv[4], NULL, 0));
     if (argc == 5 && strcmp(argv[1], "texts") == 0) return write_texts(argv[2], strtoull(argv[3], NULL, 0), strtoull(argv[4], NULL, 0));
-    fprintf(stderr, "second SEED COUNT | second show SEED NUMBER | second journals DIR SEED COUNT | second texts DIR SEED COUNT\n");
+    if (argc == 5 && strcmp(argv[1], "desk") == 0) return write_desk_scripts(argv[2], strtoull(argv[3], NULL, 0), strtoull(argv[4], NULL, 0));
+    if (argc == 4 && strcmp(argv[1], "noise") == 0) return write_noise(strtoull(argv[2], NULL, 0), strtoull(argv[3], NULL, 0));
+    fprintf(stderr, "second SEED COUNT | second show SEED NUMBER | second journals DIR SEED COUNT | second texts DIR SEED COUNT | "
+                    "second desk DIR SEED COUNT | second noise SEED LINES\n");
     return 2;
 }

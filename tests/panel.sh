@@ -1,6 +1,6 @@
 #!/usr/bin/env bash
-# Proves and builds the C boundary, and runs what stands on it: the trend demo, the valves, the tries, the independent second program, and the journals
-# and texts that the second program writes. SEED and COUNT choose the second program's sequences.
+# Proves and builds the C boundary, and runs what stands on it: the trend demo, the valves, the tries, the independent second program, and the journals,
+# texts, scripts and noise that the second program writes. SEED and COUNT choose the second program's sequences.
 set -euo pipefail
 cd "$(dirname "$0")/.."
 . tools/kit.sh
@@ -71,3 +71,26 @@ for input in "$room"/texts/*.in; do
     ran=$((ran + 1))
 done
 echo "cnf: $ran texts of the second program, all as it expects"
+
+# the scripts of the second program, a hundred to a file, by the proved desk; and its lines of noise, to whose end desk has to come
+prove check desk
+mkdir "$room/scripts"
+run_c target/second desk "$room/scripts" "${SEED:-1}" 100
+ran=0
+for input in "$room"/scripts/*.in; do
+    run_x86 target/bin/desk <"$input" >"$room/wrote"
+    if ! cmp -s "$room/wrote" "${input%.in}.out"; then
+        echo "desk: of the second program's $(basename "$input") it prints something else:"
+        diff -a "$room/wrote" "${input%.in}.out" | head -10 || true
+        exit 1
+    fi
+    ran=$((ran + 100))
+done
+echo "desk: $ran scripts of the second program, all as it expects"
+run_c target/second noise "${SEED:-1}" 100000 >"$room/noise"
+timeout 300 bash -c '. tools/kit.sh && run_x86 target/bin/desk' <"$room/noise" >"$room/wrote"
+[ "$(tail -1 "$room/wrote")" = '100000 lines read' ] || {
+    echo "desk: of 100000 lines of noise its last line is: $(tail -1 "$room/wrote" | cut -c 1-160)"
+    exit 1
+}
+echo "desk: 100000 lines of noise, to their end"

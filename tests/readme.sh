@@ -17,6 +17,9 @@ diff <(sed -n '/| .\/run cnf$/,/^$/s/^    \([^$].*\)/\1/p' README.md) crates/cnf
 diff <(printf "$(shown spell)") crates/spell/stdin
 diff <(sed -n '/| .\/run spell$/,/^[^ ]/p' README.md | sed -e 1d -e '$d' -e 's/^    //' | sed '$d') crates/spell/stdout
 
+# the lines of the desk, without the line that turns its echo on and the count of its lines
+diff <(sed -n '/^    open 40$/,/^$/s/^    //p' README.md) <(sed -e 1d -e '$d' crates/desk/stdout)
+
 # the lines of the demo
 lines=$(sed -n 's/^    \([0-9][0-9]:[0-9][0-9] .*\)/\1/p' README.md)
 [ "$(wc -l <<<"$lines")" -eq 7 ] && ! grep -vxFf examples/trend.expected <<<"$lines" || {

@@ -1,0 +1,2 @@
+-- Laws of what is answered.
+pub mod Within

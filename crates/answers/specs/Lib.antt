@@ -1,0 +1,2 @@
+-- The literals that a line chooses from.
+pub mod Choices

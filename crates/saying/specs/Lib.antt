@@ -1,0 +1,2 @@
+-- How much the desk keeps.
+pub mod Limits
