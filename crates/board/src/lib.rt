@@ -1,5 +1,6 @@
 // The board: nine calls and the second ask, each total. A call tests its own input, refuses in the documents' order and then leaves everything as it
 // was, or is done and writes only the places named for it.
+#![tactic(auto)]
 
 pub mod asking;
 pub mod changes;

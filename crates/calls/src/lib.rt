@@ -1,6 +1,7 @@
 // The calls of `board`, each made and what it answers printed, after a semicolon. For the programs that try boards: each passes counts and lengths as
 // plain numbers within the bounds that a function asks for. The contracts promise that a function is safe and ends; what is printed is held to the
 // programs' stored output.
+#![tactic(auto)]
 
 ghost use Rattle.std.specs.Prelude.{◌≤◌, length};
 

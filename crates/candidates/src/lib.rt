@@ -1,4 +1,5 @@
 // Candidates: the literals that a call is given to choose from, and the sets of them, as numbers whose bit i stands for candidate i.
+#![tactic(auto)]
 
 pub mod given;
 pub mod sets;

@@ -1,5 +1,6 @@
 // DIMACS text from standard input, read onto a board of the header's variables; the board's rows as DIMACS text to standard output. What is refused
 // is said in a line on standard error.
+#![tactic(auto)]
 
 ghost use Rattle.std.specs.Prelude.{◌≡◌, ◌+◌, ◌<◌, ◌≤◌, length};
 ghost use Rattle.dimacs.specs.Words.{beyond};

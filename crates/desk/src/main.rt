@@ -1,4 +1,5 @@
 // The desk: lines of plain text on standard input, an answer to each on standard output.
+#![tactic(auto)]
 
 mod sitting;
 

@@ -1,4 +1,5 @@
 // DIMACS text: read onto a board, each clause as one rule, and written from the rows in use.
+#![tactic(auto)]
 
 mod appending;
 mod gathering;

@@ -1,5 +1,6 @@
 // Runs the calls of `board` over the boards that document 01 lists and over every refusal, for furnace 1, in `furnaces` and `asking` for both and in
 // `grounds` for furnace 2, and prints what each call answers.
+#![tactic(auto)]
 
 mod asking;
 mod faults;

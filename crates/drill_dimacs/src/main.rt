@@ -1,4 +1,5 @@
 // Runs the two calls of `dimacs` over texts, and prints what each call answers.
+#![tactic(auto)]
 
 mod telling;
 mod tries;

@@ -1,4 +1,5 @@
 // Runs the calls of `positions` over boards, and prints what each call answers; then what is ruled out by the rows that they add.
+#![tactic(auto)]
 
 mod faults;
 mod networks;

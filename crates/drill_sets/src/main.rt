@@ -1,4 +1,5 @@
 // Runs the calls of `smallest` and `least` over boards, and prints what each call answers.
+#![tactic(auto)]
 
 mod faults;
 mod tables;

@@ -1,5 +1,6 @@
 // Runs the calls of `stack` over boards and records, and prints what each call answers; then what is told while a reading is tried and when it is
 // taken back.
+#![tactic(auto)]
 
 mod beyond;
 mod circle;

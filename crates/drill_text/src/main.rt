@@ -1,4 +1,5 @@
 // Runs the three calls of `text` over formulae in plain text, and prints what each call answers.
+#![tactic(auto)]
 
 mod telling;
 mod texts;

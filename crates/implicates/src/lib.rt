@@ -1,4 +1,5 @@
 // All prime implicates of a rule over at most eight symbols, from its truth table to rows.
+#![tactic(auto)]
 
 mod hits;
 pub mod one_row;

@@ -1,5 +1,6 @@
 // The index: which rows contain a literal. A cell is one of a row's eight places for literals: those of row r are numbered from 8r on. The cells
 // that hold a literal are a list, lowest first: it starts at the literal's head and goes on by the links of its cells.
+#![tactic(auto)]
 
 ghost use Rattle.std.specs.Prelude.{◌≡◌, map, ◌+◌, ◌*◌, ◌≤◌, length, replicate};
 ghost use Rattle.meaning.specs.Tests.{none};

@@ -1,4 +1,5 @@
 // The journal: commands on standard input, a line for each on standard output.
+#![tactic(auto)]
 
 ghost use Rattle.std.specs.Prelude.{◌+◌, ◌≤◌, ◌<◌, ◌≡◌, true, length};
 ghost use Rattle.journal.specs.Told.{left, more, Runs, starting, told};

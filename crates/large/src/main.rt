@@ -1,4 +1,5 @@
 // Runs the calls of `board` over a chain of 200 symbols and over full boards of 2,048 rows, and prints what each call answers.
+#![tactic(auto)]
 
 ghost use Rattle.std.specs.Prelude.{◌+◌, ◌≤◌, length};
 

@@ -1,4 +1,5 @@
 // The furnace foreman's least to withdraw.
+#![tactic(auto)]
 
 pub mod call;
 mod effects;

@@ -1,9 +1,10 @@
 -- Each public function's contract leaves one answer.
 use Rattle.meaning.proofs.Kit.{◌≡◌, refl}
 use Rattle.meaning.proofs.Answers.{One, ◌&◌}
+use Rattle.lines.specs.contracts as contract'
 use Rattle.lines.proofs as lines
 
-one_step : One lines.saying.step.ended lines.saying.step.Reads.Post
+one_step : One contract'.saying.step.ended lines.saying.step.Reads.Post
 one_step κs a x y =
     let board : x.result.board ≡ y.result.board = cc in
     let used : x.result.used ≡ y.result.used = cc in

@@ -88,7 +88,11 @@ sound_decoded S row e = rising_decoded S 0 row (sound_rising S row e)
 -- an element of a list stands at an index of it
 at_index : {p : ℕ} (row : List ℕ) → In p row → (i : ℕ) × (i < length row) × (get_or row i 0 ≡ p)
 at_index [] m = absurd (in_nil m)
-at_index {p} (q ∷ row) m = ⊎_elim (λ e. (zero, omega arith, sym e)) (λ n. (let r = at_index row n in (suc r.0, omega arith, r.2))) (in_cons m)
+at_index {p = p} (q ∷ row) m =
+    ⊎_elim {C = (i : ℕ) × (i < length (q ∷ row)) × (get_or (q ∷ row) i 0 ≡ p)}
+    (λ e. (zero, omega arith, sym e))
+    (λ n. let r = at_index {p = p} row n in (suc r.0, omega arith, r.2))
+    (in_cons m)
 
 -- so each place in it is below 2S
 pub sound_in : (S : ℕ) (row : List ℤ) → row_sound S row ≡ true → {p : ℕ} → In p (decode row) → p < 2 * S

@@ -1,4 +1,5 @@
 // Literals and rows of the clause table.
+#![tactic(auto)]
 
 pub mod refusal;
 

@@ -1,7 +1,7 @@
 -- The rows of a rule that says that one clause is true, a clause with a literal of every symbol of the rule: this clause alone. And of a rule
 -- that is always true: none.
 use Rattle.meaning.proofs.Kit.{◌≡◌, ◌∙◌, sym, ap, refl, subst, subst₂, ⊎_elim, true, false, Bool, ◌&&◌, not, bool_beq, List, [], ◌∷◌, map, In}
-use Rattle.meaning.proofs.Kit.{there, in_nil, ℕ, ◌<◌, suc, zero, arith, length, length-map, not-true}
+use Rattle.meaning.proofs.Kit.{there, in_nil, ℕ, ◌<◌, suc, zero, arith, length, length-map, not-true, get_or, drop}
 use mathlib.Core.List.Memᴰ.{head as here_in}
 use Rattle.meaning.specs.Tests.{all, from}
 use Rattle.meaning.specs.BySize.{BySize, EachBefore}
@@ -105,12 +105,12 @@ itself_lone (b ∷ x) =
 
 -- ---- and it is there once
 
-not_before : {r : List ℕ} → RowBefore r r → ⊥
-not_before (here l) = omega arith
-not_before (later b) = not_before b
+not_before : {r t : List ℕ} → RowBefore r t → r ≡ t → ⊥
+not_before (here {p = p} {q = q} l) e = let same : p ≡ q = ap (λ (w : List ℕ). get_or w 0 0) e in omega arith
+not_before (later b) e = not_before b (ap (drop 1) e)
 
 not_itself : (ss : List ℕ) (u : List Digit) → BySize size (Sorted ss) u u → ⊥
-not_itself ss u h = ⊎_elim (λ l. omega arith) (λ w. not_before (w.1 refl)) h
+not_itself ss u h = ⊎_elim (λ l. omega arith) (λ w. not_before (w.1 refl) refl) h
 
 -- a list in order that has one clause only has it once
 once : (R : List Digit → List Digit → Type 0) (u : List Digit) (vs : List (List Digit)) → (R u u → ⊥) → EachBefore R vs → In u vs

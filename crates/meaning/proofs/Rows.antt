@@ -1,7 +1,7 @@
 -- The literals of a row: what they have to do with the clause's symbols and with assignments; and the rows of several rules.
 use Rattle.meaning.proofs.Kit.{◌≡◌, ◌∙◌, sym, ap, refl, ⊎_elim, ◌⊎◌, true, false, Bool, ◌&&◌, not, true≢false, List, [], ◌∷◌, ◌++◌, In, here}
 use Rattle.meaning.proofs.Kit.{there, append_assoc, in_nil, in_cons, in_of_map, in_map, in_append_left, in_append_right, ℕ, arith}
-use Rattle.meaning.proofs.Kit.{length}
+use Rattle.meaning.proofs.Kit.{length, subst}
 use mathlib.Core.List.Memᴰ
 use Rattle.meaning.specs.Literals.{place}
 use Rattle.meaning.specs.Formulae.{Rule}
@@ -66,8 +66,8 @@ row_prime rule row m =
 
 pub in_all_rows : (rules : List Rule) {rule : Rule} {row : List ℕ} → In rule rules → In row (rows_of rule) → In row (all_rows rules)
 in_all_rows [] m k = absurd (in_nil m)
-in_all_rows (r ∷ rules) m k =
-    ⊎_elim (λ e. in_append_left (all_rows rules) (rw e at k)) (λ n. in_append_right (rows_of r) (in_all_rows rules n k)) (in_cons m)
+in_all_rows (r ∷ rules) {row = row} m k =
+    ⊎_elim (λ e. in_append_left (all_rows rules) (subst (λ (other : Rule). In row (rows_of other)) e k)) (λ n. in_append_right (rows_of r) (in_all_rows rules n k)) (in_cons m)
 
 pub all_rows_in : (rules : List Rule) (row : List ℕ) → In row (all_rows rules) → (rule : Rule) × In rule rules × In row (rows_of rule)
 all_rows_in [] row m = absurd (in_nil m)

@@ -1,4 +1,5 @@
 // Names of symbols: a table of them, and formula text in which names stand for numbers.
+#![tactic(auto)]
 
 pub mod naming;
 pub mod replacing;

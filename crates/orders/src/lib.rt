@@ -1,4 +1,5 @@
 // A line of the desk: its words, what it orders, and the call that it is, carried out.
+#![tactic(auto)]
 
 pub mod marks;
 pub mod order;

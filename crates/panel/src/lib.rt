@@ -1,5 +1,6 @@
 // The C boundary: each exported function is a call of `board`, `stack`, `positions`, `smallest`, `least`, `dimacs` or `text` and nothing else.
 // include/tupahineka.h declares them.
+#![tactic(auto)]
 
 mod crossing;
 mod steps;

@@ -1,4 +1,5 @@
 // Valves with several positions: position variables, and pair tables between two of them, entered as rules.
+#![tactic(auto)]
 
 mod answering;
 pub mod pairs;

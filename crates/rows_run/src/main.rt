@@ -1,4 +1,6 @@
 // Prints the rows that some rules append, with their rule's number, each rule given by its symbols and its truth table.
+#![tactic(auto)]
+
 ghost use Rattle.std.specs.Prelude.{◌≡◌, true, ◌+◌, ◌*◌, ◌≤◌, ◌^◌, leb, length};
 ghost use Rattle.meaning.specs.Tests.{all};
 ghost use Rattle.literals.specs.Row.{width, most_rules};

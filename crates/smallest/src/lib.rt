@@ -1,5 +1,6 @@
 // The shift desk's smallest sets: a product over public functions, `board`'s first of all, which sees their contracts and nothing of what is behind
 // them.
+#![tactic(auto)]
 
 pub mod call;
 mod search;

@@ -1,5 +1,6 @@
 // Formulae in plain text on standard input, one a line. For each, on standard output, its prefix bytes in hex and its rows in text, or the line again
 // and why it is refused.
+#![tactic(auto)]
 
 mod answering;
 mod pieces;

@@ -1,4 +1,5 @@
 // Numbers, literals and words written into a lent buffer from a place on. Each function answers the place after what it wrote.
+#![tactic(auto)]
 
 ghost use Rattle.std.specs.Prelude.{◌+◌, ◌*◌, ◌<◌, ◌≤◌, ◌++◌, length};
 ghost use Rattle.spelling.specs.Text.{literal, literal_list, natural, Put};

@@ -1,5 +1,6 @@
 // Formulae in plain text, with a board: a text read to bytes, a rule added from text, and text written of bytes. Each call is total, tests its own
 // input, refuses in the documents' order and then leaves everything as it was.
+#![tactic(auto)]
 
 pub mod adding;
 pub mod reading;

@@ -1,5 +1,5 @@
 -- `main` is safe: a text that is made lies within the bytes lent for it, and few clauses come before one at fault.
-use Rattle.meaning.proofs.Kit.{sym, subst, ◌≤◌, length, length-take-le, needs}
+use Rattle.meaning.proofs.Kit.{sym, subst, ◌≤◌, length, length-take-le, rules}
 use Rattle.cnf.proofs.Within.{Fits, Within, made_within}
 use Rattle.cnf.proofs.main.Statement.{statement}
 use Rattle.cnf.proofs.main.Tie as tie
@@ -20,7 +20,7 @@ say_refusal_requires c κs = let w = c.before in let m = w.before.before in subs
 
 pub main_spec : {M : Type 1} → statement M
 main_spec = tie.close (tie.spec
-    (λ c. search needs) (λ c κs. search needs) (λ c. search needs) (λ c κs. search needs) (λ c. search needs) (λ c. search needs)
-    (λ c. search needs) (λ c. search needs) (λ c. search needs) (λ c κs. search needs) (λ c. search needs) (λ c. within c.before)
-    (λ c. sym (length-take-le _ _ (within c.before.before))) (λ c κs. search needs) (λ c. search needs) (λ c. search needs) (λ c. search needs)
-    (λ c κs. search needs) (λ c. search needs) say_refusal_requires (λ c. search needs) (λ c. search needs) (λ c. search needs))
+    (λ c. search rules) (λ c κs. search rules) (λ c. search rules) (λ c κs. search rules) (λ c. search rules) (λ c. search rules)
+    (λ c. search rules) (λ c. search rules) (λ c. search rules) (λ c κs. search rules) (λ c. search rules) (λ c. within c.before)
+    (λ c. sym (length-take-le _ _ (within c.before.before))) (λ c κs. search rules) (λ c. search rules) (λ c. search rules) (λ c. search rules)
+    (λ c κs. search rules) (λ c. search rules) say_refusal_requires (λ c. search rules) (λ c. search rules) (λ c. search rules))

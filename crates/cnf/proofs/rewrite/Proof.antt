@@ -1,5 +1,5 @@
 -- `rewrite` meets its contract: by the header, and by the board opened for it.
-use Rattle.meaning.proofs.Kit.{◌∙◌, sym, needs}
+use Rattle.meaning.proofs.Kit.{◌∙◌, sym, rules}
 use Rattle.cnf.proofs.Making.{made_broken, made_none, made_on}
 use Rattle.cnf.proofs.rewrite.Statement.{statement}
 use Rattle.cnf.proofs.rewrite.Tie as tie
@@ -21,6 +21,6 @@ returns_3 c =
 
 pub rewrite_spec : {M : Type 1} → statement M
 rewrite_spec = tie.close (tie.spec
-    (λ c κs. search needs) (λ c. search needs) (λ c. search needs) (λ c κs. search needs) (λ c. search needs) (λ c κs. search needs)
-    (λ c. search needs) (λ c. made_broken _ _ _ (sym c.enum_told.given.1 ∙ c.before.before.header.ensures)) (λ c. search needs)
-    (λ c. search needs) returns_2 returns_3)
+    (λ c κs. search rules) (λ c. search rules) (λ c. search rules) (λ c κs. search rules) (λ c. search rules) (λ c κs. search rules)
+    (λ c. search rules) (λ c. made_broken _ _ _ (sym c.enum_told.given.1 ∙ c.before.before.header.ensures)) (λ c. search rules)
+    (λ c. search rules) returns_2 returns_3)

@@ -1,5 +1,5 @@
 -- `rewrite_on` meets its contract: by the outcome of the reading.
-use Rattle.meaning.proofs.Kit.{needs}
+use Rattle.meaning.proofs.Kit.{rules}
 use Rattle.cnf.proofs.Making.{read_done, read_refused}
 use Rattle.cnf.proofs.rewrite_on.Statement.{statement}
 use Rattle.cnf.proofs.rewrite_on.Tie as tie
@@ -19,5 +19,5 @@ returns_2 c =
 
 pub rewrite_on_spec : {M : Type 1} → statement M
 rewrite_on_spec = tie.close (tie.spec
-    (λ c κs. search needs) (λ c. search needs) (λ c κs. search needs) (λ c. search needs) (λ c. search needs) (λ c. search needs) returns
-    (λ c. search needs) returns_2)
+    (λ c κs. search rules) (λ c. search rules) (λ c κs. search rules) (λ c. search rules) (λ c. search rules) (λ c. search rules) returns
+    (λ c. search rules) returns_2)

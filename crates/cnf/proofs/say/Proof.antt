@@ -1,5 +1,5 @@
 -- `say` is safe: the line has room for both words and twenty digits.
-use Rattle.meaning.proofs.Kit.{sym, arith, length-take-le, needs}
+use Rattle.meaning.proofs.Kit.{sym, arith, length-take-le, rules}
 use Rattle.spelling.proofs.Pieces.{put_length}
 use Rattle.cnf.proofs.say.Statement.{statement}
 use Rattle.cnf.proofs.say.Tie as tie
@@ -16,5 +16,5 @@ slice_aggregate_write_all c =
 
 pub say_spec : {M : Type 1} → statement M
 say_spec = tie.close (tie.spec
-    (λ c. search needs) (λ c κs. search needs) (λ c. search needs) (λ c κs. search needs) (λ c. search needs) slice_aggregate_write_all
-    (λ c κs. search needs) (λ c. search needs))
+    (λ c. search rules) (λ c κs. search rules) (λ c. search rules) (λ c κs. search rules) (λ c. search rules) slice_aggregate_write_all
+    (λ c κs. search rules) (λ c. search rules))

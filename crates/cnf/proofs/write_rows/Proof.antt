@@ -1,5 +1,5 @@
 -- `write_rows` meets its contract: by the outcome of the writing.
-use Rattle.meaning.proofs.Kit.{needs}
+use Rattle.meaning.proofs.Kit.{rules}
 use Rattle.cnf.proofs.Making.{rows_done, rows_refused}
 use Rattle.cnf.proofs.write_rows.Statement.{statement}
 use Rattle.cnf.proofs.write_rows.Tie as tie
@@ -19,4 +19,4 @@ returns_2 c =
 
 pub write_rows_spec : {M : Type 1} → statement M
 write_rows_spec = tie.close (tie.spec
-    (λ c κs. search needs) (λ c. search needs) (λ c. search needs) (λ c. search needs) returns (λ c. search needs) returns_2)
+    (λ c κs. search rules) (λ c. search rules) (λ c. search rules) (λ c. search rules) returns (λ c. search rules) returns_2)

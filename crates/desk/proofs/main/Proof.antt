@@ -1,5 +1,5 @@
 -- `main` is safe: each buffer is as long as `serve` asks.
-use Rattle.meaning.proofs.Kit.{◌≡◌, sym, ℕ, arith, length, replicate, length-replicate, needs}
+use Rattle.meaning.proofs.Kit.{◌≡◌, sym, ℕ, arith, length, replicate, length-replicate, rules}
 use Rattle.desk.proofs.main.Statement.{statement}
 use Rattle.desk.proofs.main.Tie as tie
 
@@ -15,4 +15,4 @@ serve_requires c κs = (zeros 4800, zeros 1024000, zeros 502, simp length-replic
 
 pub main_spec : {M : Type 1} → statement M
 main_spec = tie.close (tie.spec
-    (λ c. search needs) (λ c. search needs) slice_aggregate_serve_3 (λ c. search needs) (λ c. search needs) serve_requires (λ c. search needs))
+    (λ c. search rules) (λ c. search rules) slice_aggregate_serve_3 (λ c. search rules) (λ c. search rules) serve_requires (λ c. search rules))

@@ -1,5 +1,5 @@
 -- `serve` is safe and ends. The invariant: the desk is where the bytes that were read so far bring it. The measure is the reads that are left.
-use Rattle.meaning.proofs.Kit.{◌≡◌, ◌∙◌, sym, ap, refl, List, [], ◌++◌, ◌≤◌, ℕ, arith, length, take, needs, ltb-true}
+use Rattle.meaning.proofs.Kit.{◌≡◌, ◌∙◌, sym, ap, refl, List, [], ◌++◌, ◌≤◌, ℕ, arith, length, take, rules, ltb-true}
 use Rattle.names.specs.Names.{table_length}
 use Rattle.saying.specs.Limits.{kept_length}
 use Rattle.promises.specs.Calls.{run}
@@ -30,8 +30,8 @@ abbrev start : tie.At-loop invariant_loop decreases_loop → tie.Start invariant
 start c = c.before.before.before.before.before.before
 
 -- a read is left
-more : (t : tie.Then1 invariant_loop decreases_loop) → 1 ≤ t.before.before.loop.left
-more t = ltb-true 0 t.before.before.loop.left t.if1.true
+more : (t : tie.Then1 invariant_loop decreases_loop) → 1 ≤ t.before.before.loop.false
+more t = ltb-true 0 t.before.before.loop.false t.if1.true
 
 loop_holds : tie.Need-loop-init invariant_loop decreases_loop
 unfolding after_bytes
@@ -48,7 +48,7 @@ abbrev reading : tie.After-count invariant_loop decreases_loop → tie.After-rea
 reading c = c.before.before.before.before
 
 few : (n : tie.After-count invariant_loop decreases_loop) → n.count.result ≤ 4096
-few n = let l = at n in omega (arith, n.count.ensures.0.0, (reading n).read.auto.1.0, l.loop.inv.7, (start l).pre.3)
+few n = let l = at n in omega (arith, n.count.ensures.0.0, (reading n).read.auto.1.0, l.loop.invariant.7, (start l).requires.3)
 
 take_bytes_requires : tie.Need-take-bytes-requires invariant_loop decreases_loop
 take_bytes_requires c κs =
@@ -70,7 +70,7 @@ loop_again c =
     let n = counted t in
     let l = at n in
     let a = (start l).args in
-    let i = l.loop.inv in
+    let i = l.loop.invariant in
     let read = take n.count.result (reading n).read.last.1.0 in
     let before = sat starting a.table.now a.names.now a.line.now in (
       i.0 ++ read,
@@ -102,24 +102,24 @@ whole_run : (c : tie.After-end-line invariant_loop decreases_loop) → let l = l
     let a = (start l).args in
     let s = sat starting a.table.now a.names.now a.line.now in
     (state_of c.end_line.result.desk c.end_line.new.1.0 c.end_line.new.1.1.0).world
-    ≡ run s.state.world (calls_along s.state (lines_from [] l.loop.inv.0))
+    ≡ run s.state.world (calls_along s.state (lines_from [] l.loop.invariant.0))
 whole_run c =
     let l = last c in
     let a = (start l).args in
     ap (λ (s : State). s.world) c.end_line.ensures
-    ∙ ap (λ (s : Sat). (after_end s).world) l.loop.inv.1
-    ∙ is_the_run (sat starting a.table.now a.names.now a.line.now) l.loop.inv.0
+    ∙ ap (λ (s : Sat). (after_end s).world) l.loop.invariant.1
+    ∙ is_the_run (sat starting a.table.now a.names.now a.line.now) l.loop.invariant.0
 
 pub serve_spec : {M : Type 1} → statement M
 serve_spec = tie.close (tie.spec
-    invariant_loop decreases_loop (λ c κs. search needs) loop_holds (λ c. omega (arith, more c)) (λ c κs. search needs) (λ c κs. search needs)
+    invariant_loop decreases_loop (λ c κs. search rules) loop_holds (λ c. omega (arith, more c)) (λ c κs. search rules) (λ c κs. search rules)
     (λ c. let m = c.before in omega (arith, m.before.before.before.count.ensures.0.0))
     (λ c. let m = c.before.before in m.before.before.before.count.ensures.0.1) take_bytes_requires
-    (λ c. let r = reading (counted (here c)) in omega (arith, more r.before.before)) loop_again (λ c κs. search needs)
+    (λ c. let r = reading (counted (here c)) in omega (arith, more r.before.before)) loop_again (λ c κs. search rules)
     (λ c. c.before.before.before.loop.invariant.6) (λ c. let l = c.before.before.before in l.loop.invariant.3 ∙ sym (start l).requires.0)
     (λ c. let l = c.before.before.before in l.loop.invariant.4 ∙ sym (start l).requires.1)
     (λ c. let l = c.before.before.before in l.loop.invariant.5 ∙ sym (start l).requires.2) (λ c. c.before.before.before.loop.invariant.7) (λ c. tt)
-    end_line_requires (λ c κs. search needs) (λ c. let e = ended c in e.end_line.kept.1.0 ∙ (last e).loop.inv.6)
-    (λ c. let e = ended c in let l = last e in e.end_line.kept.1.1.0 ∙ l.loop.inv.3 ∙ sym (start l).pre.0)
-    (λ c. let e = ended c in let l = last e in e.end_line.kept.1.1.1.0 ∙ l.loop.inv.4 ∙ sym (start l).pre.1)
-    (λ c. let l = last (ended c) in l.loop.inv.5 ∙ sym (start l).pre.2) (λ c. (last (ended c)).loop.inv.7) (λ c. tt))
+    end_line_requires (λ c κs. search rules) (λ c. let e = ended c in e.end_line.kept.1.0 ∙ (last e).loop.invariant.6)
+    (λ c. let e = ended c in let l = last e in e.end_line.kept.1.1.0 ∙ l.loop.invariant.3 ∙ sym (start l).requires.0)
+    (λ c. let e = ended c in let l = last e in e.end_line.kept.1.1.1.0 ∙ l.loop.invariant.4 ∙ sym (start l).requires.1)
+    (λ c. let l = last (ended c) in l.loop.invariant.5 ∙ sym (start l).requires.2) (λ c. (last (ended c)).loop.invariant.7) (λ c. tt))

@@ -1,7 +1,7 @@
 -- `append_rule` meets its contract: the table of hits is filled and tells whether the rule is satisfiable, the table of primes that is
 -- written over it has the rule's prime implicates, and those that fit are appended.
 use Rattle.meaning.proofs.Kit.{◌≡◌, ◌∙◌, sym, ap, refl, ap₂, ⊎_elim, inl, inr, ◌⊎◌, true, false, Bool, List, ◌++◌, map, ◌≤◌, ℕ, ◌<◌, ◌-◌, ◌+◌}
-use Rattle.meaning.proofs.Kit.{add-one, arith, length, get_or, drop, take, replicate, length-map, length-replicate, length-take-le, needs, not-false}
+use Rattle.meaning.proofs.Kit.{add-one, arith, length, get_or, drop, take, replicate, length-map, length-replicate, length-take-le, rules, not-false}
 use Rattle.meaning.proofs.Kit.{not-true, eqb-true, eqb-false}
 use Rattle.meaning.specs.Formulae.{Rule}
 use Rattle.meaning.specs.Clauses.{in_order, row_of, rows_of, satisfiable}
@@ -95,7 +95,7 @@ counted r =
     ∙ sym (length-map (in_order (marked (take (count k) (over (marking r)))) (n k)) (row_of (start k).args.symbols.now))
     ∙ ap length (rows_are (marking r))
 
--- ---- the needs
+-- ---- the rules
 
 array_borrow_prefix_clauses : tie.Need-array-borrow-prefix-clauses
 array_borrow_prefix_clauses c = room c
@@ -127,7 +127,7 @@ returns_2 c =
     let s = start (counting (filling m)) in
     let a = s.args in
     let full : (a.lent < a.used + length (rows_of (rule s))) ⊎ (a.rules ≡ most_rules) =
-    ⊎_elim (λ w. inl (omega (arith, counted c.before, w.taken, s.pre.1.0))) (λ w. inr (eqb-true a.rules most_rules w.1.taken))
+    ⊎_elim (λ w. inl (omega (arith, counted c.before, w.true, s.requires.1.0))) (λ w. inr (eqb-true a.rules most_rules w.1.true))
     c.if2.branch in
     told_full (rule s) a.used a.rules a.lent a.table.now (satisfied m.before.before)
     (fits_not a.used a.rules a.lent (rows_of (rule s)) full)
@@ -142,7 +142,7 @@ enough c =
     let r = c.before.before in
     let s = start (counting (filling (marking r))) in
     fits_so s.args.used s.args.rules s.args.lent (rows_of (rule s))
-    (omega (arith, counted r, c.before.if2.false, s.pre.1.0)) (eqb-false s.args.rules most_rules c.if3.false)
+    (omega (arith, counted r, c.before.if2.false, s.requires.1.0)) (eqb-false s.args.rules most_rules c.if3.false)
 
 slice_aggregate_append_primes : tie.Need-slice-aggregate-append-primes
 slice_aggregate_append_primes c = let e = c.before.before in sym (primes_in (marking e.before.before)).long
@@ -152,7 +152,7 @@ append_primes_requires c κs =
     let e = c.before.before.before in
     let m = marking e.before in
     let k = counting (filling m) in
-    let p = (start k).pre in
+    let p = (start k).requires in
     let number = eqb-false (start k).args.rules most_rules c.before.before.if3.false in (
       (p.0.0, refl, p.0.1, (primes_in m).long ∙ k.clause-count.ensures, omega (arith, p.1.3, number)),
       omega (arith, e.before.row_count.ensures, e.if2.false, p.1),
@@ -173,8 +173,8 @@ returns_3 c =
 
 pub append_rule_spec : {M : Type 1} → statement M
 append_rule_spec = tie.close (tie.spec
-    (λ c κs. search needs) array_borrow_prefix_clauses (λ c. sym (blank_long c.before)) fill_hits_requires sub_if1 array_read_if1 returns
+    (λ c κs. search rules) array_borrow_prefix_clauses (λ c. sym (blank_long c.before)) fill_hits_requires sub_if1 array_read_if1 returns
     (λ c. (hits_in c.before.before).room) (λ c. sym (hits_in c.before.before.before).long) mark_primes_requires
-    (λ c. (primes_in c.before).room) (λ c. sym (primes_in c.before.before).long) row_count_requires (λ c. search needs) returns_2
-    (λ c. search needs) (λ c. (primes_in (marking c.before.before.before)).room) slice_aggregate_append_primes append_primes_requires
-    (λ c. search needs) returns_3)
+    (λ c. (primes_in c.before).room) (λ c. sym (primes_in c.before.before).long) row_count_requires (λ c. search rules) returns_2
+    (λ c. search rules) (λ c. (primes_in (marking c.before.before.before)).room) slice_aggregate_append_primes append_primes_requires
+    (λ c. search rules) returns_3)

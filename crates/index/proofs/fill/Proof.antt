@@ -48,8 +48,8 @@ list_row_requires c κs =
     let s = start l in
     let r = l.loop.row - 1 in
     let t = s.args.table.now in (
-      subst (λ places. Fit places (r + 1) t) (sym l.loop.invariant.1) (fit_row (length s.args.heads.now) s.args.rows t s.pre.0 r (low n)),
-      omega (arith, low n, l.loop.invariant.2, s.pre.1.0.0),
+      subst (λ places. Fit places (r + 1) t) (sym l.loop.invariant.1) (fit_row (length s.args.heads.now) s.args.rows t s.requires.0 r (low n)),
+      omega (arith, low n, l.loop.invariant.2, s.requires.1.0.0),
     )
 
 cast_counts : tie.Need-overflow-cast-counts invariant_loop decreases_loop
@@ -64,15 +64,15 @@ loop_again c =
     let r = listed c in
     let n = in_row r in
     let l = n.before in
-    let i = l.loop.inv in
+    let i = l.loop.invariant in
     let row = l.loop.row in
-    let is : row ≡ suc (row - 1) = omega (arith, n.loop-test.taken) in
+    let is : row ≡ suc (row - 1) = omega (arith, n.loop-test.true) in
     let e = r.list-row.ensures in (
       omega (arith, low n),
       e.1.long_heads ∙ i.1,
       e.1.long_links ∙ i.2,
       length-set l.loop.counts (row - 1) r.list-row.result ∙ i.3,
-      since_more (start l).pre.0 (low n) (subst (From l) is i.4) e.0 e.1 (count_in n),
+      since_more (start l).requires.0 (low n) (subst (From l) is i.4) e.0 e.1 (count_in n),
     )
 
 returns : tie.Need-returns invariant_loop decreases_loop
@@ -82,7 +82,7 @@ returns c =
     let i = l.loop.invariant in
     let done : l.loop.row ≡ 0 = omega (arith, c.loop-test.false) in
     let all = subst (From l) done i.4 in
-    (all_heads s.pre.0 all i.1, (all_links s.pre.0 all (i.2 ∙ s.pre.1.0.0), all_counts s.pre.0 all (i.3 ∙ s.pre.1.0.1)))
+    (all_heads s.requires.0 all i.1, (all_links s.requires.0 all (i.2 ∙ s.requires.1.0.0), all_counts s.requires.0 all (i.3 ∙ s.requires.1.0.1)))
 
 pub fill_spec : {M : Type 1} → statement M
 fill_spec = tie.close (tie.spec

@@ -28,7 +28,7 @@ at c = c.before.before.before.before
 -- the number that the loop reads, and the literal that it is
 here : (c : tie.After-l invariant_loop decreases_loop)
     → let l = c.before.before in let a = (start l).args in Here (length a.heads.now) a.table.now a.row l.loop.j
-here c = record { fit = (start c.before.before).pre.0; inside = c.before.loop-test.true; fits = record { sfits = c.l.given } }
+here c = record { fit = (start c.before.before).requires.0; inside = c.before.loop-test.true; fits = record { sfits = c.l.given } }
 
 read : (p : tie.After-place invariant_loop decreases_loop)
     → let a = (start (at p)).args in Literal (length a.heads.now) a.table.now a.row (at p).loop.j p.place.result
@@ -47,17 +47,17 @@ loop_holds c =
     (omega arith, omega (arith, ap length (left_all a.table.now a.row)), listed_none)
 
 cast_heads : tie.Need-overflow-cast-heads invariant_loop decreases_loop
-cast_heads c = let n = turn c in omega (arith, n.loop-test.taken, (start n.before).pre.0.2.rows)
+cast_heads c = let n = turn c in omega (arith, n.loop-test.true, (start n.before).requires.0.2.rows)
 
 loop_again : tie.Need-loop-preserved invariant_loop decreases_loop
 loop_again c =
     let p = c.before in
     let l = at p in
     let n = p.before.before.before in
-    let i = l.loop.inv in (
+    let i = l.loop.invariant in (
       omega (arith, n.loop-test.true),
       i.1 ∙ ap (λ t. l.loop.j + length t) (read p).first ∙ omega arith,
-      listed_more (start l).pre.0 n.loop-test.true (read p) i.2 (link_in n) (head_in p),
+      listed_more (start l).requires.0 n.loop-test.true (read p) i.2 (link_in n) (head_in p),
     )
 
 returns : tie.Need-returns invariant_loop decreases_loop

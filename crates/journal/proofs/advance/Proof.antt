@@ -1,5 +1,5 @@
 -- `journal::advance` meets its contract: one line more in the buffer, and one command less to come.
-use Rattle.meaning.proofs.Kit.{arith, needs}
+use Rattle.meaning.proofs.Kit.{arith, rules}
 use Rattle.formula.proofs.Parts.{onward_length}
 use Rattle.journal.specs.Told.{Runs}
 use Rattle.journal.proofs.Telling.{goes, next_run, next_runs, next_told}
@@ -31,13 +31,13 @@ add_t19 : tie.Need-overflow-add-t19
 add_t19 c =
     let d = stepped c.before.before in
     let s = start d in
-    omega (arith, d.step.ensures.1.1, s.pre.2, s.good)
+    omega (arith, d.step.ensures.1.1, s.requires.2, s.good)
 
 returns : tie.Need-returns
 returns c =
     let d = stepped c.before.before in
     let a = (start d).args in
-    let h = (start d).pre in
+    let h = (start d).requires in
     let e = d.step.ensures in (
       next_told a.run a.table.now a.input.now a.out.now h.0 h.1 h.2 e.0 e.1.0 e.1.1,
       next_runs a.run a.table.now a.input.now a.out.now h.0 h.1 h.2 e.0 e.1.0 e.1.1,
@@ -45,6 +45,6 @@ returns c =
 
 pub advance_spec : {M : Type 1} → statement M
 advance_spec = tie.close (tie.spec
-    (λ c. search needs) (λ c. search needs) (λ c. search needs) (λ c. search needs) (λ c. search needs) (λ c. search needs) step_requires
+    (λ c. search rules) (λ c. search rules) (λ c. search rules) (λ c. search rules) (λ c. search rules) (λ c. search rules) step_requires
     (λ c. omega (arith, (runs_on (stepped c)).inside))
-    (λ c. search needs) add_t19 (λ c. search needs) (λ c. search needs) returns)
+    (λ c. search rules) add_t19 (λ c. search rules) (λ c. search rules) returns)

@@ -1,6 +1,6 @@
 -- `journal::fill` meets its contract. The invariant: the buffer and what is still to come are the same text. The measure is what is left of
 -- the input.
-use Rattle.meaning.proofs.Kit.{◌≡◌, ◌∙◌, sym, refl, ◌≤◌, ◌<◌, ◌-◌, ◌+◌, arith, length, needs, leb-true}
+use Rattle.meaning.proofs.Kit.{◌≡◌, ◌∙◌, sym, refl, ◌≤◌, ◌<◌, ◌-◌, ◌+◌, arith, length, rules, leb-true}
 use Rattle.journal.specs.Told.{left, Runs, told}
 use Rattle.journal.proofs.fill.Statement.{statement}
 use Rattle.journal.proofs.fill.Tie as tie
@@ -72,7 +72,7 @@ ended : (c : tie.At-loop invariant_loop decreases_loop) → let a = (start (firs
     (told l.here l.table a.input.now l.out ≡ left a.run a.table.now a.input.now)
     × ((a.run.next < l.here.next) × Runs l.here a.input.now × (l.here.filled ≤ length l.out))
 ended l =
-    let i = l.loop.inv in
+    let i = l.loop.invariant in
     let e = (first l).advance.ensures in
     (i.0 ∙ e.0, (omega (arith, i.1, e.1.0), i.2, i.3))
 
@@ -81,6 +81,6 @@ full c = c.before.before.before.before
 
 pub fill_spec : {M : Type 1} → statement M
 fill_spec = tie.close (tie.spec
-    invariant_loop decreases_loop advance_requires loop_holds (λ c κs. search needs) (λ c. omega arith) advance_requires_2 loop_less loop_again
+    invariant_loop decreases_loop advance_requires loop_holds (λ c κs. search rules) (λ c. omega arith) advance_requires_2 loop_less loop_again
     (λ c. same_table (full c)) (λ c. same_out (full c)) (λ c. ended (full c)) (λ c. same_table c.before.before)
     (λ c. same_out c.before.before) (λ c. ended c.before.before))

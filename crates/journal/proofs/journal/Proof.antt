@@ -1,6 +1,6 @@
 -- `journal::journal` meets its contract. The invariant: a text was handed to the operating system, buffer after buffer, and the next command
 -- stands in the input. The measure is what is left of the input.
-use Rattle.meaning.proofs.Kit.{◌≡◌, ◌∙◌, sym, refl, List, [], ◌++◌, ℕ, ◌-◌, arith, length, take, length-take-le, needs}
+use Rattle.meaning.proofs.Kit.{◌≡◌, ◌∙◌, sym, refl, List, [], ◌++◌, ℕ, ◌-◌, arith, length, take, length-take-le, rules}
 use Rattle.journal.specs.Told.{Runs}
 use Rattle.journal.specs.Promises.{all_lines, Handed, nothing, another}
 use Rattle.journal.proofs.Whole.{writes_all}
@@ -37,7 +37,7 @@ fill_requires c κs =
 loop_again : tie.Need-loop-preserved invariant_loop decreases_loop
 loop_again c =
     let f = (filling c).fill in
-    let i = (at (filling c)).loop.inv in
+    let i = (at (filling c)).loop.invariant in
     let out = f.last.1.1.1.0 in
     let handed = i.0 ++ take f.result.filled out in
     (handed, another out i.1 f.ensures.0, f.ensures.1.1, f.kept.1.1.1.0 ∙ i.3, f.kept.1.0 ∙ i.4)
@@ -52,7 +52,7 @@ handed_whole c =
 
 pub journal_spec : {M : Type 1} → statement M
 journal_spec = tie.close (tie.spec
-    invariant_loop decreases_loop (λ c κs. search needs) loop_holds (λ c κs. search needs) (λ c. search needs) fill_requires
+    invariant_loop decreases_loop (λ c κs. search rules) loop_holds (λ c κs. search rules) (λ c. search rules) fill_requires
     (λ c. omega (arith, c.before.before.fill.ensures.1.2)) (λ c. sym (length-take-le _ _ c.before.before.before.fill.ensures.1.2))
-    (λ c κs. search needs) (λ c. let e = (filling c).fill.ensures in omega (arith, e.1.0, e.1.1.inside)) loop_again
-    (λ c. c.before.before.loop.invariant.4) (λ c. search needs))
+    (λ c κs. search rules) (λ c. let e = (filling c).fill.ensures in omega (arith, e.1.0, e.1.1.inside)) loop_again
+    (λ c. c.before.before.loop.invariant.4) (λ c. search rules))

@@ -1,5 +1,5 @@
 -- `chain` is safe and ends: its symbols stay at 200 or less, so that each is a byte.
-use Rattle.meaning.proofs.Kit.{◌≡◌, ◌≤◌, ◌-◌, length, needs}
+use Rattle.meaning.proofs.Kit.{◌≡◌, ◌≤◌, ◌-◌, length, rules}
 use Rattle.large.proofs.chain.Statement.{statement}
 use Rattle.large.proofs.chain.Tie as tie
 
@@ -11,5 +11,5 @@ decreases_loop table₀ b₀ i₀ table b i = 200 - i
 
 pub chain_spec : {M : Type 1} → statement M
 chain_spec = tie.close (tie.spec
-    invariant_loop decreases_loop (λ c κs. search needs) (λ c. search needs) (λ c. search needs) (λ c. search needs) (λ c κs. search needs) (λ c. search needs)
-    (λ c. search needs) (λ c. search needs) (λ c. search needs) (λ c. search needs))
+    invariant_loop decreases_loop (λ c κs. search rules) (λ c. search rules) (λ c. search rules) (λ c. search rules) (λ c κs. search rules) (λ c. search rules)
+    (λ c. search rules) (λ c. search rules) (λ c. search rules) (λ c. search rules))

@@ -6,36 +6,36 @@ use Rattle.literals.proofs.Counting.{left_of, count_next, count_none, count_stop
 use Rattle.literals.proofs.literal_count.Statement.{statement}
 use Rattle.literals.proofs.literal_count.Tie as tie
 
-abbrev invariant_loop : tie.invariant-loop
+abbrev invariant_loop : tie.invariant-loop-n
 invariant_loop table at n₀ n = (n ≤ most_literals) × (length (decode (take most_literals (drop at table))) ≡ n + left_of table at n)
 
-abbrev decreases_loop : tie.decreases-loop
+abbrev decreases_loop : tie.decreases-loop-n
 decreases_loop table at n₀ n = most_literals - n
 
 -- the number that a turn looks at
-abbrev here : tie.In-loop invariant_loop decreases_loop → ℤ
-here c = get_or c.before.before.args.table.now (c.before.before.args.at + c.before.loop.n) (pos 0)
+abbrev here : tie.In-loop-n invariant_loop decreases_loop → ℤ
+here c = get_or c.before.before.args.table.now (c.before.before.args.at + c.before.loop-n.n) (pos 0)
 
-returns : tie.Need-returns invariant_loop decreases_loop
+returns : tie.Need-returns-then-table-at-eq0 invariant_loop decreases_loop
 returns c =
     let t = c.before.before in
-    let zero = zero_bits {l = here t} (record { sfits = c.before.if12.given }) c.if1.true in
+    let zero = zero_bits {l = here t} (record { sfits = c.before.t8-1.given }) c.if-table-at-eq0.true in
     let s = t.before.before in
-    let stop = count_stop s.args.table.now s.args.at t.before.loop.n s.requires t.loop-test.true zero in
-    omega (arith, stop, t.before.loop.invariant.1)
+    let stop = count_stop s.args.table.now s.args.at t.before.loop-n.n s.requires t.loop-n-test.true zero in
+    omega (arith, stop, t.before.loop-n.invariant.1)
 
-loop_again : tie.Need-loop-preserved invariant_loop decreases_loop
+loop_again : tie.Need-loop-n-preserved invariant_loop decreases_loop
 loop_again c =
     let t = c.before.before in
     let s = t.before.before in
-    let some : nat_abs (here t) ≡ 0 → ⊥ = λ z. c.if1.false (bits_zero (here t) z) in
-    let next = count_next s.args.table.now s.args.at t.before.loop.n s.requires t.loop-test.true some in
-    (omega arith, omega (arith, next, t.before.loop.invariant.1))
+    let some : nat_abs (here t) ≡ 0 → ⊥ = λ z. c.if-table-at-eq0.false (bits_zero (here t) z) in
+    let next = count_next s.args.table.now s.args.at t.before.loop-n.n s.requires t.loop-n-test.true some in
+    (omega arith, omega (arith, next, t.before.loop-n.invariant.1))
 
-returns_2 : tie.Need-returns-2 invariant_loop decreases_loop
+returns_2 : tie.Need-returns invariant_loop decreases_loop
 returns_2 c =
     let s = c.before.before in
-    omega (arith, count_none s.args.table.now s.args.at c.before.loop.n s.requires (omega arith), c.before.loop.invariant.1)
+    omega (arith, count_none s.args.table.now s.args.at c.before.loop-n.n s.requires (omega arith), c.before.loop-n.invariant.1)
 
 pub literal_count_spec : {M : Type 1} → statement M
 literal_count_spec = tie.close (tie.spec

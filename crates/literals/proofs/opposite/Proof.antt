@@ -4,7 +4,7 @@ use Rattle.literals.proofs.Signed.{minus_is, minus_fits}
 use Rattle.literals.proofs.opposite.Statement.{statement}
 use Rattle.literals.proofs.opposite.Tie as tie
 
-sub_result : tie.Need-overflow-sub-result
+sub_result : tie.Need-overflow_sub-result
 sub_result c = rw (minus_is c.ranges.l) (minus_fits c.args.l c.requires)
 
 pub opposite_spec : {M : Type 1} → statement M

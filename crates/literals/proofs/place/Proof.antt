@@ -10,11 +10,11 @@ use Rattle.literals.proofs.place.Tie as tie
 low : (c : tie.Start) → place_of c.args.l < 65536
 low c = omega (arith, place_bound 200 c.args.l c.requires.0 c.requires.1)
 
-positive : (c : tie.Then1) → read (pos 2 *ℤ read (back c.before.args.l)) -ℤ pos 2 ≡ pos (place_of c.before.args.l)
-positive c = place_positive c.before.ranges.l c.if1.true
+positive : (c : tie.Then-l-gt0) → read (pos 2 *ℤ read (back c.before.args.l)) -ℤ pos 2 ≡ pos (place_of c.before.args.l)
+positive c = place_positive c.before.ranges.l c.if-l-gt0.true
 
-negative : (c : tie.Else1) → negsuc 0 -ℤ read (pos 2 *ℤ read (back c.before.args.l)) ≡ pos (place_of c.before.args.l)
-negative c = place_negative c.before.ranges.l c.before.requires.0 c.if1.false
+negative : (c : tie.Else-l-gt0) → negsuc 0 -ℤ read (pos 2 *ℤ read (back c.before.args.l)) ≡ pos (place_of c.before.args.l)
+negative c = place_negative c.before.ranges.l c.before.requires.0 c.if-l-gt0.false
 
 pub place_spec : {M : Type 1} → statement M
 place_spec = tie.close (tie.spec

@@ -9,95 +9,95 @@ use Rattle.literals.proofs.RuleNumbers.{rises_beyond}
 use Rattle.literals.proofs.rows_sound.Statement.{statement}
 use Rattle.literals.proofs.rows_sound.Tie as tie
 
-abbrev invariant_loop : tie.invariant-loop
+abbrev invariant_loop : tie.invariant-loop-row
 invariant_loop table used symbols rules last₀ row₀ last row = (row ≤ used) × (last < 32768) × Rises symbols table row last
 
-abbrev decreases_loop : tie.decreases-loop
+abbrev decreases_loop : tie.decreases-loop-row
 decreases_loop table used symbols rules last₀ row₀ last row = used - row
 
-abbrev start : tie.At-loop invariant_loop decreases_loop → tie.Start invariant_loop decreases_loop
+abbrev start : tie.At-loop-row invariant_loop decreases_loop → tie.Start invariant_loop decreases_loop
 start c = c.before.before
 
 -- there is a row
-some : (l : tie.At-loop invariant_loop decreases_loop) → 1 ≤ (start l).args.used
-some l = omega (arith, l.before.if1.false)
+some : (l : tie.At-loop-row invariant_loop decreases_loop) → 1 ≤ (start l).args.used
+some l = omega (arith, l.before.if-used-eq0.false)
 
 -- `last` is not negative
-last_is : (l : tie.At-loop invariant_loop decreases_loop) → to_z w16 l.loop.last ≡ pos l.loop.last
-last_is l = to_z_pos w16 l.loop.invariant.1
+last_is : (l : tie.At-loop-row invariant_loop decreases_loop) → to_z w16 l.loop-row.last-bits ≡ pos l.loop-row.last-bits
+last_is l = to_z_pos w16 l.loop-row.invariant.1
 
 -- where the literals of a row are sound, its rule's number is looked at
-abbrev in_row : tie.After-rule invariant_loop decreases_loop → tie.At-loop invariant_loop decreases_loop
+abbrev in_row : tie.After-rule-1 invariant_loop decreases_loop → tie.At-loop-row invariant_loop decreases_loop
 in_row c = c.before.before.before.before
 
-number : tie.After-rule invariant_loop decreases_loop → ℤ
-number n = get_or (start (in_row n)).args.table.now (width * (in_row n).loop.row + most_literals) (pos 0)
+number : tie.After-rule-1 invariant_loop decreases_loop → ℤ
+number n = get_or (start (in_row n)).args.table.now (width * (in_row n).loop-row.row + most_literals) (pos 0)
 
-fits : (n : tie.After-rule invariant_loop decreases_loop) → SFits w16 (number n)
+fits : (n : tie.After-rule-1 invariant_loop decreases_loop) → SFits w16 (number n)
 unfolding number
-fits n = record { sfits = n.rule.given }
+fits n = record { sfits = n.rule-1.given }
 
 -- the test compares the number with the last one
-compared : (n : tie.After-rule invariant_loop decreases_loop)
-    → lt_z (number n) (pos (in_row n).loop.last) ≡ lt_z (to_z w16 (of_z w16 (number n))) (to_z w16 (in_row n).loop.last)
+compared : (n : tie.After-rule-1 invariant_loop decreases_loop)
+    → lt_z (number n) (pos (in_row n).loop-row.last-bits) ≡ lt_z (to_z w16 (of_z w16 (number n))) (to_z w16 (in_row n).loop-row.last-bits)
 compared n = sym (ap₂ lt_z (to_z-of_z (fits n)) (last_is (in_row n)))
 
-literals_sound : (e : tie.Else2 invariant_loop decreases_loop) → let l = e.before.before.before in let s = start l in
-    row_sound s.args.symbols (numbers_at s.args.table.now l.loop.row) ≡ true
+literals_sound : (e : tie.Else-not-row_sound invariant_loop decreases_loop) → let l = e.before.before.before in let s = start l in
+    row_sound s.args.symbols (numbers_at s.args.table.now l.loop-row.row) ≡ true
 unfolding numbers_at
-literals_sound e = sym e.before.row-sound.ensures ∙ not-false _ e.if2.false
+literals_sound e = sym e.before.row_sound.ensures ∙ not-false _ e.if-not-row_sound.false-raw
 
-returns : tie.Need-returns invariant_loop decreases_loop
+returns : tie.Need-returns-then-used-eq0 invariant_loop decreases_loop
 unfolding rows_sound
-returns c = rw c.if1.true
+returns c = rw c.if-used-eq0.true
 
-returns_2 : tie.Need-returns-2 invariant_loop decreases_loop
+returns_2 : tie.Need-returns-then-not-row_sound invariant_loop decreases_loop
 unfolding numbers_at
 returns_2 c =
     let t = c.before.before in
-    let e = sym c.before.row-sound.ensures ∙ not-true _ c.if2.true in
+    let e = sym c.before.row_sound.ensures ∙ not-true _ c.if-not-row_sound.true-raw in
     let a = (start t.before).args in
-    sym (unsound a.symbols a.table.now a.used a.rules t.before.loop.row t.loop-test.true (rw e))
+    sym (unsound a.symbols a.table.now a.used a.rules t.before.loop-row.row t.loop-row-test.true (rw e))
 
-returns_3 : tie.Need-returns-3 invariant_loop decreases_loop
+returns_3 : tie.Need-returns-then-rule-last invariant_loop decreases_loop
 unfolding number rule_at
 returns_3 c =
     let n = c.before in
     let l = in_row n in
     let a = (start l).args in
-    let low = number_below (number n) l.loop.last l.loop.inv.2.some (compared n ∙ c.if3.true) in
-    let wrong = rule_low a.rules a.table.now l.loop.row (omega (arith, low, l.loop.inv.2.is)) in
-    let literals = row_sound a.symbols (numbers_at a.table.now l.loop.row) in
-    let used = n.before.before.before.loop-test.true in
-    sym (unsound a.symbols a.table.now a.used a.rules l.loop.row used (rw wrong (and-false literals)))
+    let low = number_below (number n) l.loop-row.last-bits l.loop-row.invariant.2.some (compared n ∙ c.if-rule-last.true) in
+    let wrong = rule_low a.rules a.table.now l.loop-row.row (omega (arith, low, l.loop-row.invariant.2.is)) in
+    let literals = row_sound a.symbols (numbers_at a.table.now l.loop-row.row) in
+    let used = n.before.before.before.loop-row-test.true in
+    sym (unsound a.symbols a.table.now a.used a.rules l.loop-row.row used (rw wrong (and-false literals)))
 
-loop_again : tie.Need-loop-preserved invariant_loop decreases_loop
+loop_again : tie.Need-loop-row-preserved invariant_loop decreases_loop
 unfolding number rule_at
 loop_again c =
     let n = c.before in
     let l = in_row n in
-    let up = number_above (number n) l.loop.last (compared n ∙ c.if3.false) in
+    let up = number_above (number n) l.loop-row.last-bits (compared n ∙ c.if-rule-last.false) in
     let bits : of_z w16 (number n) ≡ rule_number (number n) = ap (of_z w16) up.1 in
     let small : SFits w16 (pos (rule_number (number n))) = subst (SFits w16) up.1 (fits n) in (
       omega arith,
       omega (arith, bits, small.sfits),
-      rises_more l.loop.inv.2 (literals_sound n.before) bits (omega (arith, bits, up.0)),
+      rises_more l.loop-row.invariant.2 (literals_sound n.before) bits (omega (arith, bits, up.0)),
     )
 
-cast_result : tie.Need-overflow-cast-result invariant_loop decreases_loop
-cast_result c = rw (last_is c.before) (tt, record { fits = omega (arith, c.before.loop.invariant.1) })
+cast_result : tie.Need-overflow_cast-result invariant_loop decreases_loop
+cast_result c = rw (last_is c.before) (tt, record { fits = omega (arith, c.before.loop-row.invariant.1) })
 
-returns_4 : tie.Need-returns-4 invariant_loop decreases_loop
+returns_4 : tie.Need-returns invariant_loop decreases_loop
 returns_4 c =
     let l = c.before in
     let s = start l in
     let a = s.args in
-    let all : l.loop.row ≡ a.used = omega (arith, l.loop.invariant.0, c.loop-test.false) in
-    let rises = subst (λ (n : ℕ). Rises a.symbols a.table.now n l.loop.last) all l.loop.invariant.2 in
+    let all : l.loop-row.row ≡ a.used = omega (arith, l.loop-row.invariant.0, c.loop-row-test.false) in
+    let rises = subst (λ (n : ℕ). Rises a.symbols a.table.now n l.loop-row.last-bits) all l.loop-row.invariant.2 in
     rw (last_is l)
-    (⊎_elim (λ h. le-leb l.loop.last a.rules h ∙ sym (rises_within a.symbols a.table.now a.used a.rules rises h))
-    (λ h. lt-leb l.loop.last a.rules h ∙ sym (rises_beyond a.symbols a.table.now a.used a.rules rises (some l) h))
-    (le_or_lt l.loop.last a.rules))
+    (⊎_elim (λ h. le-leb l.loop-row.last-bits a.rules h ∙ sym (rises_within a.symbols a.table.now a.used a.rules rises h))
+    (λ h. lt-leb l.loop-row.last-bits a.rules h ∙ sym (rises_beyond a.symbols a.table.now a.used a.rules rises (some l) h))
+    (le_or_lt l.loop-row.last-bits a.rules))
 
 pub rows_sound_spec : {M : Type 1} → statement M
 rows_sound_spec = tie.close (tie.spec

@@ -7,24 +7,24 @@ use Rattle.literals.proofs.rule_at.Statement.{statement}
 use Rattle.literals.proofs.rule_at.Tie as tie
 
 -- the number that stands there
-number : tie.After-n → ℤ
+number : tie.After-n-1 → ℤ
 number c = get_or c.before.args.table.now (width * c.before.args.row + most_literals) (pos 0)
 
-fits : (c : tie.After-n) → SFits w16 (number c)
+fits : (c : tie.After-n-1) → SFits w16 (number c)
 unfolding number
-fits c = record { sfits = c.n.given }
+fits c = record { sfits = c.n-1.given }
 
-cast_result : tie.Need-overflow-cast-result
+cast_result : tie.Need-overflow_cast-result
 unfolding number
-cast_result c = cast_ok (fits c.before) (at_least_zero (fits c.before) c.if1.true)
+cast_result c = cast_ok (fits c.before) (at_least_zero (fits c.before) c.if-n-ge0.true)
 
-returns : tie.Need-returns
+returns : tie.Need-returns-then-n-ge0
 unfolding number rule_at
-returns c = back_abs (fits c.before) ∙ number_is (number c.before) (at_least_zero (fits c.before) c.if1.true)
+returns c = back_abs (fits c.before) ∙ number_is (number c.before) (at_least_zero (fits c.before) c.if-n-ge0.true)
 
-returns_2 : tie.Need-returns-2
+returns_2 : tie.Need-returns
 unfolding number rule_at
-returns_2 c = number_none (fits c.before) c.if1.false
+returns_2 c = number_none (fits c.before) c.if-n-ge0.false
 
 pub rule_at_spec : {M : Type 1} → statement M
 rule_at_spec = tie.close (tie.spec (λ c. omega arith) (λ c. omega arith) (λ c. omega arith) (λ c. omega arith) cast_result returns returns_2)

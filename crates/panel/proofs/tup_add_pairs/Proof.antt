@@ -1,5 +1,5 @@
 -- `tup_add_pairs` meets its contract: it is `pairs::add_pairs` of `positions`, whose rows and rules fit wholly.
-use Rattle.meaning.proofs.Kit.{arith, needs}
+use Rattle.meaning.proofs.Kit.{arith, rules}
 use Rattle.panel.proofs.Narrow.{narrow_entered}
 use Rattle.panel.proofs.tup_add_pairs.Statement.{statement}
 use Rattle.panel.proofs.tup_add_pairs.Tie as tie
@@ -17,4 +17,4 @@ returns c =
     rw (← a.before.before.board-in.ensures, ← a.add-pairs.ensures.0) (c.addition-out.ensures, a.add-pairs.ensures.1)
 
 pub tup_add_pairs_spec : {M : Type 1} → statement M
-tup_add_pairs_spec = tie.close (tie.spec (λ c κs. search needs) (λ c κs. search needs) addition_out_requires (λ c. search needs) returns)
+tup_add_pairs_spec = tie.close (tie.spec (λ c κs. search rules) (λ c κs. search rules) addition_out_requires (λ c. search rules) returns)

@@ -1,5 +1,5 @@
 -- `tup_ask` meets its contract: it is the board's `ask`.
-use Rattle.meaning.proofs.Kit.{to_z-of_z, needs}
+use Rattle.meaning.proofs.Kit.{to_z-of_z, rules}
 use Rattle.panel.proofs.tup_ask.Statement.{statement}
 use Rattle.panel.proofs.tup_ask.Tie as tie
 
@@ -9,4 +9,4 @@ returns c =
     rw (← b.board-in.ensures, ← to_z-of_z b.before.ranges.l, ← c.before.ask.ensures) c.answer-out.ensures
 
 pub tup_ask_spec : {M : Type 1} → statement M
-tup_ask_spec = tie.close (tie.spec (λ c κs. search needs) (λ c κs. search needs) (λ c κs. search needs) returns)
+tup_ask_spec = tie.close (tie.spec (λ c κs. search rules) (λ c κs. search rules) (λ c κs. search rules) returns)

@@ -1,5 +1,5 @@
 -- `tup_blame` meets its contract: it is the board's `blame`.
-use Rattle.meaning.proofs.Kit.{◌∙◌, ap, needs}
+use Rattle.meaning.proofs.Kit.{◌∙◌, ap, rules}
 use Rattle.board.specs.Faults.{number_in}
 use Rattle.panel.proofs.tup_blame.Statement.{statement}
 use Rattle.panel.proofs.tup_blame.Tie as tie
@@ -11,4 +11,4 @@ returns c =
     rw (← b.board-in.ensures) (c.number_of.ensures ∙ ap number_in w.blame.ensures.0, w.blame.ensures.1)
 
 pub tup_blame_spec : {M : Type 1} → statement M
-tup_blame_spec = tie.close (tie.spec (λ c κs. search needs) (λ c κs. search needs) (λ c κs. search needs) (λ c. search needs) returns)
+tup_blame_spec = tie.close (tie.spec (λ c κs. search rules) (λ c κs. search rules) (λ c κs. search rules) (λ c. search rules) returns)

@@ -1,5 +1,5 @@
 -- `tup_explain` meets its contract: the numbers are the board's, and the literals those of the part that the board's `explain` shows.
-use Rattle.meaning.proofs.Kit.{◌≡◌, ◌∙◌, sym, ap, ⊎_elim, ◌≤◌, ◌-◌, ◌+◌, ◌*◌, arith, length, to_z-of_z, needs}
+use Rattle.meaning.proofs.Kit.{◌≡◌, ◌∙◌, sym, ap, ⊎_elim, ◌≤◌, ◌-◌, ◌+◌, ◌*◌, arith, length, to_z-of_z, rules}
 use Rattle.literals.specs.Row.{width, most_literals, numbers_at}
 use Rattle.board.specs.Asking.{explain_numbers, explain_part}
 use Rattle.board.specs.declared.asking.Reason.{Reason}
@@ -62,6 +62,6 @@ literals_are c =
 
 pub tup_explain_spec : {M : Type 1} → statement M
 tup_explain_spec = tie.close (tie.spec
-    (λ c κs. search needs) (λ c κs. search needs) (λ c. search needs) (λ c. search needs) (λ c. search needs) (λ c κs. inside c.before)
-    cast_literals (λ c. search needs) (λ c κs. search needs)
+    (λ c κs. search rules) (λ c κs. search rules) (λ c. search rules) (λ c. search rules) (λ c. search rules) (λ c κs. inside c.before)
+    cast_literals (λ c. search rules) (λ c κs. search rules)
     (λ c. rw (← numbers c.before.before, ← literals_are c.before, c.number_of.ensures)))

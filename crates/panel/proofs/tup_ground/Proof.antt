@@ -1,5 +1,5 @@
 -- `tup_ground` meets its contract: it is the board's `ground`.
-use Rattle.meaning.proofs.Kit.{◌∙◌, ap, to_z-of_z, needs}
+use Rattle.meaning.proofs.Kit.{◌∙◌, ap, to_z-of_z, rules}
 use Rattle.board.specs.Faults.{number_in}
 use Rattle.panel.proofs.tup_ground.Statement.{statement}
 use Rattle.panel.proofs.tup_ground.Tie as tie
@@ -12,4 +12,4 @@ returns c =
     (c.number_of.ensures ∙ ap number_in w.ground.ensures.0, w.ground.ensures.1)
 
 pub tup_ground_spec : {M : Type 1} → statement M
-tup_ground_spec = tie.close (tie.spec (λ c κs. search needs) (λ c κs. search needs) (λ c κs. search needs) (λ c. search needs) returns)
+tup_ground_spec = tie.close (tie.spec (λ c κs. search rules) (λ c κs. search rules) (λ c κs. search rules) (λ c. search rules) returns)

@@ -1,5 +1,5 @@
 -- `tup_hold` meets its contract: it is the board's `hold`, whose board is as narrow as the given one.
-use Rattle.meaning.proofs.Kit.{arith, to_z-of_z, needs}
+use Rattle.meaning.proofs.Kit.{arith, to_z-of_z, rules}
 use Rattle.panel.proofs.Narrow.{narrow_held}
 use Rattle.panel.proofs.tup_hold.Statement.{statement}
 use Rattle.panel.proofs.tup_hold.Tie as tie
@@ -15,4 +15,4 @@ returns c =
     rw (← b.board-in.ensures, ← to_z-of_z b.before.ranges.l, ← c.before.hold.ensures) c.change-out.ensures
 
 pub tup_hold_spec : {M : Type 1} → statement M
-tup_hold_spec = tie.close (tie.spec (λ c κs. search needs) (λ c κs. search needs) change_out_requires returns)
+tup_hold_spec = tie.close (tie.spec (λ c κs. search rules) (λ c κs. search rules) change_out_requires returns)

@@ -1,5 +1,5 @@
 -- `tup_least` meets its contract: it is the call of `least`.
-use Rattle.meaning.proofs.Kit.{◌∙◌, ap, needs}
+use Rattle.meaning.proofs.Kit.{◌∙◌, ap, rules}
 use Rattle.panel.specs.Crossing.{withdrawal_out}
 use Rattle.panel.proofs.tup_least.Statement.{statement}
 use Rattle.panel.proofs.tup_least.Tie as tie
@@ -11,4 +11,4 @@ returns c =
     rw (← b.board-in.ensures) (c.withdrawal-out.ensures ∙ ap withdrawal_out w.least.ensures)
 
 pub tup_least_spec : {M : Type 1} → statement M
-tup_least_spec = tie.close (tie.spec (λ c κs. search needs) (λ c κs. search needs) (λ c κs. search needs) returns)
+tup_least_spec = tie.close (tie.spec (λ c κs. search rules) (λ c κs. search rules) (λ c κs. search rules) returns)

@@ -82,7 +82,7 @@ module _ {M : Type 1} {𝓤 : Ura M} (𝓛 : Logic 𝓤) (at_mem : Memory → SP
   abbrev Handed : Fml
   Handed = owns (u16 ∷ record'.the_row ∷ []) y (at (record_val h))
 
-  asks : ent 𝓤 (sem 𝓛 Handed) ((Work 𝓛 at_mem run).pre to)
+  asks : ent 𝓤 (sem 𝓛 Handed) ((Work 𝓛 at_mem run).requires to)
   asks = qed 𝓛 (‵ Handed ∷ []) ∵ nothing ! $ join ! $ frame ! $ done !
 
   -- what the step ensures, and its one clause
@@ -110,7 +110,7 @@ module _ {M : Type 1} {𝓤 : Ura M} (𝓛 : Logic 𝓤) (at_mem : Memory → SP
         (from ! (stop !)) (init ! 5 refl (record_fits 𝓛 h is)) $
         -- the record is handed to the step
         move ! (1 ∷ []) $ nothing ! $ move ! (1 ∷ 0 ∷ []) $ fjoin ! $ owned ! u16 (Is u16) (uint_Makes 𝓛 w16) n _ gn $ fjoin ! $
-        use1 𝓛 (raw ((Work 𝓛 at_mem run).pre to)) asks $
+        use1 𝓛 (raw ((Work 𝓛 at_mem run).requires to)) asks $
         calls_at ! fm (Work 𝓛 at_mem run) known to
         (and_then ! (load ! (from ! (stop !)) (look ! 13 refl)) (and_then ! (load ! (from ! (stop !)) (look ! 5 refl)) (no_more !))) (λ w.
         answers ! tt (‵ ftrue) Said a said w (λ r e is'.

@@ -102,7 +102,7 @@ module _ {M : Type 1} {𝓤 : Ura M} (𝓛 : Logic 𝓤) (at_mem : Memory → SP
   abbrev Handed : List (Item 𝓤)
   Handed = (‵ (flft κ q) ⊛ ‵ ftrue) ∷ ‵ (owns (board'.the_row ∷ ShrSlice (named 0) κ i16 ∷ record'.the_row ∷ u8 ∷ []) y (at (record_val h))) ∷ []
 
-  asks : ent 𝓤 (⋆ 𝓛 Handed) ((Work 𝓛 at_mem run).pre to)
+  asks : ent 𝓤 (⋆ 𝓛 Handed) ((Work 𝓛 at_mem run).requires to)
   asks = qed 𝓛 Handed ∵ join ! $ frame ! $ done !
 
   -- what the step ensures, and its one clause
@@ -140,7 +140,7 @@ module _ {M : Type 1} {𝓤 : Ura M} (𝓛 : Logic 𝓤) (at_mem : Memory → SP
         move ! (21 ∷ []) $ use1 𝓛 (‵ Table ⊛ ‵ Table) ((shr_slice_copy 𝓛 (named 0) κ i16).twice s (u ∷ [])) $ split ! $ move ! (3 ∷ []) $
         nothing ! $ owned ! u8 (Is u8) (uint_Makes 𝓛 w8) n _ gn $ fjoin ! $
         move ! (1 ∷ 0 ∷ []) $ fjoin ! $ move ! (1 ∷ 0 ∷ []) $ fjoin ! $ board_owned ! g gb $ fjoin ! $
-        move ! (23 ∷ 22 ∷ 0 ∷ []) $ join ! $ use2 𝓛 (raw ((Work 𝓛 at_mem run).pre to)) asks $
+        move ! (23 ∷ 22 ∷ 0 ∷ []) $ join ! $ use2 𝓛 (raw ((Work 𝓛 at_mem run).requires to)) asks $
         -- [what the step asks; the table; the record's cell; the open borrow; obs; auth; _7; …; _1; …; room for _0; …]
         calls_at ! fm (Work 𝓛 at_mem run) known to
         (and_then ! (load ! (from ! (stop !)) (look ! 18 refl)) (and_then ! (load ! (from ! (stop !)) (look ! 16 refl))

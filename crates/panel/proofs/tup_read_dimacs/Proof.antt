@@ -1,5 +1,5 @@
 -- `tup_read_dimacs` meets its contract: it is the `read` of `dimacs`, whose rows are at most those lent.
-use Rattle.meaning.proofs.Kit.{arith, needs}
+use Rattle.meaning.proofs.Kit.{arith, rules}
 use Rattle.panel.proofs.Narrow.{narrow_read}
 use Rattle.panel.proofs.tup_read_dimacs.Statement.{statement}
 use Rattle.panel.proofs.tup_read_dimacs.Tie as tie
@@ -18,4 +18,4 @@ returns c =
     rw (← a.before.before.board-in.ensures, ← a.read.ensures.0) (c.reading-out.ensures, a.read.ensures.1)
 
 pub tup_read_dimacs_spec : {M : Type 1} → statement M
-tup_read_dimacs_spec = tie.close (tie.spec (λ c κs. search needs) (λ c κs. search needs) reading_out_requires (λ c. search needs) returns)
+tup_read_dimacs_spec = tie.close (tie.spec (λ c κs. search rules) (λ c κs. search rules) reading_out_requires (λ c. search rules) returns)

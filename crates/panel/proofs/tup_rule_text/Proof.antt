@@ -1,5 +1,5 @@
 -- `tup_rule_text` meets its contract: it is the `add_text` of `text`, whose rows are at most those lent.
-use Rattle.meaning.proofs.Kit.{arith, needs}
+use Rattle.meaning.proofs.Kit.{arith, rules}
 use Rattle.panel.proofs.Narrow.{narrow_ruled_text}
 use Rattle.panel.proofs.tup_rule_text.Statement.{statement}
 use Rattle.panel.proofs.tup_rule_text.Tie as tie
@@ -18,4 +18,4 @@ returns c =
     rw (← a.before.before.board-in.ensures, ← a.add-text.ensures.0) (c.addition-out.ensures, a.add-text.ensures.1)
 
 pub tup_rule_text_spec : {M : Type 1} → statement M
-tup_rule_text_spec = tie.close (tie.spec (λ c κs. search needs) (λ c κs. search needs) addition_out_requires (λ c. search needs) returns)
+tup_rule_text_spec = tie.close (tie.spec (λ c κs. search rules) (λ c κs. search rules) addition_out_requires (λ c. search rules) returns)

@@ -1,5 +1,5 @@
 -- `tup_settle` meets its contract: it is the board's `settle`.
-use Rattle.meaning.proofs.Kit.{◌∙◌, sym, ap, needs}
+use Rattle.meaning.proofs.Kit.{◌∙◌, sym, ap, rules}
 use Rattle.board.specs.Faults.{number_in}
 use Rattle.board.proofs.Answered.{done_alone}
 use Rattle.panel.proofs.tup_settle.Statement.{statement}
@@ -21,4 +21,4 @@ returns c =
 
 pub tup_settle_spec : {M : Type 1} → statement M
 tup_settle_spec = tie.close (tie.spec
-    (λ c κs. search needs) (λ c κs. search needs) (λ c κs. search needs) (λ c. search needs) (λ c. search needs) (λ c. search needs) returns)
+    (λ c κs. search rules) (λ c κs. search rules) (λ c κs. search rules) (λ c. search rules) (λ c. search rules) (λ c. search rules) returns)

@@ -1,5 +1,5 @@
 -- `tup_smallest` meets its contract: it is the call of `smallest`.
-use Rattle.meaning.proofs.Kit.{◌∙◌, ap, to_z-of_z, needs}
+use Rattle.meaning.proofs.Kit.{◌∙◌, ap, to_z-of_z, rules}
 use Rattle.panel.specs.Crossing.{listing_out}
 use Rattle.panel.proofs.tup_smallest.Statement.{statement}
 use Rattle.panel.proofs.tup_smallest.Tie as tie
@@ -14,4 +14,4 @@ returns c =
     )
 
 pub tup_smallest_spec : {M : Type 1} → statement M
-tup_smallest_spec = tie.close (tie.spec (λ c κs. search needs) (λ c κs. search needs) (λ c κs. search needs) (λ c. search needs) returns)
+tup_smallest_spec = tie.close (tie.spec (λ c κs. search rules) (λ c κs. search rules) (λ c κs. search rules) (λ c. search rules) returns)

@@ -1,5 +1,5 @@
 -- `tup_write_text` meets its contract: it is the `write` of `text`.
-use Rattle.meaning.proofs.Kit.{needs}
+use Rattle.meaning.proofs.Kit.{rules}
 use Rattle.panel.proofs.tup_write_text.Statement.{statement}
 use Rattle.panel.proofs.tup_write_text.Tie as tie
 
@@ -10,4 +10,4 @@ returns c =
     rw (← b.board-in.ensures, ← w.write.ensures.0) (c.spelling-out.ensures, w.write.ensures.1)
 
 pub tup_write_text_spec : {M : Type 1} → statement M
-tup_write_text_spec = tie.close (tie.spec (λ c κs. search needs) (λ c κs. search needs) (λ c κs. search needs) (λ c. search needs) returns)
+tup_write_text_spec = tie.close (tie.spec (λ c κs. search rules) (λ c κs. search rules) (λ c κs. search rules) (λ c. search rules) returns)

@@ -1,5 +1,5 @@
 -- `parity` is safe and ends: it fills a table of 256 values.
-use Rattle.meaning.proofs.Kit.{◌≡◌, ◌≤◌, ◌-◌, length, needs}
+use Rattle.meaning.proofs.Kit.{◌≡◌, ◌≤◌, ◌-◌, length, rules}
 use Rattle.rows_run.proofs.parity.Statement.{statement}
 use Rattle.rows_run.proofs.parity.Tie as tie
 
@@ -11,5 +11,5 @@ decreases_loop truth₀ i₀ truth i = 256 - i
 
 pub parity_spec : {M : Type 1} → statement M
 parity_spec = tie.close (tie.spec
-    invariant_loop decreases_loop (λ c. search needs) (λ c. search needs) (λ c. search needs) (λ c. search needs) (λ c. search needs) (λ c. search needs)
-    (λ c. search needs))
+    invariant_loop decreases_loop (λ c. search rules) (λ c. search rules) (λ c. search rules) (λ c. search rules) (λ c. search rules) (λ c. search rules)
+    (λ c. search rules))

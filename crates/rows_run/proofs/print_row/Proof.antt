@@ -1,5 +1,5 @@
 -- `print_row` is safe and ends: it reads the numbers of one row.
-use Rattle.meaning.proofs.Kit.{◌≤◌, ◌-◌, needs}
+use Rattle.meaning.proofs.Kit.{◌≤◌, ◌-◌, rules}
 use Rattle.literals.specs.Row.{most_literals}
 use Rattle.rows_run.proofs.print_row.Statement.{statement}
 use Rattle.rows_run.proofs.print_row.Tie as tie
@@ -12,6 +12,6 @@ decreases_loop table row k₀ t5 t6 k = most_literals - k
 
 pub print_row_spec : {M : Type 1} → statement M
 print_row_spec = tie.close (tie.spec
-    invariant_loop decreases_loop (λ c. search needs) (λ c. search needs) (λ c. search needs) (λ c. search needs) (λ c. search needs) (λ c κs. search needs)
-    (λ c. search needs) (λ c. search needs) (λ c. search needs) (λ c. search needs) (λ c κs. search needs) (λ c κs. search needs)
-    (λ c κs. search needs) (λ c. search needs) (λ c κs. search needs) (λ c. search needs))
+    invariant_loop decreases_loop (λ c. search rules) (λ c. search rules) (λ c. search rules) (λ c. search rules) (λ c. search rules) (λ c κs. search rules)
+    (λ c. search rules) (λ c. search rules) (λ c. search rules) (λ c. search rules) (λ c κs. search rules) (λ c κs. search rules)
+    (λ c κs. search rules) (λ c. search rules) (λ c κs. search rules) (λ c. search rules))

@@ -1,5 +1,5 @@
 -- `print_rows` is safe and ends: the rows that it prints are in the table.
-use Rattle.meaning.proofs.Kit.{◌≤◌, ◌-◌, needs}
+use Rattle.meaning.proofs.Kit.{◌≤◌, ◌-◌, rules}
 use Rattle.rows_run.proofs.print_rows.Statement.{statement}
 use Rattle.rows_run.proofs.print_rows.Tie as tie
 
@@ -11,5 +11,5 @@ decreases_loop table used n i₀ i = n - i
 
 pub print_rows_spec : {M : Type 1} → statement M
 print_rows_spec = tie.close (tie.spec
-    invariant_loop decreases_loop (λ c. search needs) (λ c. search needs) (λ c. search needs) (λ c κs. search needs) (λ c. search needs) (λ c. search needs)
-    (λ c. search needs) (λ c. search needs))
+    invariant_loop decreases_loop (λ c. search rules) (λ c. search rules) (λ c. search rules) (λ c κs. search rules) (λ c. search rules) (λ c. search rules)
+    (λ c. search rules) (λ c. search rules))

@@ -1,5 +1,5 @@
 -- `show` is safe and ends: where rows were appended they fit into those lent.
-use Rattle.meaning.proofs.Kit.{◌≡◌, ◌∙◌, sym, arith, length, needs}
+use Rattle.meaning.proofs.Kit.{◌≡◌, ◌∙◌, sym, arith, length, rules}
 use Rattle.implicates.specs.Appending.{rule_by}
 use Rattle.implicates.proofs.Rules.{told_fit}
 use Rattle.rows_run.proofs.show.Statement.{statement}
@@ -21,10 +21,10 @@ print_rows_requires c κs =
     let n = t.told.given in
     let long : length r.last.0 ≡ 1152 = r.kept.0 in
     let fit = told_fit (rule_by a.symbols.now a.truth.now) a.used a.rules a.lent n.0.0 (sym r.ensures.0 ∙ n.1) in
-    omega (arith, long, s.pre.1, fit)
+    omega (arith, long, s.requires.1, fit)
 
 pub show_spec : {M : Type 1} → statement M
 show_spec = tie.close (tie.spec
-    (λ c. search needs) (λ c κs. search needs) (λ c. search needs) (λ c κs. search needs) (λ c. search needs) print_rows_requires (λ c. search needs)
-    (λ c. search needs) (λ c κs. search needs) (λ c. search needs) (λ c. search needs) (λ c κs. search needs) (λ c. search needs) (λ c. search needs)
-    (λ c. search needs))
+    (λ c. search rules) (λ c κs. search rules) (λ c. search rules) (λ c κs. search rules) (λ c. search rules) print_rows_requires (λ c. search rules)
+    (λ c. search rules) (λ c κs. search rules) (λ c. search rules) (λ c. search rules) (λ c κs. search rules) (λ c. search rules) (λ c. search rules)
+    (λ c. search rules))

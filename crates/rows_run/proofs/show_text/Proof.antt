@@ -1,5 +1,5 @@
 -- `show_text` is safe and ends: the part of the table that it lends is as long as the text.
-use Rattle.meaning.proofs.Kit.{◌≡◌, ◌∙◌, sym, arith, length, take, length-take-le, needs}
+use Rattle.meaning.proofs.Kit.{◌≡◌, ◌∙◌, sym, arith, length, take, length-take-le, rules}
 use Rattle.rows_run.proofs.show_text.Statement.{statement}
 use Rattle.rows_run.proofs.show_text.Tie as tie
 
@@ -17,4 +17,4 @@ show_requires c κs =
 pub show_text_spec : {M : Type 1} → statement M
 show_text_spec =
     tie.close
-    (tie.spec (λ c κs. search needs) (λ c. search needs) (λ c. sym (long c.before)) show_requires (λ c. search needs))
+    (tie.spec (λ c κs. search rules) (λ c. search rules) (λ c. sym (long c.before)) show_requires (λ c. search rules))

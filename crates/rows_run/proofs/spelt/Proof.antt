@@ -1,5 +1,5 @@
 -- `spelt` is safe and ends: it fills as many values as the text has bytes.
-use Rattle.meaning.proofs.Kit.{◌≡◌, ◌≤◌, ◌-◌, length, needs}
+use Rattle.meaning.proofs.Kit.{◌≡◌, ◌≤◌, ◌-◌, length, rules}
 use Rattle.rows_run.proofs.spelt.Statement.{statement}
 use Rattle.rows_run.proofs.spelt.Tie as tie
 
@@ -11,5 +11,5 @@ decreases_loop text truth₀ i₀ truth i = length text - i
 
 pub spelt_spec : {M : Type 1} → statement M
 spelt_spec = tie.close (tie.spec
-    invariant_loop decreases_loop (λ c. search needs) (λ c. search needs) (λ c. search needs) (λ c. search needs) (λ c. search needs) (λ c. search needs)
-    (λ c. search needs))
+    invariant_loop decreases_loop (λ c. search rules) (λ c. search rules) (λ c. search rules) (λ c. search rules) (λ c. search rules) (λ c. search rules)
+    (λ c. search rules))

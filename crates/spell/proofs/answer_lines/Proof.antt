@@ -1,5 +1,5 @@
 -- `answer_lines` is safe and ends: each line lies within the input, and the buffers stay as long as they were.
-use Rattle.meaning.proofs.Kit.{◌≡◌, ◌∙◌, refl, ◌≤◌, ◌-◌, ◌+◌, arith, length, drop, take, length-drop, length-take, needs}
+use Rattle.meaning.proofs.Kit.{◌≡◌, ◌∙◌, refl, ◌≤◌, ◌-◌, ◌+◌, arith, length, drop, take, length-drop, length-take, rules}
 use Rattle.spell.proofs.answer_lines.Statement.{statement}
 use Rattle.spell.proofs.answer_lines.Tie as tie
 
@@ -29,7 +29,7 @@ answer_requires : tie.Need-answer-requires invariant_loop decreases_loop
 answer_requires c κs =
     let b = c.before.before in
     let n = b.before.before in
-    omega (arith, line_short n, (start (at n)).pre, (at n).loop.invariant)
+    omega (arith, line_short n, (start (at n)).requires, (at n).loop.invariant)
 
 abbrev lined : tie.After-answer invariant_loop decreases_loop → tie.After-line-length invariant_loop decreases_loop
 lined c = c.before.before.before.before.before
@@ -38,13 +38,13 @@ loop_again : tie.Need-loop-preserved invariant_loop decreases_loop
 loop_again c =
     let b = c.before.before in
     let a = b.before.before.before in
-    let inv = (at (lined a)).loop.inv in
+    let inv = (at (lined a)).loop.invariant in
     let kept = a.answer.auto in
     (kept.1.0 ∙ inv.0, kept.1.1.0 ∙ inv.1, kept.1.1.1.0 ∙ inv.2)
 
 pub answer_lines_spec : {M : Type 1} → statement M
 answer_lines_spec = tie.close (tie.spec
-    invariant_loop decreases_loop (λ c. (refl, refl, refl)) (λ c. search needs) (λ c κs. search needs) (λ c. omega arith) (λ c. omega arith) (λ c. omega arith)
-    (λ c κs. search needs) (λ c. omega (arith, within c)) (λ c. omega (arith, within c)) (λ c. omega (arith, within c)) (λ c. omega (arith, within c))
+    invariant_loop decreases_loop (λ c. (refl, refl, refl)) (λ c. search rules) (λ c κs. search rules) (λ c. omega arith) (λ c. omega arith) (λ c. omega arith)
+    (λ c κs. search rules) (λ c. omega (arith, within c)) (λ c. omega (arith, within c)) (λ c. omega (arith, within c)) (λ c. omega (arith, within c))
     answer_requires (λ c. omega arith) (λ c. omega arith) loop_again (λ c. c.before.loop.invariant.0) (λ c. c.before.loop.invariant.1)
     (λ c. c.before.loop.invariant.2) (λ c. tt))

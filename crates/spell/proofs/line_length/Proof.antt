@@ -1,5 +1,5 @@
 -- `line_length` meets its contract. The invariant: none of the bytes so far is a line feed.
-use Rattle.meaning.proofs.Kit.{◌≡◌, ◌≤◌, ℕ, ◌<◌, ◌-◌, length, get_or, needs, below_more}
+use Rattle.meaning.proofs.Kit.{◌≡◌, ◌≤◌, ℕ, ◌<◌, ◌-◌, length, get_or, rules, below_more}
 use Rattle.spell.proofs.line_length.Statement.{statement}
 use Rattle.spell.proofs.line_length.Tie as tie
 
@@ -11,5 +11,5 @@ decreases_loop rest n₀ n = length rest - n
 
 pub line_length_spec : {M : Type 1} → statement M
 line_length_spec = tie.close (tie.spec
-    invariant_loop decreases_loop (λ c. search needs) (λ c. search needs) (λ c. search needs) (λ c. search needs) (λ c. search needs)
-    (λ c. (search needs, below_more _ _ c.before.before.before.loop.invariant.1 c.if1.false)) (λ c. search needs))
+    invariant_loop decreases_loop (λ c. search rules) (λ c. search rules) (λ c. search rules) (λ c. search rules) (λ c. search rules)
+    (λ c. (search rules, below_more _ _ c.before.before.before.loop.invariant.1 c.if1.false)) (λ c. search rules))

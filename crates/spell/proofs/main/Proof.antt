@@ -1,5 +1,5 @@
 -- `main` is safe: the buffers are long enough for the longest line.
-use Rattle.meaning.proofs.Kit.{arith, length-replicate, length-take, needs}
+use Rattle.meaning.proofs.Kit.{arith, length-replicate, length-take, rules}
 use Rattle.spell.proofs.main.Statement.{statement}
 use Rattle.spell.proofs.main.Tie as tie
 
@@ -8,6 +8,6 @@ answer_lines_requires c κs = (simp (length-take, length-replicate) (omega arith
 
 pub main_spec : {M : Type 1} → statement M
 main_spec = tie.close (tie.spec
-    (λ c. search needs) (λ c κs. search needs) (λ c κs. search needs) (λ c. search needs) (λ c. search needs) (λ c κs. search needs)
-    (λ c. search needs) (λ c. search needs) (λ c. search needs) (λ c. search needs) (λ c. search needs) (λ c. search needs) answer_lines_requires
-    (λ c. search needs))
+    (λ c. search rules) (λ c κs. search rules) (λ c κs. search rules) (λ c. search rules) (λ c. search rules) (λ c κs. search rules)
+    (λ c. search rules) (λ c. search rules) (λ c. search rules) (λ c. search rules) (λ c. search rules) (λ c. search rules) answer_lines_requires
+    (λ c. search rules))

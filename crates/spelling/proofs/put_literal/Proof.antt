@@ -1,5 +1,5 @@
 -- `put_literal` meets its contract, by the sign.
-use Rattle.meaning.proofs.Kit.{◌∙◌, ap, arith, length, length-set, needs}
+use Rattle.meaning.proofs.Kit.{◌∙◌, ap, arith, length, length-set, rules}
 use Rattle.spelling.proofs.Pieces.{literal_neg, literal_pos, put_one, put_put}
 use Rattle.spelling.proofs.put_literal.Statement.{statement}
 use Rattle.spelling.proofs.put_literal.Tie as tie
@@ -36,5 +36,5 @@ returns_2 c =
 
 pub put_literal_spec : {M : Type 1} → statement M
 put_literal_spec = tie.close (tie.spec
-    (λ c κs. search needs) slice_write_out (λ c. search needs) put_symbol_requires (λ c. c.before.before.put-symbol.auto.0 ∙ simp length-set)
-    returns put_symbol_requires_2 (λ c. search needs) returns_2)
+    (λ c κs. search rules) slice_write_out (λ c. search rules) put_symbol_requires (λ c. c.before.before.put-symbol.auto.0 ∙ simp length-set)
+    returns put_symbol_requires_2 (λ c. search rules) returns_2)

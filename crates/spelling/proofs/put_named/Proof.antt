@@ -1,5 +1,5 @@
 -- `spelling::put_named` meets its contract: one piece after another.
-use Rattle.meaning.proofs.Kit.{arith, needs}
+use Rattle.meaning.proofs.Kit.{arith, rules}
 use Rattle.spelling.proofs.Pieces.{natural_most, put_length, put_put}
 use Rattle.spelling.proofs.put_named.Statement.{statement}
 use Rattle.spelling.proofs.put_named.Tie as tie
@@ -15,7 +15,7 @@ put_natural_requires c κs =
     let w = c.before.before.before in
     let s = start w in
     let p = w.put_word.ensures in
-    omega (arith, s.pre, p.ends, put_length p, natural_most 19 s.args.n (omega (arith, s.fits.n)))
+    omega (arith, s.requires, p.ends, put_length p, natural_most 19 s.args.n (omega (arith, s.fits.n)))
 
 returns : tie.Need-returns
 returns c =
@@ -27,4 +27,4 @@ returns c =
     (put_put _ _ p q, omega (arith, p.ends, q.ends, natural_most 19 s.args.n (omega (arith, s.fits.n))))
 
 pub put_named_spec : {M : Type 1} → statement M
-put_named_spec = tie.close (tie.spec (λ c κs. omega arith) put_natural_requires (λ c. search needs) returns)
+put_named_spec = tie.close (tie.spec (λ c κs. omega arith) put_natural_requires (λ c. search rules) returns)

@@ -1,5 +1,5 @@
 -- `asking::say_marked` is safe and ends: it tells no more literals than it has passed.
-use Rattle.meaning.proofs.Kit.{⊎_elim, ◌≤◌, ◌-◌, arith, length, needs}
+use Rattle.meaning.proofs.Kit.{⊎_elim, ◌≤◌, ◌-◌, arith, length, rules}
 use Rattle.answers.proofs.asking.say_marked.Statement.{statement}
 use Rattle.answers.proofs.asking.say_marked.Tie as tie
 
@@ -14,5 +14,5 @@ loop_again c = ⊎_elim (λ w. omega arith) (λ w. omega arith) c.if1.branch
 
 pub say_marked_spec : {M : Type 1} → statement M
 say_marked_spec = tie.close (tie.spec
-    invariant_loop decreases_loop (λ c. search needs) (λ c. search needs) (λ c κs. search needs) (λ c κs. search needs) (λ c. search needs) (λ c. search needs)
-    (λ c. search needs) loop_again (λ c. search needs) (λ c κs. search needs) (λ c. search needs) (λ c κs. search needs) (λ c. search needs))
+    invariant_loop decreases_loop (λ c. search rules) (λ c. search rules) (λ c κs. search rules) (λ c κs. search rules) (λ c. search rules) (λ c. search rules)
+    (λ c. search rules) loop_again (λ c. search rules) (λ c κs. search rules) (λ c. search rules) (λ c κs. search rules) (λ c. search rules))

@@ -1,5 +1,5 @@
 -- `asking::say_marks` is safe and ends: the opposite of a place of 400 is one of them.
-use Rattle.meaning.proofs.Kit.{⊎_elim, ◌≤◌, ◌<◌, ◌-◌, arith, needs}
+use Rattle.meaning.proofs.Kit.{⊎_elim, ◌≤◌, ◌<◌, ◌-◌, arith, rules}
 use Rattle.answers.proofs.asking.say_marks.Statement.{statement}
 use Rattle.answers.proofs.asking.say_marks.Tie as tie
 
@@ -15,6 +15,6 @@ low c = ⊎_elim (λ w. omega arith) (λ w. omega arith) c.if2.branch
 
 pub say_marks_spec : {M : Type 1} → statement M
 say_marks_spec = tie.close (tie.spec
-    invariant_loop decreases_loop (λ c. search needs) (λ c. search needs) (λ c. search needs) (λ c. search needs) (λ c. search needs) (λ c. search needs)
-    (λ c. search needs) (λ c. omega (arith, low c.before.before)) (λ c. omega (arith, low c.before.before.before)) (λ c κs. search needs)
-    (λ c. search needs) (λ c. search needs) (λ c. search needs) (λ c. search needs) (λ c κs. search needs) (λ c. search needs) (λ c. search needs))
+    invariant_loop decreases_loop (λ c. search rules) (λ c. search rules) (λ c. search rules) (λ c. search rules) (λ c. search rules) (λ c. search rules)
+    (λ c. search rules) (λ c. omega (arith, low c.before.before)) (λ c. omega (arith, low c.before.before.before)) (λ c κs. search rules)
+    (λ c. search rules) (λ c. search rules) (λ c. search rules) (λ c. search rules) (λ c κs. search rules) (λ c. search rules) (λ c. search rules))

@@ -1,5 +1,5 @@
 -- `choosing::gather` meets its contract: it takes no more literals than there is room for.
-use Rattle.meaning.proofs.Kit.{◌≡◌, ◌≤◌, ◌-◌, length, needs}
+use Rattle.meaning.proofs.Kit.{◌≡◌, ◌≤◌, ◌-◌, length, rules}
 use Rattle.answers.proofs.choosing.gather.Statement.{statement}
 use Rattle.answers.proofs.choosing.gather.Tie as tie
 
@@ -11,6 +11,6 @@ decreases_loop names line from given₀ count₀ given count = 400 - count
 
 pub gather_spec : {M : Type 1} → statement M
 gather_spec = tie.close (tie.spec
-    invariant_loop decreases_loop (λ c. search needs) (λ c. search needs) (λ c κs. search needs) (λ c. search needs) (λ c κs. search needs) (λ c κs. search needs)
-    (λ c. search needs) (λ c. search needs) (λ c. search needs) (λ c. search needs) (λ c. search needs) (λ c. search needs) (λ c. search needs)
-    (λ c. search needs) (λ c. search needs) (λ c. search needs) (λ c. search needs) (λ c. search needs) (λ c. search needs) (λ c. search needs))
+    invariant_loop decreases_loop (λ c. search rules) (λ c. search rules) (λ c κs. search rules) (λ c. search rules) (λ c κs. search rules) (λ c κs. search rules)
+    (λ c. search rules) (λ c. search rules) (λ c. search rules) (λ c. search rules) (λ c. search rules) (λ c. search rules) (λ c. search rules)
+    (λ c. search rules) (λ c. search rules) (λ c. search rules) (λ c. search rules) (λ c. search rules) (λ c. search rules) (λ c. search rules))

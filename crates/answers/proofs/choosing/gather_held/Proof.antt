@@ -1,5 +1,5 @@
 -- `choosing::gather_held` meets its contract: it takes no more literals than it has passed places.
-use Rattle.meaning.proofs.Kit.{◌≡◌, ◌∙◌, ap, ⊎_elim, ◌≤◌, ◌-◌, arith, length, length-set, needs}
+use Rattle.meaning.proofs.Kit.{◌≡◌, ◌∙◌, ap, ⊎_elim, ◌≤◌, ◌-◌, arith, length, length-set, rules}
 use Rattle.answers.proofs.choosing.gather_held.Statement.{statement}
 use Rattle.answers.proofs.choosing.gather_held.Tie as tie
 
@@ -18,5 +18,5 @@ loop_again c =
 
 pub gather_held_spec : {M : Type 1} → statement M
 gather_held_spec = tie.close (tie.spec
-    invariant_loop decreases_loop (λ c. search needs) (λ c κs. search needs) (λ c κs. search needs) (λ c. search needs) (λ c. search needs) (λ c. search needs)
-    (λ c. search needs) (λ c. search needs) loop_again (λ c. search needs) (λ c. search needs))
+    invariant_loop decreases_loop (λ c. search rules) (λ c κs. search rules) (λ c κs. search rules) (λ c. search rules) (λ c. search rules) (λ c. search rules)
+    (λ c. search rules) (λ c. search rules) loop_again (λ c. search rules) (λ c. search rules))

@@ -1,5 +1,5 @@
 -- `choosing::say_set` is safe and ends: it says no more literals than it has passed.
-use Rattle.meaning.proofs.Kit.{⊎_elim, ◌≤◌, ◌<◌, ◌-◌, arith, needs, ltb-true}
+use Rattle.meaning.proofs.Kit.{⊎_elim, ◌≤◌, ◌<◌, ◌-◌, arith, rules, ltb-true}
 use Rattle.answers.proofs.choosing.say_set.Statement.{statement}
 use Rattle.answers.proofs.choosing.say_set.Tie as tie
 
@@ -17,6 +17,6 @@ loop_again c = let low = below c.before.before in ⊎_elim (λ w. omega (arith, 
 
 pub say_set_spec : {M : Type 1} → statement M
 say_set_spec = tie.close (tie.spec
-    invariant_loop decreases_loop (λ c. search needs) (λ c κs. search needs) (λ c κs. search needs) (λ c. search needs) (λ c. search needs) (λ c κs. search needs)
-    (λ c. search needs) (λ c. search needs) (λ c. omega (arith, below c.before.before)) loop_again (λ c κs. search needs) (λ c. search needs)
-    (λ c κs. search needs) (λ c. search needs))
+    invariant_loop decreases_loop (λ c. search rules) (λ c κs. search rules) (λ c κs. search rules) (λ c. search rules) (λ c. search rules) (λ c κs. search rules)
+    (λ c. search rules) (λ c. search rules) (λ c. omega (arith, below c.before.before)) loop_again (λ c κs. search rules) (λ c. search rules)
+    (λ c κs. search rules) (λ c. search rules))

@@ -1,5 +1,5 @@
 -- `choosing::say_sets` is safe and ends: by the number of sets said.
-use Rattle.meaning.proofs.Kit.{◌≤◌, ◌-◌, length, needs}
+use Rattle.meaning.proofs.Kit.{◌≤◌, ◌-◌, length, rules}
 use Rattle.answers.proofs.choosing.say_sets.Statement.{statement}
 use Rattle.answers.proofs.choosing.say_sets.Tie as tie
 
@@ -11,7 +11,7 @@ decreases_loop names given l sets k₀ t6 t7 t8 t9 t10 k = length sets - k
 
 pub say_sets_spec : {M : Type 1} → statement M
 say_sets_spec = tie.close (tie.spec
-    invariant_loop decreases_loop (λ c. search needs) (λ c. search needs) (λ c κs. search needs) (λ c κs. search needs) (λ c. search needs) (λ c κs. search needs)
-    (λ c. search needs) (λ c. search needs) (λ c. search needs) (λ c κs. search needs) (λ c. search needs) (λ c. search needs) (λ c. search needs)
-    (λ c. search needs) (λ c κs. search needs) (λ c κs. search needs) (λ c. search needs) (λ c κs. search needs) (λ c. search needs)
-    (λ c. search needs))
+    invariant_loop decreases_loop (λ c. search rules) (λ c. search rules) (λ c κs. search rules) (λ c κs. search rules) (λ c. search rules) (λ c κs. search rules)
+    (λ c. search rules) (λ c. search rules) (λ c. search rules) (λ c κs. search rules) (λ c. search rules) (λ c. search rules) (λ c. search rules)
+    (λ c. search rules) (λ c κs. search rules) (λ c κs. search rules) (λ c. search rules) (λ c κs. search rules) (λ c. search rules)
+    (λ c. search rules))

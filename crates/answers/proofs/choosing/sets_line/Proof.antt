@@ -1,5 +1,5 @@
 -- `choosing::sets_line` is safe: no more literals are given than there is room for.
-use Rattle.meaning.proofs.Kit.{sym, subst, ◌≤◌, arith, length-take-le, needs}
+use Rattle.meaning.proofs.Kit.{sym, subst, ◌≤◌, arith, length-take-le, rules}
 use Rattle.answers.specs.Choices.{Few}
 use Rattle.answers.proofs.choosing.sets_line.Statement.{statement}
 use Rattle.answers.proofs.choosing.sets_line.Tie as tie
@@ -10,7 +10,7 @@ few c = subst Few c.count.given.1 c.before.before.before.gather.ensures
 
 pub sets_line_spec : {M : Type 1} → statement M
 sets_line_spec = tie.close (tie.spec
-    (λ c κs. search needs) (λ c κs. search needs) (λ c. search needs) (λ c κs. search needs) (λ c. search needs) (λ c. search needs)
-    (λ c κs. search needs) (λ c. search needs) (λ c κs. search needs) (λ c. search needs) (λ c. omega (arith, few c.before))
-    (λ c. sym (length-take-le _ _ (omega (arith, few c.before.before)))) (λ c κs. search needs) (λ c. search needs) (λ c. search needs)
-    (λ c. search needs))
+    (λ c κs. search rules) (λ c κs. search rules) (λ c. search rules) (λ c κs. search rules) (λ c. search rules) (λ c. search rules)
+    (λ c κs. search rules) (λ c. search rules) (λ c κs. search rules) (λ c. search rules) (λ c. omega (arith, few c.before))
+    (λ c. sym (length-take-le _ _ (omega (arith, few c.before.before)))) (λ c κs. search rules) (λ c. search rules) (λ c. search rules)
+    (λ c. search rules))

@@ -1,5 +1,5 @@
 -- `table::cnf` is safe: the text lies within the bytes lent for it.
-use Rattle.meaning.proofs.Kit.{sym, ◌≤◌, length, length-take-le, needs}
+use Rattle.meaning.proofs.Kit.{sym, ◌≤◌, length, length-take-le, rules}
 use Rattle.answers.proofs.Within.{text_within}
 use Rattle.answers.proofs.table.cnf.Statement.{statement}
 use Rattle.answers.proofs.table.cnf.Tie as tie
@@ -12,5 +12,5 @@ slice_aggregate_say c = let p = c.before in sym (length-take-le _ _ (within p.be
 
 pub cnf_spec : {M : Type 1} → statement M
 cnf_spec = tie.close (tie.spec
-    (λ c. search needs) (λ c κs. search needs) (λ c. search needs) (λ c κs. search needs) (λ c. search needs)
-    (λ c. within c.before.before.before) slice_aggregate_say (λ c κs. search needs) (λ c. search needs) (λ c. search needs))
+    (λ c. search rules) (λ c κs. search rules) (λ c. search rules) (λ c κs. search rules) (λ c. search rules)
+    (λ c. within c.before.before.before) slice_aggregate_say (λ c κs. search rules) (λ c. search rules) (λ c. search rules))

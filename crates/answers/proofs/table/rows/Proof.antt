@@ -1,5 +1,5 @@
 -- `table::rows` is safe: the rows in use of a good board lie within the table.
-use Rattle.meaning.proofs.Kit.{◌∙◌, sym, arith, needs, not-false}
+use Rattle.meaning.proofs.Kit.{◌∙◌, sym, arith, rules, not-false}
 use Rattle.board.proofs.Goodness.{good_is}
 use Rattle.answers.proofs.table.rows.Statement.{statement}
 use Rattle.answers.proofs.table.rows.Tie as tie
@@ -12,4 +12,4 @@ say_rows_requires c κs =
     (s.requires, omega (arith, good.lent))
 
 pub rows_spec : {M : Type 1} → statement M
-rows_spec = tie.close (tie.spec (λ c κs. search needs) (λ c κs. search needs) (λ c. search needs) say_rows_requires (λ c. search needs))
+rows_spec = tie.close (tie.spec (λ c κs. search rules) (λ c κs. search rules) (λ c. search rules) say_rows_requires (λ c. search rules))

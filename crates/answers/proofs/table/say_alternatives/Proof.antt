@@ -1,5 +1,5 @@
 -- `table::say_alternatives` is safe and ends: by the number of literals said.
-use Rattle.meaning.proofs.Kit.{◌≤◌, ◌-◌, length, needs}
+use Rattle.meaning.proofs.Kit.{◌≤◌, ◌-◌, length, rules}
 use Rattle.answers.proofs.table.say_alternatives.Statement.{statement}
 use Rattle.answers.proofs.table.say_alternatives.Tie as tie
 
@@ -11,5 +11,5 @@ decreases_loop names part k₀ t4 t5 k = length part - k
 
 pub say_alternatives_spec : {M : Type 1} → statement M
 say_alternatives_spec = tie.close (tie.spec
-    invariant_loop decreases_loop (λ c. search needs) (λ c. search needs) (λ c κs. search needs) (λ c. search needs) (λ c. search needs) (λ c κs. search needs)
-    (λ c. search needs) (λ c. search needs) (λ c. search needs) (λ c. search needs) (λ c κs. search needs) (λ c. search needs))
+    invariant_loop decreases_loop (λ c. search rules) (λ c. search rules) (λ c κs. search rules) (λ c. search rules) (λ c. search rules) (λ c κs. search rules)
+    (λ c. search rules) (λ c. search rules) (λ c. search rules) (λ c. search rules) (λ c κs. search rules) (λ c. search rules))

@@ -1,5 +1,5 @@
 -- `table::say_row` is safe: a row has eight literals at most.
-use Rattle.meaning.proofs.Kit.{◌≤◌, ◌*◌, arith, needs}
+use Rattle.meaning.proofs.Kit.{◌≤◌, ◌*◌, arith, rules}
 use Rattle.literals.specs.Row.{width, most_literals}
 use Rattle.literals.proofs.Counting.{count_few}
 use Rattle.answers.proofs.table.say_row.Statement.{statement}
@@ -11,9 +11,9 @@ few n = let s = n.before.before in omega (arith, n.literal-count.ensures, count_
 
 pub say_row_spec : {M : Type 1} → statement M
 say_row_spec = tie.close (tie.spec
-    (λ c. search needs) (λ c κs. search needs) (λ c. search needs) (λ c κs. search needs) (λ c κs. search needs) (λ c. search needs)
-    (λ c κs. search needs) (λ c κs. search needs) (λ c κs. search needs) (λ c. search needs) (λ c κs. search needs)
+    (λ c. search rules) (λ c κs. search rules) (λ c. search rules) (λ c κs. search rules) (λ c κs. search rules) (λ c. search rules)
+    (λ c κs. search rules) (λ c κs. search rules) (λ c κs. search rules) (λ c. search rules) (λ c κs. search rules)
     (λ c. let p = c.before.before.before in let q = p.before.before.before in omega (arith, few q.before.before.before))
-    (λ c. search needs) (λ c. search needs) (λ c. search needs)
+    (λ c. search rules) (λ c. search rules) (λ c. search rules)
     (λ c. let p = c.before.before.before in let q = p.before.before.before in omega (arith, few q.before.before.before))
-    (λ c κs. search needs) (λ c. search needs))
+    (λ c κs. search rules) (λ c. search rules))

@@ -1,5 +1,5 @@
 -- `table::say_rows` is safe and ends: each row lies within the table.
-use Rattle.meaning.proofs.Kit.{◌≤◌, ◌-◌, needs}
+use Rattle.meaning.proofs.Kit.{◌≤◌, ◌-◌, rules}
 use Rattle.answers.proofs.table.say_rows.Statement.{statement}
 use Rattle.answers.proofs.table.say_rows.Tie as tie
 
@@ -11,5 +11,5 @@ decreases_loop table names rows row₀ row = rows - row
 
 pub say_rows_spec : {M : Type 1} → statement M
 say_rows_spec = tie.close (tie.spec
-    invariant_loop decreases_loop (λ c. search needs) (λ c κs. search needs) (λ c. search needs) (λ c. search needs) (λ c κs. search needs) (λ c. search needs)
-    (λ c. search needs) (λ c. search needs) (λ c. search needs))
+    invariant_loop decreases_loop (λ c. search rules) (λ c κs. search rules) (λ c. search rules) (λ c. search rules) (λ c κs. search rules) (λ c. search rules)
+    (λ c. search rules) (λ c. search rules) (λ c. search rules))

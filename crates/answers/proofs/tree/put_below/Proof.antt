@@ -1,5 +1,5 @@
 -- `tree::put_below` meets its contract: it puts no more than there is room for, and a literal in range has a place below 400.
-use Rattle.meaning.proofs.Kit.{◌≡◌, ◌∙◌, sym, ◌≤◌, ◌<◌, ◌-◌, arith, ℤ, pos, nat_abs, length, get_or, length-set, to_z-of_z, needs, ltb-true}
+use Rattle.meaning.proofs.Kit.{◌≡◌, ◌∙◌, sym, ◌≤◌, ◌<◌, ◌-◌, arith, ℤ, pos, nat_abs, length, get_or, length-set, to_z-of_z, rules, ltb-true}
 use Rattle.literals.proofs.Signed.{back, minus_abs, minus_fits}
 use Rattle.literals.proofs.Places.{place_bound}
 use Rattle.literals.proofs.Arguments.{range_facts}
@@ -41,10 +41,10 @@ room : (w : tie.After-waiting-at invariant_loop decreases_loop) → (at (tested 
 room w = ltb-true _ _ (tested w).before.if2.true
 
 loop_again : tie.Need-loop-preserved invariant_loop decreases_loop
-loop_again c = (omega arith, omega (arith, room c), simp length-set (at (tested c)).loop.inv.2)
+loop_again c = (omega arith, omega (arith, room c), simp length-set (at (tested c)).loop.invariant.2)
 
 pub put_below_spec : {M : Type 1} → statement M
 put_below_spec = tie.close (tie.spec
-    invariant_loop decreases_loop (λ c. search needs) (λ c. search needs) (λ c. search needs) (λ c. search needs) (λ c κs. search needs)
-    (λ c κs. omega (arith, within c)) (λ c κs. small c) waiting_at_requires (λ c. search needs) (λ c. omega (arith, room c)) (λ c. search needs)
-    (λ c. search needs) loop_again (λ c. search needs) (λ c. search needs) (λ c. search needs) (λ c. search needs))
+    invariant_loop decreases_loop (λ c. search rules) (λ c. search rules) (λ c. search rules) (λ c. search rules) (λ c κs. search rules)
+    (λ c κs. omega (arith, within c)) (λ c κs. small c) waiting_at_requires (λ c. search rules) (λ c. omega (arith, room c)) (λ c. search rules)
+    (λ c. search rules) loop_again (λ c. search rules) (λ c. search rules) (λ c. search rules) (λ c. search rules))

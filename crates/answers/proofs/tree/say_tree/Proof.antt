@@ -1,5 +1,5 @@
 -- `tree::say_tree` is safe and ends: each turn takes one of the lines that are left, and puts no more than there is room for.
-use Rattle.meaning.proofs.Kit.{◌≡◌, true, ◌≤◌, ℕ, ◌<◌, ◌+◌, arith, ltb, length, needs, ltb-true}
+use Rattle.meaning.proofs.Kit.{◌≡◌, true, ◌≤◌, ℕ, ◌<◌, ◌+◌, arith, ltb, length, rules, ltb-true}
 use Rattle.answers.proofs.tree.say_tree.Statement.{statement}
 use Rattle.answers.proofs.tree.say_tree.Tie as tie
 
@@ -14,7 +14,7 @@ decreases_loop desk table names texts root board shown₀ waiting₀ count₀ le
 abbrev turn : tie.After-say-node invariant_loop decreases_loop → tie.Then1 invariant_loop decreases_loop
 turn c = c.before.before.before.before.before.before
 
-some : (t : tie.Then1 invariant_loop decreases_loop) → 0 < t.before.before.loop.left
+some : (t : tie.Then1 invariant_loop decreases_loop) → 0 < t.before.before.loop.false
 some t = ltb-true _ _ t.if1.true
 
 loop_less : tie.Need-loop-smaller invariant_loop decreases_loop
@@ -25,11 +25,11 @@ next_depth : (depth : ℕ) → ltb depth 400 ≡ true → depth + 1 ≤ 400
 next_depth depth e = omega (arith, ltb-true depth 400 e)
 
 put_below_requires : tie.Need-put-below-requires invariant_loop decreases_loop
-put_below_requires c κs = (search needs, search needs, next_depth _ c.before.before.if3.true)
+put_below_requires c κs = (search rules, search rules, next_depth _ c.before.before.if3.true)
 
 pub say_tree_spec : {M : Type 1} → statement M
 say_tree_spec = tie.close (tie.spec
-    invariant_loop decreases_loop (λ c κs. search needs) (λ c. search needs) (λ c. search needs) (λ c. search needs) (λ c. search needs) (λ c. search needs)
-    (λ c. search needs) (λ c κs. search needs) (λ c. search needs) (λ c. search needs) (λ c κs. search needs) (λ c. search needs)
-    (λ c κs. search needs) (λ c. search needs) (λ c κs. search needs) (λ c. search needs) (λ c. search needs) put_below_requires loop_less
-    (λ c. search needs) (λ c. omega (arith, some (turn c.before))) (λ c. search needs) (λ c. search needs) (λ c. search needs))
+    invariant_loop decreases_loop (λ c κs. search rules) (λ c. search rules) (λ c. search rules) (λ c. search rules) (λ c. search rules) (λ c. search rules)
+    (λ c. search rules) (λ c κs. search rules) (λ c. search rules) (λ c. search rules) (λ c κs. search rules) (λ c. search rules)
+    (λ c κs. search rules) (λ c. search rules) (λ c κs. search rules) (λ c. search rules) (λ c. search rules) put_below_requires loop_less
+    (λ c. search rules) (λ c. omega (arith, some (turn c.before))) (λ c. search rules) (λ c. search rules) (λ c. search rules))

@@ -1,5 +1,5 @@
 -- `tree::say_why` is safe: the opposite of a place of 400 is one of them.
-use Rattle.meaning.proofs.Kit.{⊎_elim, ◌<◌, arith, needs}
+use Rattle.meaning.proofs.Kit.{⊎_elim, ◌<◌, arith, rules}
 use Rattle.answers.proofs.tree.say_why.Statement.{statement}
 use Rattle.answers.proofs.tree.say_why.Tie as tie
 
@@ -16,5 +16,5 @@ say_tree_requires_2 c κs =
 
 pub say_why_spec : {M : Type 1} → statement M
 say_why_spec = tie.close (tie.spec
-    (λ c κs. search needs) (λ c κs. search needs) (λ c κs. search needs) (λ c. search needs) (λ c. search needs) (λ c. search needs) (λ c κs. low c)
-    (λ c κs. search needs) say_tree_requires_2 (λ c. search needs) (λ c κs. search needs) (λ c. search needs))
+    (λ c κs. search rules) (λ c κs. search rules) (λ c κs. search rules) (λ c. search rules) (λ c. search rules) (λ c. search rules) (λ c κs. low c)
+    (λ c κs. search rules) say_tree_requires_2 (λ c. search rules) (λ c κs. search rules) (λ c. search rules))

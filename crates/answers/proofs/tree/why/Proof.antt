@@ -1,5 +1,5 @@
 -- `tree::why` is safe: the place of a literal of a board is below 400.
-use Rattle.meaning.proofs.Kit.{arith, needs}
+use Rattle.meaning.proofs.Kit.{arith, rules}
 use Rattle.board.proofs.Placing.{placed_at}
 use Rattle.answers.proofs.tree.why.Statement.{statement}
 use Rattle.answers.proofs.tree.why.Tie as tie
@@ -15,4 +15,4 @@ say_why_requires c κs =
 
 pub why_spec : {M : Type 1} → statement M
 why_spec = tie.close (tie.spec
-    (λ c κs. search needs) (λ c. search needs) (λ c κs. search needs) (λ c. search needs) say_why_requires (λ c. search needs) (λ c. search needs))
+    (λ c κs. search rules) (λ c. search rules) (λ c κs. search rules) (λ c. search rules) say_why_requires (λ c. search rules) (λ c. search rules))

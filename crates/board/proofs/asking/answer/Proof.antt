@@ -1,6 +1,6 @@
 -- `asking::answer` meets its contract: its tests are the faults of `ask_faults`, in their order, and the ranks tell how the literal stands, by its
 -- symbol or of the whole board.
-use Rattle.meaning.proofs.Kit.{◌≡◌, ◌∙◌, sym, ap, true, false, Bool, cond, ◌++◌, ◌*◌, arith, length, drop, replicate, to_z-of_z, needs}
+use Rattle.meaning.proofs.Kit.{◌≡◌, ◌∙◌, sym, ap, true, false, Bool, cond, ◌++◌, ◌*◌, arith, length, drop, replicate, to_z-of_z, rules}
 use Rattle.meaning.specs.Tests.{none}
 use Rattle.literals.specs.Literal.{place_of}
 use Rattle.literals.proofs.Signed.{back_abs}
@@ -42,7 +42,7 @@ same c = c.premises.ensures
 long : (c : tie.After-premises) → 400 ≡ length c.premises.result.now
 long c =
     let s = start (tested c) in
-    held_long s.args.t1 s.args.furnace 400 (at (tested c)).is_furnace (search needs) (search needs) (same c)
+    held_long s.args.t1 s.args.furnace 400 (at (tested c)).is_furnace (search rules) (search rules) (same c)
 
 -- the ranks
 front : (c : tie.After-propagate) → let s = start (tested (chosen c)) in
@@ -99,7 +99,7 @@ returns_2 c =
 
 pub answer_spec : {M : Type 1} → statement M
 answer_spec = tie.close (tie.spec
-    (λ c κs. search needs) (λ c. search needs) (λ c. search needs) (λ c. omega (arith, (at c).well-formed.sound.symbols)) (λ c κs. search needs)
-    (λ c. ranks_room _ _ (at (tested c)).good) (λ c. sym (ranks_long _ _ (at (tested c.before)).good)) (λ c. search needs) (λ c. search needs)
+    (λ c κs. search rules) (λ c. search rules) (λ c. search rules) (λ c. omega (arith, (at c).well-formed.sound.symbols)) (λ c κs. search rules)
+    (λ c. ranks_room _ _ (at (tested c)).good) (λ c. sym (ranks_long _ _ (at (tested c.before)).good)) (λ c. search rules) (λ c. search rules)
     propagate_requires (λ c. (front c.before.before).room) (λ c. sym (front c.before.before.before).long) standing_by_requires returns
     returns_2)

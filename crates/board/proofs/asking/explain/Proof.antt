@@ -1,5 +1,5 @@
 -- `asking::explain` meets its contract: the part's contents and address are the borrow checker's own, so each field is `refl`.
-use Rattle.meaning.proofs.Kit.{◌≡◌, ◌∙◌, sym, ap, refl, ◌≤◌, ◌<◌, ◌+◌, ◌*◌, arith, length, to_z-of_z, needs}
+use Rattle.meaning.proofs.Kit.{◌≡◌, ◌∙◌, sym, ap, refl, ◌≤◌, ◌<◌, ◌+◌, ◌*◌, arith, length, to_z-of_z, rules}
 use Rattle.literals.specs.Row.{width, most_literals, numbers_at}
 use Rattle.board.specs.Asking.{explain_numbers}
 use Rattle.board.specs.declared.asking.Reason.{Reason}
@@ -50,6 +50,6 @@ returns_2 c =
 
 pub explain_spec : {M : Type 1} → statement M
 explain_spec = tie.close (tie.spec
-    (λ c κs. search needs) (λ c. search needs) (λ c. search needs) (λ c. search needs) (λ c. search needs) (λ c. search needs) (λ c. search needs)
-    (λ c. search needs) (λ c κs. omega (arith, (inside c.before).1)) (λ c. omega (arith, few c, (inside c.before.before).0)) (λ c. search needs)
-    (λ c. search needs) (λ c. search needs) (λ c. omega (arith, few c, (inside c.before.before).1)) returns returns_2)
+    (λ c κs. search rules) (λ c. search rules) (λ c. search rules) (λ c. search rules) (λ c. search rules) (λ c. search rules) (λ c. search rules)
+    (λ c. search rules) (λ c κs. omega (arith, (inside c.before).1)) (λ c. omega (arith, few c, (inside c.before.before).0)) (λ c. search rules)
+    (λ c. search rules) (λ c. search rules) (λ c. omega (arith, few c, (inside c.before.before).1)) returns returns_2)

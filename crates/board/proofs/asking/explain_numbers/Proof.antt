@@ -1,6 +1,6 @@
 -- `asking::explain_numbers` meets its contract: its tests are the faults of `explain_faults`, in their order.
 use Rattle.meaning.proofs.Kit.{◌≡◌, ◌∙◌, sym, ap, ap₂, inl, inr, false, not, ◌||◌, ◌++◌, ◌≤◌, ℕ, ◌<◌, ◌*◌, arith, length, get_or, drop, replicate}
-use Rattle.meaning.proofs.Kit.{needs}
+use Rattle.meaning.proofs.Kit.{rules}
 use Rattle.meaning.specs.Tests.{none}
 use Rattle.meaning.specs.Literals.{has}
 use Rattle.meaning.specs.Rounds.{rank_of}
@@ -51,7 +51,7 @@ same c = c.premises.ensures
 long : (c : tie.After-premises) → 400 ≡ length c.premises.result.now
 long c =
     let s = start (tested c) in
-    held_long s.args.t1 s.args.furnace 400 (at (tested c)).is_furnace (search needs) (search needs) (same c)
+    held_long s.args.t1 s.args.furnace 400 (at (tested c)).is_furnace (search rules) (search rules) (same c)
 
 -- the ranks
 room : (c : tie.After-propagate) → 2 * (start (tested (chosen c))).args.t1.symbols ≤ length (replicate 400 none)
@@ -167,8 +167,8 @@ array_read_rank c = let p = at (tested (chosen c.before.before)) in omega (arith
 
 pub explain_numbers_spec : {M : Type 1} → statement M
 explain_numbers_spec = tie.close (tie.spec
-    (λ c κs. search needs) (λ c. search needs) (λ c κs. search needs) (λ c. search needs) (λ c. omega (arith, (at c.before).well-formed.sound.symbols))
-    (λ c κs. search needs) (λ c. ranks_room _ _ (at (tested c)).good) (λ c. sym (ranks_long _ _ (at (tested c.before)).good)) (λ c. search needs)
-    propagate_requires mul_rank array_read_rank (λ c κs. search needs) returns (λ c κs. search needs) returns_2 (λ c. search needs)
-    (λ c. search needs) (λ c. omega (arith, used c, (at (tested (chosen (found c)))).good.sound.rows))
+    (λ c κs. search rules) (λ c. search rules) (λ c κs. search rules) (λ c. search rules) (λ c. omega (arith, (at c.before).well-formed.sound.symbols))
+    (λ c κs. search rules) (λ c. ranks_room _ _ (at (tested c)).good) (λ c. sym (ranks_long _ _ (at (tested c.before)).good)) (λ c. search rules)
+    propagate_requires mul_rank array_read_rank (λ c κs. search rules) returns (λ c κs. search rules) returns_2 (λ c. search rules)
+    (λ c. search rules) (λ c. omega (arith, used c, (at (tested (chosen (found c)))).good.sound.rows))
     (λ c κs. omega (arith, used c, (at (tested (chosen (found c)))).good.sound.room)) cast_t39 returns_3 returns_4)

@@ -1,5 +1,5 @@
 -- `asking::standing_by` meets its contract: what is derived are the places with a rank, and the conflict is the symbol's own or any.
-use Rattle.meaning.proofs.Kit.{◌≡◌, ◌∙◌, sym, ap, refl, ap₂, ⊎_elim, Bool, ◌&&◌, not, List, ℕ, ◌<◌, ◌/◌, arith, eqb, nat_abs, length, to_z-of_z, needs}
+use Rattle.meaning.proofs.Kit.{◌≡◌, ◌∙◌, sym, ap, refl, ap₂, ⊎_elim, Bool, ◌&&◌, not, List, ℕ, ◌<◌, ◌/◌, arith, eqb, nat_abs, length, to_z-of_z, rules}
 use Rattle.meaning.proofs.Kit.{eqb-true, eqb-false}
 use Rattle.meaning.specs.Tests.{none, first}
 use Rattle.meaning.specs.Literals.{opp, has, conflict}
@@ -29,7 +29,7 @@ derived d = rw (to_z-of_z (start d).ranges.l) at d.is-ranked.ensures
 opposed : (o : tie.After-is-ranked2) → let s = start o.before.before in o.is-ranked2.result ≡ has (known s) (opp (place_of s.args.l))
 opposed o =
     let s = start o.before.before in
-    o.is-ranked2.ensures ∙ ap (has (known s)) (opposite_at s.fits.l (small s) o.before.opposite.ensures s.pre.0 refl)
+    o.is-ranked2.ensures ∙ ap (has (known s)) (opposite_at s.fits.l (small s) o.before.opposite.ensures s.requires.0 refl)
 
 -- there is a symbol whose two literals are derived exactly if there is a conflict
 any : (ranks : List ℕ) (n : ℕ) → length ranks < none → n ≡ first (clash_in ranks) (length ranks / 2) → not (eqb n none) ≡ conflict (below none ranks)
@@ -56,11 +56,11 @@ returns c =
     let s = start d in
     c.standing-if.ensures
     ∙ ⊎_elim
-    (λ t. rw t.0.taken (same (t.2 ∙ any s.args.ranks.now _ (omega arith) t.1.ensures) (derived d) (opposed o)))
-    (λ e. rw e.0.left (same (e.1 ∙ ap₂ ◌&&◌ (derived d) (opposed o)) (derived d) (opposed o)))
+    (λ t. rw t.0.true (same (t.2 ∙ any s.args.ranks.now _ (omega arith) t.1.ensures) (derived d) (opposed o)))
+    (λ e. rw e.0.false (same (e.1 ∙ ap₂ ◌&&◌ (derived d) (opposed o)) (derived d) (opposed o)))
     j.if1.branch
 
 pub standing_by_spec : {M : Type 1} → statement M
 standing_by_spec = tie.close (tie.spec
-    (λ c κs. search needs) (λ c κs. let s = start c in omega (arith, small s, back_abs s.fits.l)) is_ranked_requires_2 (λ c κs. search needs)
-    (λ c. search needs) (λ c κs. search needs) returns)
+    (λ c κs. search rules) (λ c κs. let s = start c in omega (arith, small s, back_abs s.fits.l)) is_ranked_requires_2 (λ c κs. search rules)
+    (λ c. search rules) (λ c κs. search rules) returns)

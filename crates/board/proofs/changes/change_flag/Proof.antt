@@ -1,5 +1,5 @@
 -- `changes::change_flag` meets its contract: its tests are the faults of `flag_faults`, in their order.
-use Rattle.meaning.proofs.Kit.{◌≡◌, ◌<◌, arith, length, drop, needs}
+use Rattle.meaning.proofs.Kit.{◌≡◌, ◌<◌, arith, length, drop, rules}
 use Rattle.board.specs.Furnaces.{held_by}
 use Rattle.board.specs.Changes.{flag_faults, flag_changed}
 use Rattle.board.proofs.TwoSets.{held_long}
@@ -30,7 +30,7 @@ same c = c.premises.ensures
 long : (c : tie.After-premises) → 400 ≡ length c.premises.result.now
 long c =
     let s = start (tested c) in
-    held_long s.args.t1 s.args.furnace 400 (at (tested c)).is_furnace (search needs) (search needs) (same c)
+    held_long s.args.t1 s.args.furnace 400 (at (tested c)).is_furnace (search rules) (search rules) (same c)
 
 returns : tie.Need-returns
 unfolding flag_changed flag_faults
@@ -58,6 +58,6 @@ returns_3 c =
 
 pub change_flag_spec : {M : Type 1} → statement M
 change_flag_spec = tie.close (tie.spec
-    (λ c κs. search needs) (λ c. search needs) (λ c κs. search needs) (λ c. search needs) (λ c κs. search needs)
-    (λ c. let h = c.before in omega (arith, low (tested h), long h)) (λ c κs. search needs) returns (λ c κs. low (tested c.before.before))
+    (λ c κs. search rules) (λ c. search rules) (λ c κs. search rules) (λ c. search rules) (λ c κs. search rules)
+    (λ c. let h = c.before in omega (arith, low (tested h), long h)) (λ c κs. search rules) returns (λ c κs. low (tested c.before.before))
     returns_2 returns_3)

@@ -1,5 +1,5 @@
 -- `changes::open` meets its contract: its two tests are the two halves of the one fault.
-use Rattle.meaning.proofs.Kit.{needs, le-leb, lt-leb}
+use Rattle.meaning.proofs.Kit.{rules, le-leb, lt-leb}
 use Rattle.board.specs.Changes.{open_faults, opened}
 use Rattle.board.proofs.changes.open.Statement.{statement}
 use Rattle.board.proofs.changes.open.Tie as tie
@@ -26,4 +26,4 @@ returns_3 c =
 
 pub open_spec : {M : Type 1} → statement M
 open_spec = tie.close (tie.spec
-    (λ c κs. search needs) (λ c κs. search needs) returns (λ c κs. search needs) (λ c κs. search needs) returns_2 (λ c κs. search needs) returns_3)
+    (λ c κs. search rules) (λ c κs. search rules) returns (λ c κs. search rules) (λ c κs. search rules) returns_2 (λ c κs. search rules) returns_3)

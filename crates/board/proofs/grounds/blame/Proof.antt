@@ -1,6 +1,6 @@
 -- `grounds::blame` meets its contract: its tests are the faults of `blame_faults`, in their order, and it marks what the symbol's two
 -- literals reach.
-use Rattle.meaning.proofs.Kit.{◌≡◌, ◌∙◌, sym, true, false, ◌++◌, ◌≤◌, ◌<◌, ◌*◌, arith, length, drop, replicate, needs, not-false, not-true, le-leb}
+use Rattle.meaning.proofs.Kit.{◌≡◌, ◌∙◌, sym, true, false, ◌++◌, ◌≤◌, ◌<◌, ◌*◌, arith, length, drop, replicate, rules, not-false, not-true, le-leb}
 use Rattle.meaning.proofs.Kit.{lt-leb}
 use Rattle.meaning.specs.Tests.{none, first}
 use Rattle.meaning.specs.Rounds.{ranks_of}
@@ -63,7 +63,7 @@ same c = c.premises.ensures
 long : (c : tie.After-premises) → 400 ≡ length c.premises.result.now
 long c =
     let s = start (passed c) in
-    held_long s.args.t1 s.args.furnace 400 (furnace (passed c)) (search needs) (search needs) (same c)
+    held_long s.args.t1 s.args.furnace 400 (furnace (passed c)) (search rules) (search rules) (same c)
 
 -- the ranks and the marks as they come back
 back : (c : tie.After-trace) → let s = start (tested c) in let n = 2 * s.args.t1.symbols in
@@ -141,9 +141,9 @@ returns_5 c =
 
 pub blame_spec : {M : Type 1} → statement M
 blame_spec = tie.close (tie.spec
-    (λ c κs. search needs) returns (λ c κs. search needs) returns_2 (λ c. omega (arith, (good c).sound.symbols)) returns_3 (λ c κs. search needs)
-    (λ c. ranks_room _ _ (good (passed c))) (λ c. sym (ranks_long _ _ (good (passed c.before)))) (λ c. search needs)
+    (λ c κs. search rules) returns (λ c κs. search rules) returns_2 (λ c. omega (arith, (good c).sound.symbols)) returns_3 (λ c κs. search rules)
+    (λ c. ranks_room _ _ (good (passed c))) (λ c. sym (ranks_long _ _ (good (passed c.before)))) (λ c. search rules)
     (λ c. marks_room _ _ (good (passed c.before))) (λ c. sym (marks_long _ _ (good (passed c.before.before)))) trace_requires
-    (λ c. (back c.before.before).ranks.room) (λ c. sym (back c.before.before.before).ranks.long) first_clash_requires (λ c. search needs)
+    (λ c. (back c.before.before).ranks.room) (λ c. sym (back c.before.before.before).ranks.long) first_clash_requires (λ c. search rules)
     returns_4 (λ c. (back (tracing c.before)).marks.room) (λ c. sym (back (tracing c.before.before)).marks.long) write_marks_requires
-    (λ c. search needs) returns_5)
+    (λ c. search rules) returns_5)

@@ -1,5 +1,5 @@
 -- `grounds::ground` meets its contract: its tests are the faults of `ground_faults`, in their order, and it marks what the literal reaches.
-use Rattle.meaning.proofs.Kit.{◌≡◌, ◌∙◌, sym, false, ◌++◌, ◌≤◌, ◌<◌, ◌*◌, arith, length, get_or, drop, replicate, needs, le-leb, lt-leb}
+use Rattle.meaning.proofs.Kit.{◌≡◌, ◌∙◌, sym, false, ◌++◌, ◌≤◌, ◌<◌, ◌*◌, arith, length, get_or, drop, replicate, rules, le-leb, lt-leb}
 use Rattle.meaning.specs.Tests.{none}
 use Rattle.meaning.specs.Rounds.{rank_of}
 use Rattle.literals.specs.declared.refusal.Refusal.TheVariants.{TableTooShort, NothingToShow}
@@ -57,7 +57,7 @@ same c = c.premises.ensures
 long : (c : tie.After-premises) → 400 ≡ length c.premises.result.now
 long c =
     let s = start (placed c) in
-    held_long s.args.t1 s.args.furnace 400 (at (placed c)).is_furnace (search needs) (search needs) (same c)
+    held_long s.args.t1 s.args.furnace 400 (at (placed c)).is_furnace (search rules) (search rules) (same c)
 
 -- the ranks and the marks as they come back
 back : (c : tie.After-trace) → let w = tested c in let s = start w in let n = 2 * s.args.t1.symbols in
@@ -128,8 +128,8 @@ array_read_if2 c = let p = at (tested c.before.before) in omega (arith, p.low, p
 
 pub ground_spec : {M : Type 1} → statement M
 ground_spec = tie.close (tie.spec
-    (λ c κs. search needs) (λ c. search needs) (λ c. search needs) (λ c. omega (arith, (at c.before).well-formed.sound.symbols)) returns
-    (λ c κs. search needs) (λ c. ranks_room _ _ (at (placed c)).good) (λ c. sym (ranks_long _ _ (at (placed c.before)).good))
+    (λ c κs. search rules) (λ c. search rules) (λ c. search rules) (λ c. omega (arith, (at c.before).well-formed.sound.symbols)) returns
+    (λ c κs. search rules) (λ c. ranks_room _ _ (at (placed c)).good) (λ c. sym (ranks_long _ _ (at (placed c.before)).good))
     (λ c. marks_room _ _ (at (placed c.before)).good) (λ c. sym (marks_long _ _ (at (placed c.before.before)).good)) trace_requires mul_if2
     array_read_if2 returns_2 (λ c. (back c.before.before.before).marks.room) (λ c. sym (back (reached c)).marks.long)
-    (λ c κs. let r = reached c.before in omega (arith, (back r).marks.long, enough r)) returns_3 (λ c. search needs) returns_4)
+    (λ c κs. let r = reached c.before in omega (arith, (back r).marks.long, enough r)) returns_3 (λ c. search rules) returns_4)

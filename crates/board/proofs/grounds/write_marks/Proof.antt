@@ -20,7 +20,7 @@ byte : (c : tie.Joined1 invariant_loop decreases_loop) → let l = c.before.befo
     c.if1.byte ≡ get_or (map byte_of l.before.args.reached.now) l.loop.k 0
 byte c =
     let l = c.before.before.before in
-    ⊎_elim (λ w. w.1 ∙ ap byte_of (sym w.0.taken)) (λ w. w.1 ∙ ap byte_of (sym w.0.left)) c.if1.branch
+    ⊎_elim (λ w. w.1 ∙ ap byte_of (sym w.0.true)) (λ w. w.1 ∙ ap byte_of (sym w.0.false)) c.if1.branch
     ∙ sym (list_get_or_map byte_of l.before.args.reached.now l.loop.k false)
 
 loop_again : tie.Need-loop-preserved invariant_loop decreases_loop

@@ -1,5 +1,5 @@
 -- `rules::add_formula` meets its contract: what it tests are the last three faults of `rule_faults`, in their order.
-use Rattle.meaning.proofs.Kit.{◌≡◌, ◌∙◌, sym, ap, refl, true, arith, leb, length, needs, not-false, not-true}
+use Rattle.meaning.proofs.Kit.{◌≡◌, ◌∙◌, sym, ap, refl, true, arith, leb, length, rules, not-false, not-true}
 use Rattle.meaning.specs.Formulae.{Rule, rule_of}
 use Rattle.meaning.specs.Clauses.{rows_of}
 use Rattle.literals.specs.Row.{rows_lent}
@@ -89,7 +89,7 @@ append_requires c κs =
     let e = c.before.before.before in
     let s = start e in
     let l = list e in
-    (((good s).sound.symbols, (good s).few, (good s).lent, s.pre.1), (omega (arith, l.long, l.most), l.is))
+    (((good s).sound.symbols, (good s).few, (good s).lent, s.requires.1), (omega (arith, l.long, l.most), l.is))
 
 add_next : tie.Need-overflow-add-next
 add_next c =
@@ -108,7 +108,7 @@ returns_2 c =
     let b = s.args.board in
     let table = s.args.table.now in
     let r = why a t.enum_told.given.1 in
-    let all = rule_refused table b s.args.bytes.now NoAssignment (rw (s.pre.0, s.pre.1, few e, r)) refl in
+    let all = rule_refused table b s.args.bytes.now NoAssignment (rw (s.requires.0, s.requires.1, few e, r)) refl in
     (c.refused2.ensures ∙ all.0, after a ∙ sym (told_unsatisfiable (rule s) b.rows b.rules (rows_lent table) table r).1 ∙ all.1)
 
 returns_3 : tie.Need-returns-3
@@ -121,7 +121,7 @@ returns_3 c =
     let b = s.args.board in
     let table = s.args.table.now in
     let r = why a t.enum-told2.given.1 in
-    let all = rule_refused table b s.args.bytes.now TableFull (rw (s.pre.0, s.pre.1, few e, r.0, r.1)) refl in
+    let all = rule_refused table b s.args.bytes.now TableFull (rw (s.requires.0, s.requires.1, few e, r.0, r.1)) refl in
     (c.refused3.ensures ∙ all.0, after a ∙ sym (told_full (rule s) b.rows b.rules (rows_lent table) table r.0 r.1).1 ∙ all.1)
 
 returns_4 : tie.Need-returns-4
@@ -134,12 +134,12 @@ returns_4 c =
     let b = s.args.board in
     let table = s.args.table.now in
     let r = why a t.added.given.1 in
-    let all = rule_done table b s.args.bytes.now (rw (s.pre.0, s.pre.1, few e, r.0, r.1)) in
+    let all = rule_done table b s.args.bytes.now (rw (s.requires.0, s.requires.1, few e, r.0, r.1)) in
     (rw r.2 all.0, after a ∙ sym (told_rows (rule s) b.rows b.rules (rows_lent table) table r.0 r.1).1 ∙ all.1)
 
 pub add_formula_spec : {M : Type 1} → statement M
 add_formula_spec = tie.close (tie.spec
-    symbols_of_requires (λ c κs. search needs) returns (λ c. (list c.before.before).room) (λ c. sym (list c.before.before.before).long)
-    append_requires (λ c. search needs) (λ c κs. search needs) (λ c. search needs) (λ c κs. search needs) (λ c. search needs) add_next
-    (λ c. omega (arith, (good (entry (written c.before))).few)) (λ c. search needs) returns_2 (λ c. search needs) returns_3 (λ c. search needs)
+    symbols_of_requires (λ c κs. search rules) returns (λ c. (list c.before.before).room) (λ c. sym (list c.before.before.before).long)
+    append_requires (λ c. search rules) (λ c κs. search rules) (λ c. search rules) (λ c κs. search rules) (λ c. search rules) add_next
+    (λ c. omega (arith, (good (entry (written c.before))).few)) (λ c. search rules) returns_2 (λ c. search rules) returns_3 (λ c. search rules)
     returns_4)

@@ -1,5 +1,5 @@
 -- `rules::add_rule` meets its contract: what it tests are the first two faults of `rule_faults`, in their order.
-use Rattle.meaning.proofs.Kit.{◌≡◌, ◌∙◌, sym, ap, refl, true, needs, not-false, not-true}
+use Rattle.meaning.proofs.Kit.{◌≡◌, ◌∙◌, sym, ap, refl, true, rules, not-false, not-true}
 use Rattle.literals.specs.declared.refusal.Refusal.TheVariants.{BadBoard}
 use Rattle.formula.specs.Parse.{whole_of}
 use Rattle.formula.specs.Answers.{is_good}
@@ -51,5 +51,5 @@ returns_2 c =
 
 pub add_rule_spec : {M : Type 1} → statement M
 add_rule_spec = tie.close (tie.spec
-    (λ c κs. search needs) (λ c κs. search needs) (λ c. search needs) returns (λ c κs. search needs) (λ c. search needs) (λ c κs. search needs)
-    (λ c. search needs) add_formula_requires (λ c. search needs) returns_2 (λ c. search needs) (λ c. search needs))
+    (λ c κs. search rules) (λ c κs. search rules) (λ c. search rules) returns (λ c κs. search rules) (λ c. search rules) (λ c κs. search rules)
+    (λ c. search rules) add_formula_requires (λ c. search rules) returns_2 (λ c. search rules) (λ c. search rules))

@@ -1,6 +1,6 @@
 -- `rules::append` meets its contract: the truth table comes back at the front of the array, and it tells the rule.
 use Rattle.meaning.proofs.Kit.{◌≡◌, ◌∙◌, sym, ap, false, ◌++◌, ◌≤◌, ℕ, ◌*◌, ◌^◌, ◌%◌, arith, length, drop, take, replicate, length-append}
-use Rattle.meaning.proofs.Kit.{length-replicate, length-take-le, take_at, needs}
+use Rattle.meaning.proofs.Kit.{length-replicate, length-take-le, take_at, rules}
 use Rattle.literals.specs.Row.{rows_lent}
 use Rattle.formula.specs.Answers.{is_good}
 use Rattle.board.proofs.Adding.{few_assignments, shifted, whole_is, symbols_positive, answer_is, append_is}
@@ -59,8 +59,8 @@ append_rule_requires c κs =
     let f = l.before.before.before in
     let s = start f in
     let lent : l.rows-lent.result ≡ rows_lent s.args.table.now = l.rows-lent.ensures in (
-      (s.pre.1.0, rw s.pre.1.1 (symbols_positive s.args.symbols _), ap length (front f) ∙ long f ∙ values_is f.before.before),
-      (omega (arith, lent, s.pre.0.2), omega (arith, lent), omega (arith, lent), s.pre.0.1),
+      (s.requires.1.0, rw s.requires.1.1 (symbols_positive s.args.symbols _), ap length (front f) ∙ long f ∙ values_is f.before.before),
+      (omega (arith, lent, s.requires.0.2), omega (arith, lent), omega (arith, lent), s.requires.0.1),
     )
 
 returns : tie.Need-returns
@@ -76,11 +76,11 @@ returns c =
     let filled = front f ∙ f.fill-truth.ensures in
     let lent = l.rows-lent.ensures in
     let e = a.append-rule.ensures in (
-      answer_is S bytes names truth s.pre.0.3 s.pre.1.1 filled s.args.rows s.args.rules lent e.0,
-      append_is S bytes names truth s.pre.0.3 s.pre.1.1 filled s.args.rows s.args.rules s.args.table.now lent e.1,
+      answer_is S bytes names truth s.requires.0.3 s.requires.1.1 filled s.args.rows s.args.rules lent e.0,
+      append_is S bytes names truth s.requires.0.3 s.requires.1.1 filled s.args.rows s.args.rules s.args.table.now lent e.1,
     )
 
 pub append_spec : {M : Type 1} → statement M
 append_spec = tie.close (tie.spec
-    (λ c. omega (arith, few c)) room (λ c. sym (part c.before)) fill_truth_requires (λ c κs. search needs) array_share_prefix_truth
-    (λ c. let f = told c.before in sym (ap length (front f) ∙ long f)) append_rule_requires (λ c. search needs) returns)
+    (λ c. omega (arith, few c)) room (λ c. sym (part c.before)) fill_truth_requires (λ c κs. search rules) array_share_prefix_truth
+    (λ c. let f = told c.before in sym (ap length (front f) ∙ long f)) append_rule_requires (λ c. search rules) returns)

@@ -1,5 +1,5 @@
 -- `settling::settle` meets its contract: its tests are the faults of `settle_faults`, in their order, and what it lends comes back filled.
-use Rattle.meaning.proofs.Kit.{◌≡◌, ◌∙◌, sym, ap₂, ⊎_elim, true, ◌++◌, ◌≤◌, ◌*◌, arith, length, drop, take, length-take-le, needs, not-false}
+use Rattle.meaning.proofs.Kit.{◌≡◌, ◌∙◌, sym, ap₂, ⊎_elim, true, ◌++◌, ◌≤◌, ◌*◌, arith, length, drop, take, length-take-le, rules, not-false}
 use Rattle.meaning.proofs.Kit.{not-true, le-leb, ltb-true, lt-leb, ltb-false}
 use Rattle.meaning.specs.Rounds.{ranks_of}
 use Rattle.literals.specs.declared.refusal.Refusal.TheVariants.{BadBoard, TableTooShort, BadFurnace}
@@ -104,10 +104,10 @@ returns_3 c =
     let g = c.before in
     settle_refused _ _ _ _ _ _ TableTooShort
     (⊎_elim
-    (λ a. rw (is_good_lem g, furnace g, lt-leb _ _ a.taken))
+    (λ a. rw (is_good_lem g, furnace g, lt-leb _ _ a.true))
     (⊎_elim
-    (λ a. rw (is_good_lem g, furnace g, le-leb _ _ a.0.left, lt-leb _ _ (ltb-true _ _ a.1.taken)))
-    (λ a. rw (is_good_lem g, furnace g, le-leb _ _ a.0.left, le-leb _ _ (ltb-false _ _ a.1.left), lt-leb _ _ (ltb-true _ _ a.2.taken))))
+    (λ a. rw (is_good_lem g, furnace g, le-leb _ _ a.0.false, lt-leb _ _ (ltb-true _ _ a.1.true)))
+    (λ a. rw (is_good_lem g, furnace g, le-leb _ _ a.0.false, le-leb _ _ (ltb-false _ _ a.1.false), lt-leb _ _ (ltb-true _ _ a.2.true))))
     c.if3.branch)
 
 -- the premises are as many as an array has
@@ -115,7 +115,7 @@ flags : (c : tie.After-premises) → 400 ≡ length c.premises.result.now
 flags c =
     let g = first (passed c) in
     let s = start g in
-    held_long s.args.t1 s.args.furnace 400 (furnace g) (search needs) (search needs) (same c)
+    held_long s.args.t1 s.args.furnace 400 (furnace g) (search rules) (search rules) (same c)
 
 propagate_requires : tie.Need-propagate-requires
 propagate_requires c κs =
@@ -149,10 +149,10 @@ returns_4 c =
 
 pub settle_spec : {M : Type 1} → statement M
 settle_spec = tie.close (tie.spec
-    (λ c κs. search needs) returns (λ c κs. search needs) returns_2 (λ c. omega (arith, (good c).sound.symbols)) returns_3 (λ c κs. search needs)
+    (λ c κs. search rules) returns (λ c κs. search rules) returns_2 (λ c. omega (arith, (good c).sound.symbols)) returns_3 (λ c κs. search rules)
     (λ c. (long (passed c)).1) (λ c. sym (ranks_part (passed c.before))) (λ c. (long (passed c.before)).2)
     (λ c. sym (supports_part (passed c.before.before))) propagate_requires (λ c. (front (ranked c)).room)
     (λ c. sym (front (ranked c.before)).long) (λ c. (long (tested (ranked c.before))).0)
     (λ c. sym (labels_part (tested (ranked c.before.before))))
-    (λ c κs. let r = ranked c.before.before in omega (arith, (front r).long, labels_part (tested r))) (λ c. search needs) (λ c. search needs)
-    (λ c. search needs) returns_4)
+    (λ c κs. let r = ranked c.before.before in omega (arith, (front r).long, labels_part (tested r))) (λ c. search rules) (λ c. search rules)
+    (λ c. search rules) returns_4)

@@ -1,5 +1,5 @@
 -- `testing::good` meets its contract: its tests are those of `good_board`, in its order.
-use Rattle.meaning.proofs.Kit.{◌≡◌, ◌∙◌, sym, ap, Bool, ◌&&◌, not, ◌≤◌, ◌*◌, arith, needs, not-false, not-true}
+use Rattle.meaning.proofs.Kit.{◌≡◌, ◌∙◌, sym, ap, Bool, ◌&&◌, not, ◌≤◌, ◌*◌, arith, rules, not-false, not-true}
 use Rattle.literals.specs.Row.{rows_lent}
 use Rattle.board.specs.Faults.{premises_fit, good_board}
 use Rattle.board.proofs.Goodness.{flag_from, no_low, no_high, no_number, no_rows, by_rows_lem}
@@ -35,7 +35,7 @@ rows_decide : (c : tie.After-rows-sound) → let s = (counted c.before).before.b
     good_board s.args.table.now b ≡ (c.rows-sound.result && premises_fit b)
 rows_decide c =
     let i = (counted c.before).before in
-    rw c.rows-sound.ensures (by_rows_lem _ _ i.before.if1.left i.if2.left (counted c.before).if3.false (lent c.before))
+    rw c.rows-sound.ensures (by_rows_lem _ _ i.before.if1.false i.if2.false (counted c.before).if3.false (lent c.before))
 
 returns_5 : tie.Need-returns-5
 returns_5 c =
@@ -57,10 +57,10 @@ returns_7 : tie.Need-returns-7
 returns_7 c =
     let e = two_sets c in
     let h = e.before in
-    rw (flags (one_set h), sym h.held-beyond.ensures ∙ e.if6.left) (ap not c.held-beyond2.ensures)
+    rw (flags (one_set h), sym h.held-beyond.ensures ∙ e.if6.false) (ap not c.held-beyond2.ensures)
 
 pub good_spec : {M : Type 1} → statement M
 good_spec = tie.close (tie.spec
-    (λ c. sym (no_low _ _ c.if1.true)) (λ c. sym (no_high _ _ c.before.if1.false c.if2.true)) returns_3 (λ c κs. search needs) returns_4
-    (λ c κs. omega (arith, lent c)) returns_5 (λ c. search needs) (λ c κs. search needs) returns_6 (λ c. search needs) (λ c κs. search needs)
+    (λ c. sym (no_low _ _ c.if1.true)) (λ c. sym (no_high _ _ c.before.if1.false c.if2.true)) returns_3 (λ c κs. search rules) returns_4
+    (λ c κs. omega (arith, lent c)) returns_5 (λ c. search rules) (λ c κs. search rules) returns_6 (λ c. search rules) (λ c κs. search rules)
     returns_7)

@@ -1,5 +1,5 @@
 -- `testing::place_on` meets its contract: its tests are those of `placed`, in its order.
-use Rattle.meaning.proofs.Kit.{◌≡◌, ◌∙◌, sym, ap, true, arith, needs, not-false, not-true}
+use Rattle.meaning.proofs.Kit.{◌≡◌, ◌∙◌, sym, ap, true, arith, rules, not-false, not-true}
 use Rattle.literals.specs.Literal.{in_range}
 use Rattle.literals.proofs.Signed.{back_abs}
 use Rattle.board.specs.Furnaces.{is_furnace}
@@ -58,4 +58,4 @@ returns_4 c =
 
 pub place_on_spec : {M : Type 1} → statement M
 place_on_spec = tie.close (tie.spec
-    (λ c κs. search needs) returns (λ c κs. search needs) returns_2 (λ c κs. search needs) returns_3 place_requires returns_4)
+    (λ c κs. search rules) returns (λ c κs. search rules) returns_2 (λ c κs. search rules) returns_3 place_requires returns_4)

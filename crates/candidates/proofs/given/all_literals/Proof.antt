@@ -1,5 +1,5 @@
 -- `all_literals` meets its contract. The invariant: all candidates are literals just if those from i on are.
-use Rattle.meaning.proofs.Kit.{◌≡◌, ◌∙◌, sym, ap, refl, ◌-◌, arith, pos, length, get_or, w16, SFits, to_z-of_z, needs, not-false, not-true}
+use Rattle.meaning.proofs.Kit.{◌≡◌, ◌∙◌, sym, ap, refl, ◌-◌, arith, pos, length, get_or, w16, SFits, to_z-of_z, rules, not-false, not-true}
 use Rattle.literals.specs.Literal.{in_range}
 use Rattle.candidates.proofs.Along.{EachFrom, each_on, each_failed, each_all}
 use Rattle.candidates.proofs.given.all_literals.Statement.{statement}
@@ -31,5 +31,5 @@ loop_again c = each_on (at c.before).loop.invariant (pos 0) (omega arith) (teste
 
 pub all_literals_spec : {M : Type 1} → statement M
 all_literals_spec = tie.close (tie.spec
-    invariant_loop decreases_loop (λ c. record { is = refl }) (λ c. omega arith) (λ c. omega arith) (λ c κs. search needs) returns (λ c. omega arith)
+    invariant_loop decreases_loop (λ c. record { is = refl }) (λ c. omega arith) (λ c. omega arith) (λ c κs. search rules) returns (λ c. omega arith)
     (λ c. omega arith) loop_again (λ c. each_all c.before.loop.invariant (omega arith)))

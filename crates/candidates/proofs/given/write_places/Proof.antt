@@ -52,4 +52,4 @@ pub write_places_spec : {M : Type 1} → statement M
 write_places_spec = tie.close (tie.spec
     invariant_loop decreases_loop (λ c. (omega arith, c.before.requires.1, λ j h. absurd (not-suc-le-zero h))) (λ c. omega arith) (λ c. omega arith) place_requires
     (λ c. omega arith) (λ c. omega arith) (λ c. omega arith) (λ c. omega arith) loop_again
-    (λ c. c.before.loop.invariant.1 ∙ sym (start c.before).pre.1) returns)
+    (λ c. c.before.loop.invariant.1 ∙ sym (start c.before).requires.1) returns)

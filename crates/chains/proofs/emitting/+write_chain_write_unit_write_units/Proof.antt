@@ -1,6 +1,6 @@
 -- `emitting::write_chain`, `emitting::write_units` and `emitting::write_unit` call each other, and meet their contracts. The measure is the bytes
 -- that are left, three times, with two more for a chain and one more for its units.
-use Rattle.meaning.proofs.Kit.{◌≡◌, ◌∙◌, sym, refl, [], ◌∷◌, ◌≤◌, ℕ, ◌<◌, ◌-◌, ◌+◌, ◌*◌, arith, length, get_or, drop, length-take-le, needs, not-false}
+use Rattle.meaning.proofs.Kit.{◌≡◌, ◌∙◌, sym, refl, [], ◌∷◌, ◌≤◌, ℕ, ◌<◌, ◌-◌, ◌+◌, ◌*◌, arith, length, get_or, drop, length-take-le, rules, not-false}
 use Rattle.meaning.proofs.Kit.{not-true}
 use borrow.Fn.Kinds.{In, Out}
 use borrow.Fn.PlainCycle.{Measures, is, falls, and}
@@ -90,12 +90,12 @@ module _ (t : ℕ) where
       a.at + j.joins.result + length (units_bytes a.brackets a.text.now) ≤ 0xffff_ffff_ffff_ffff
   room j =
       let s = j.before.before.before in
-      omega (arith, j.joins.ensures, chain_length s.args.brackets s.args.text.now, s.pre.1)
+      omega (arith, j.joins.ensures, chain_length s.args.brackets s.args.text.now, s.requires.1)
 
   units_requires : Chain chain_lts.Need-write-units-requires
   units_requires c κs =
       let j = joined c.before.before.before in
-      omega (arith, room j, j.before.before.before.pre.0)
+      omega (arith, room j, j.before.before.before.requires.0)
 
   chain_returns : Chain chain_lts.Need-returns
   chain_returns c =
@@ -153,7 +153,7 @@ module _ (t : ℕ) where
   signed m = record { passed = (run_of m).run.ensures; counted = m.minuses.ensures }
 
   signs : (m : Unit' unit_lts.After-minuses) → (entry m).args.at + m.minuses.result ≤ 0xffff_ffff_ffff_ffff
-  signs m = omega (arith, signs_within (entry m).args.brackets (signed m), (entry m).pre.1)
+  signs m = omega (arith, signs_within (entry m).args.brackets (signed m), (entry m).requires.1)
 
   -- what the unit starts with
   starts : (s : Unit' unit_lts.After-start-of) {start : Start} → s.start-of.result ≡ start
@@ -172,7 +172,7 @@ module _ (t : ℕ) where
   symbol_room e =
       let s = e.before.before in
       let m = minuses_of s in
-      omega (arith, symbol_within (entry m).args.brackets (signed m) (starts s e.enum_told.given.1), (entry m).pre.1)
+      omega (arith, symbol_within (entry m).args.brackets (signed m) (starts s e.enum_told.given.1), (entry m).requires.1)
 
   add_result : Unit' unit_lts.Need-overflow-add-result
   add_result c = let w = c.before.before in omega (arith, symbol_room w.before.before)
@@ -197,8 +197,8 @@ module _ (t : ℕ) where
       let text = (entry m).args.text.now in
       let n = (run_of m).run.result in
       let bracket = starts s e.enum-told2.given.1 in (
-        omega (arith, start_long (onward n text) bracket, onward_length n text, onward_length 1 (onward n text), (entry m).pre.0),
-        omega (arith, chain_within (entry m).args.brackets (signed m) bracket (omega arith), (entry m).pre.1),
+        omega (arith, start_long (onward n text) bracket, onward_length n text, onward_length 1 (onward n text), (entry m).requires.0),
+        omega (arith, chain_within (entry m).args.brackets (signed m) bracket (omega arith), (entry m).requires.1),
       )
 
   returns_number : Unit' unit_lts.Need-returns-2
@@ -257,7 +257,7 @@ module _ (t : ℕ) where
 
   unit_read : (u : Units units_lts.After-unit)
       → UnitRead (start_of u).args.brackets (start_of u).args.text.now (loop_of u).loop.at (loop_of u).loop.join u.unit.result
-  unit_read u = record { inside = (loop_of u).loop.inv.0; read = u.unit.ensures }
+  unit_read u = record { inside = (loop_of u).loop.invariant.0; read = u.unit.ensures }
 
   used : (k : Units units_lts.After-count)
       → (loop_of k.before.before).loop.at + k.count.given.0.0 ≤ length (start_of k.before.before).args.text.now
@@ -279,7 +279,7 @@ module _ (t : ℕ) where
       → Put a.out.now (written u).write-unit.last.1.1.0 a.start (units_bytes a.brackets a.text.now) (written u).write-unit.result
   last u =
       let l = (loop_of u).loop in
-      units_last (start_of u).args.brackets (start_of u).args.text.now l.at l.join (written u).write-unit.ensures l.inv.1
+      units_last (start_of u).args.brackets (start_of u).args.text.now l.at l.join (written u).write-unit.ensures l.invariant.1
 
   returns : Units units_lts.Need-returns
   returns c = let u = c.before.before in last u (chain_fault (unit_read u) c.enum_told.given.1).0
@@ -313,7 +313,7 @@ module _ (t : ℕ) where
       let a = (start_of u).args in
       let n = k.count.given.0.0 in
       let goes = chain_goes (unit_read u) k.count.given.1 (omega (arith, used k)) (sym g.goes_on_lem.ensures ∙ not-false _ c.if2.false) in
-      let next = units_next a.brackets a.text.now l.at l.join (written u).write-unit.ensures l.inv.1 in
+      let next = units_next a.brackets a.text.now l.at l.join (written u).write-unit.ensures l.invariant.1 in
       (omega (arith, used k), next (get_or a.text.now (l.at + n) 0) (l.at + n + 1) goes.0)
 
 pub +write_chain_write_unit_write_units_spec : {M : Type 1} → statement M
@@ -323,12 +323,12 @@ pub +write_chain_write_unit_write_units_spec : {M : Type 1} → statement M
     (λ c. omega (arith, room t (joined t c.before.before.before))) (units_requires t) (λ c. put_length (chain_returns t c)) (chain_returns t))
     (λ t. unit_lts.spec (unit_calls t) (unit_at t) write_unit.Post
     (λ c κs. tt) (slice_aggregate t) (λ c κs. tt) (λ c κs. signs t c.before) (λ c. omega (arith, signs t (signs_of t c.before.before)))
-    (sub_body t) (sub_body t) (λ c. search needs) (λ c κs. tt) (λ c. search needs) (λ c κs. omega (arith, symbol_room t c.before))
-    (add_result t) (λ c. search needs) (λ c. put_length (returns_deep t c)) (returns_deep t) (sub_chain t)
-    (sub_chain t) (λ c. search needs) (λ c. omega arith) (chain_asks t) (λ c. search needs) (λ c. put_length (returns_number t c)) (returns_number t)
+    (sub_body t) (sub_body t) (λ c. search rules) (λ c κs. tt) (λ c. search rules) (λ c κs. omega (arith, symbol_room t c.before))
+    (add_result t) (λ c. search rules) (λ c. put_length (returns_deep t c)) (returns_deep t) (sub_chain t)
+    (sub_chain t) (λ c. search rules) (λ c. omega arith) (chain_asks t) (λ c. search rules) (λ c. put_length (returns_number t c)) (returns_number t)
     (λ c. put_length (returns_bracket t c)) (returns_bracket t) (λ c. put_length (returns_neither t c)) (returns_neither t))
     λ t. units_lts.spec (units_calls t) (units_at t) write_units.Post Inv μ
-    (λ c. (omega arith, record { makes = refl; ends = refl })) (λ c. omega arith) (λ c. omega arith) (λ c. search needs) (unit_asks t)
-    (λ c. omega arith) (λ c. omega arith) (λ c. search needs) (λ c κs. tt) (λ c. search needs) (λ c. put_length (returns t c)) (returns t)
-    (λ c. search needs) (add_at t) (λ c. put_length (returns_2 t c)) (returns_2 t) (λ c. omega (arith, used t c.before.before.before))
+    (λ c. (omega arith, record { makes = refl; ends = refl })) (λ c. omega arith) (λ c. omega arith) (λ c. search rules) (unit_asks t)
+    (λ c. omega arith) (λ c. omega arith) (λ c. search rules) (λ c κs. tt) (λ c. search rules) (λ c. put_length (returns t c)) (returns t)
+    (λ c. search rules) (add_at t) (λ c. put_length (returns_2 t c)) (returns_2 t) (λ c. omega (arith, used t c.before.before.before))
     (λ c κs. tt) (λ c. put_length (returns_3 t c)) (returns_3 t) (add_at_2 t) (λ c. omega (arith, used t (counted t c.before))) (loop_again t)

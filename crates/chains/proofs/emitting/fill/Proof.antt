@@ -22,7 +22,7 @@ loop_again c =
     let p = c.before.before in
     let l = (at p).loop in
     let a = (at p).before.before.args in
-    (omega arith, rw p.put.ensures (l.inv.1 ∙ fill_step l.out a.at l.k a.n a.byte (omega arith)))
+    (omega arith, rw p.put.ensures (l.invariant.1 ∙ fill_step l.out a.at l.k a.n a.byte (omega arith)))
 
 returns : tie.Need-returns invariant_loop decreases_loop
 returns c =

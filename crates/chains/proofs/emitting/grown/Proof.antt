@@ -1,5 +1,5 @@
 -- `emitting::grown` meets its contract.
-use Rattle.meaning.proofs.Kit.{◌≡◌, sym, ⊎_elim, ◌-◌, ◌+◌, ◌*◌, arith, needs, le-leb, lt-leb}
+use Rattle.meaning.proofs.Kit.{◌≡◌, sym, ⊎_elim, ◌-◌, ◌+◌, ◌*◌, arith, rules, le-leb, lt-leb}
 use Rattle.chains.proofs.emitting.grown.Statement.{statement}
 use Rattle.chains.proofs.emitting.grown.Tie as tie
 
@@ -20,4 +20,4 @@ returns_2 c =
     rw (sym e) (simp (lt-leb _ _ c.if2.false))
 
 pub grown_spec : {M : Type 1} → statement M
-grown_spec = tie.close (tie.spec (λ c. search needs) (λ c. search needs) (λ c. search needs) returns returns_2)
+grown_spec = tie.close (tie.spec (λ c. search rules) (λ c. search rules) (λ c. search rules) returns returns_2)

@@ -1,5 +1,5 @@
 -- `emitting::joins` meets its contract. The invariant: the units before `at`, one for each join, and those from there on are all.
-use Rattle.meaning.proofs.Kit.{◌≡◌, ◌∙◌, sym, ap, ◌≤◌, ◌-◌, ◌+◌, arith, length, drop, needs, not-false, not-true}
+use Rattle.meaning.proofs.Kit.{◌≡◌, ◌∙◌, sym, ap, ◌≤◌, ◌-◌, ◌+◌, arith, length, drop, rules, not-false, not-true}
 use Rattle.chains.specs.Emitting.{starts_at}
 use Rattle.chains.proofs.Chains.{UnitRead, used_within, chain_fault, chain_ends, chain_stops, chain_goes}
 use Rattle.chains.proofs.emitting.joins.Statement.{statement}
@@ -45,13 +45,13 @@ returns_3 c =
     let k = counted g in
     let u = k.before.before in
     let stops = sym g.goes_on_lem.ensures ∙ not-true _ c.if2.true in
-    omega (arith, ap length (chain_stops (unit_read u) k.count.given.1 stops).0, (at u).loop.inv.2)
+    omega (arith, ap length (chain_stops (unit_read u) k.count.given.1 stops).0, (at u).loop.invariant.2)
 
 add_at_2 : tie.Need-overflow-add-at-2 invariant_loop decreases_loop
 add_at_2 c = let k = counted c.before in omega (arith, used k, (start k.before.before).good.0.1)
 
 add_n : tie.Need-overflow-add-n invariant_loop decreases_loop
-add_n c = let u = (counted c.before).before.before in omega (arith, (at u).loop.inv, (start u).good.0.1)
+add_n c = let u = (counted c.before).before.before in omega (arith, (at u).loop.invariant, (start u).good.0.1)
 
 loop_again : tie.Need-loop-preserved invariant_loop decreases_loop
 loop_again c =
@@ -59,11 +59,11 @@ loop_again c =
     let k = counted g in
     let u = k.before.before in
     let goes = sym g.goes_on_lem.ensures ∙ not-false _ c.if2.false in
-    omega (arith, used k, (at u).loop.inv, ap length (chain_goes (unit_read u) k.count.given.1 (omega (arith, used k)) goes).0)
+    omega (arith, used k, (at u).loop.invariant, ap length (chain_goes (unit_read u) k.count.given.1 (omega (arith, used k)) goes).0)
 
 pub joins_spec : {M : Type 1} → statement M
 joins_spec = tie.close (tie.spec
-    invariant_loop decreases_loop (λ c. omega arith) (λ c. search needs) (λ c. search needs) (λ c. search needs) (λ c κs. tt) (λ c. search needs) returns
-    (λ c. search needs) (λ c. omega (arith, used c.before, (start c.before.before.before).good.0.1)) returns_2
+    invariant_loop decreases_loop (λ c. omega arith) (λ c. search rules) (λ c. search rules) (λ c. search rules) (λ c κs. tt) (λ c. search rules) returns
+    (λ c. search rules) (λ c. omega (arith, used c.before, (start c.before.before.before).good.0.1)) returns_2
     (λ c. omega (arith, used c.before.before.before)) (λ c κs. tt) returns_3 add_at_2 add_n (λ c. omega (arith, used (counted c.before)))
     loop_again)

@@ -1,5 +1,5 @@
 -- `emitting::mark` meets its contract.
-use Rattle.meaning.proofs.Kit.{◌≡◌, ◌∙◌, sym, List, ℕ, get_or, list_get_or_eq_default, needs}
+use Rattle.meaning.proofs.Kit.{◌≡◌, ◌∙◌, sym, List, ℕ, get_or, list_get_or_eq_default, rules}
 use Rattle.chains.proofs.Words.{Refusal, unit_at, read_of, mark_at, Answer, Used, Refused}
 use Rattle.formula.proofs.Parsing.{answer_good, answer_bad}
 use Rattle.chains.proofs.emitting.mark.Statement.{statement}
@@ -33,4 +33,4 @@ returns_3 c =
     sym (list_get_or_eq_default a.text.now 0 c.if1.false) ∙ mark_good a.brackets a.text.now u.unit.ensures k.count.given.1
 
 pub mark_spec : {M : Type 1} → statement M
-mark_spec = tie.close (tie.spec (λ c κs. tt) (λ c. search needs) (λ c. search needs) (λ c. search needs) returns returns_2 returns_3)
+mark_spec = tie.close (tie.spec (λ c κs. tt) (λ c. search rules) (λ c. search rules) (λ c. search rules) returns returns_2 returns_3)

@@ -19,8 +19,8 @@ loop_again c =
       omega arith,
       ⊎_elim (λ w. omega (arith, w.1)) (λ w. omega (arith, w.1)) c.if1.branch,
       ⊎_elim
-          (λ w. rw w.1 (l.loop.invariant.2 ∙ minus_more p l.loop.n i (omega arith) w.0.taken))
-          (λ w. rw w.1 (l.loop.invariant.2 ∙ minus_other p l.loop.n i (omega arith) w.0.left))
+          (λ w. rw w.1 (l.loop.invariant.2 ∙ minus_more p l.loop.n i (omega arith) w.0.true))
+          (λ w. rw w.1 (l.loop.invariant.2 ∙ minus_other p l.loop.n i (omega arith) w.0.false))
           c.if1.branch,
     )
 

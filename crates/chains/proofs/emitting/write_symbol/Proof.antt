@@ -1,5 +1,5 @@
 -- `emitting::write_symbol` meets its contract.
-use Rattle.meaning.proofs.Kit.{◌∙◌, sym, ap, ap₂, List, ℕ, ◌+◌, add-one, arith, take, set, length-take-le, needs}
+use Rattle.meaning.proofs.Kit.{◌∙◌, sym, ap, ap₂, List, ℕ, ◌+◌, add-one, arith, take, set, length-take-le, rules}
 use Rattle.chains.proofs.Words.{capped, Number}
 use Rattle.chains.proofs.Runs.{lead_extent}
 use Rattle.chains.proofs.emitting.write_symbol.Statement.{statement}
@@ -28,5 +28,5 @@ returns c =
 
 pub write_symbol_spec : {M : Type 1} → statement M
 write_symbol_spec =
-    tie.close (tie.spec (λ c κs. search needs) slice_aggregate_value (λ c κs. search needs) (λ c κs. search needs) (λ c. search needs)
-    (λ c κs. search needs) (λ c. search needs) returns)
+    tie.close (tie.spec (λ c κs. search rules) slice_aggregate_value (λ c κs. search rules) (λ c κs. search rules) (λ c. search rules)
+    (λ c κs. search rules) (λ c. search rules) returns)

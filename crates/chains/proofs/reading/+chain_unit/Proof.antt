@@ -1,6 +1,6 @@
 -- `reading::chain` and `reading::unit` call each other, and meet their contracts. The measure is the bytes that are left, twice, and one
 -- more for a chain, since a chain hands all its bytes to its first unit.
-use Rattle.meaning.proofs.Kit.{◌≡◌, ◌∙◌, sym, ap, List, ◌≤◌, ℕ, ◌<◌, ◌-◌, ◌+◌, ◌*◌, arith, length, needs, not-false, not-true}
+use Rattle.meaning.proofs.Kit.{◌≡◌, ◌∙◌, sym, ap, List, ◌≤◌, ℕ, ◌<◌, ◌-◌, ◌+◌, ◌*◌, arith, length, rules, not-false, not-true}
 use borrow.Fn.Kinds.{In, Out}
 use borrow.Fn.PlainCycle.{Measures, is, falls, and}
 use Rattle.chains.proofs.Words.{chain_at, start_of, read_of, extent, closed_answer, Denial, Start}
@@ -72,7 +72,7 @@ module _ (t : ℕ) where
 
   unit_read : (u : Loop chain_lts.After-unit)
       → UnitRead (start u).args.brackets (start u).args.text.now (at u).loop.at (at u).loop.join u.unit.result
-  unit_read u = record { inside = (at u).loop.inv.0; read = u.unit.ensures }
+  unit_read u = record { inside = (at u).loop.invariant.0; read = u.unit.ensures }
 
   used : (k : Loop chain_lts.After-known-told2)
       → (at (unit_of k)).loop.at + k.before.count.given.0.0 ≤ length (start (unit_of k)).args.text.now
@@ -93,7 +93,7 @@ module _ (t : ℕ) where
   returns_2 c =
       let k = c.before in
       let u = unit_of k in
-      sym ((at u).loop.inv.1 ∙ (chain_ends (unit_read u) k.before.count.given.1 c.if1.true).1)
+      sym ((at u).loop.invariant.1 ∙ (chain_ends (unit_read u) k.before.count.given.1 c.if1.true).1)
 
   returns_3 : Loop chain_lts.Need-returns-3
   returns_3 c =
@@ -101,7 +101,7 @@ module _ (t : ℕ) where
       let k = g.before.before.before in
       let u = unit_of k in
       let stops = sym g.goes_on_lem.ensures ∙ not-true _ c.if2.true in
-      sym ((at u).loop.inv.1 ∙ (chain_stops (unit_read u) k.before.count.given.1 stops).1)
+      sym ((at u).loop.invariant.1 ∙ (chain_stops (unit_read u) k.before.count.given.1 stops).1)
 
   abbrev known : Loop chain_lts.After-goes-on → Loop chain_lts.After-known-told2
   known g = g.before.before.before
@@ -115,7 +115,7 @@ module _ (t : ℕ) where
       let k = known g in
       let u = unit_of k in
       let goes = sym g.goes_on_lem.ensures ∙ not-false _ c.if2.false in
-      (omega (arith, used k), (at u).loop.inv.1 ∙ (chain_goes (unit_read u) k.before.count.given.1 (omega (arith, used k)) goes).1)
+      (omega (arith, used k), (at u).loop.invariant.1 ∙ (chain_goes (unit_read u) k.before.count.given.1 (omega (arith, used k)) goes).1)
 
 -- ---- the unit
 
@@ -189,7 +189,7 @@ module _ (t : ℕ) where
   chain_requires c κs =
       let e = c.before.before in
       let r = run_of e.before.before in
-      omega (arith, opened e, onward_length r.run.result (text r), onward_length 1 (body r), r.before.before.pre.0)
+      omega (arith, opened e, onward_length r.run.result (text r), onward_length 1 (body r), r.before.before.requires.0)
 
   closed_requires : Here unit_lts.Need-closed-requires
   closed_requires c κs =
@@ -231,11 +231,11 @@ module _ (t : ℕ) where
 
 pub +chain_unit_spec : {M : Type 1} → statement M
 +chain_unit_spec = close μ-chain μ-unit (λ t. chain_lts.spec (chain_calls t) (chain_at t) chain.Post Inv μ
-    (λ c. (omega arith, chain_starts c.before.args.brackets c.before.args.text.now)) (λ c. search needs) (λ c. search needs)
-    (λ c. search needs) (λ c κs. omega (arith, onward_length c.before.loop.at c.before.before.before.args.text.now)) (λ c. search needs)
-    (add_t14 t) (returns t) (λ c. search needs) (add_at t) (returns_2 t) (λ c. omega (arith, used t c.before.before)) (λ c κs. tt) (returns_3 t)
+    (λ c. (omega arith, chain_starts c.before.args.brackets c.before.args.text.now)) (λ c. search rules) (λ c. search rules)
+    (λ c. search rules) (λ c κs. omega (arith, onward_length c.before.loop.at c.before.before.before.args.text.now)) (λ c. search rules)
+    (add_t14 t) (returns t) (λ c. search rules) (add_at t) (returns_2 t) (λ c. omega (arith, used t c.before.before)) (λ c κs. tt) (returns_3 t)
     (add_at_2 t) (λ c. omega (arith, used t (known t c.before))) (loop_again t))
     λ t. unit_lts.spec (unit_calls t) (unit_at t) unit.Post
-    (λ c κs. tt) (skipped t) (skipped t) (λ c. search needs) (λ c κs. tt) (λ c. search needs) (λ c κs. tt) (add_number t) (λ c. search needs)
-    (returns_deep t) (sub_inner t) (sub_inner t) (λ c. search needs) (add_past_by t) (λ c. omega arith) (chain_requires t) (closed_requires t)
-    (past_by_requires t) (λ c. search needs) (returns_number t) (returns_bracket t) (returns_neither t)
+    (λ c κs. tt) (skipped t) (skipped t) (λ c. search rules) (λ c κs. tt) (λ c. search rules) (λ c κs. tt) (add_number t) (λ c. search rules)
+    (returns_deep t) (sub_inner t) (sub_inner t) (λ c. search rules) (add_past_by t) (λ c. omega arith) (chain_requires t) (closed_requires t)
+    (past_by_requires t) (λ c. search rules) (returns_number t) (returns_bracket t) (returns_neither t)

@@ -1,5 +1,5 @@
 -- `reading::closed` meets its contract.
-use Rattle.meaning.proofs.Kit.{◌≡◌, ◌∙◌, ap, List, ◌≤◌, ℕ, ◌<◌, ◌+◌, add-one, arith, length, get_or, drop, drop_of_length-le, drop-cons, needs, ne_eqb}
+use Rattle.meaning.proofs.Kit.{◌≡◌, ◌∙◌, ap, List, ◌≤◌, ℕ, ◌<◌, ◌+◌, add-one, arith, length, get_or, drop, drop_of_length-le, drop-cons, rules, ne_eqb}
 use Rattle.meaning.proofs.Kit.{eq-eqb}
 use Rattle.chains.proofs.Words.{BadText, lead, close_answer, Blank, extent, Used, Refused}
 use Rattle.formula.proofs.Parts.{onward, onward_drop, onward_length}
@@ -69,5 +69,5 @@ returns_4 c =
 
 pub closed_spec : {M : Type 1} → statement M
 closed_spec = tie.close (tie.spec
-    (λ c. search needs) (λ c. search needs) returns (λ c. omega (arith, within c.before.before.before)) returns_2 add_t7 (λ c. add_t7 c) sub_run
-    sub_run (λ c. search needs) (λ c κs. search needs) add_t20 (λ c. rw c.before.answer.given.1) returns_4)
+    (λ c. search rules) (λ c. search rules) returns (λ c. omega (arith, within c.before.before.before)) returns_2 add_t7 (λ c. add_t7 c) sub_run
+    sub_run (λ c. search rules) (λ c κs. search rules) add_t20 (λ c. rw c.before.answer.given.1) returns_4)

@@ -1,5 +1,5 @@
 -- `reading::number` meets its contract.
-use Rattle.meaning.proofs.Kit.{◌∙◌, ap, ap₂, ℕ, ◌+◌, arith, drop, needs}
+use Rattle.meaning.proofs.Kit.{◌∙◌, ap, ap₂, ℕ, ◌+◌, arith, drop, rules}
 use Rattle.chains.proofs.Words.{lead, Blank, Number}
 use Rattle.formula.proofs.Parts.{onward, onward_drop, onward_length}
 use Rattle.chains.proofs.Runs.{lead_extent}
@@ -24,4 +24,4 @@ returns c =
     (onward_drop r.run.result l ∙ ap (λ (n : ℕ). drop n l) r.run.ensures))
 
 pub number_spec : {M : Type 1} → statement M
-number_spec = tie.close (tie.spec (λ c κs. search needs) sub_run sub_run (λ c. search needs) (λ c κs. search needs) add_result returns)
+number_spec = tie.close (tie.spec (λ c κs. search rules) sub_run sub_run (λ c. search rules) (λ c κs. search rules) add_result returns)

@@ -1,5 +1,5 @@
 -- `reading::read_text` meets its contract.
-use Rattle.meaning.proofs.Kit.{needs}
+use Rattle.meaning.proofs.Kit.{rules}
 use Rattle.chains.proofs.Whole.{whole_used, whole_more, whole_bad}
 use Rattle.chains.proofs.reading.read_text.Statement.{statement}
 use Rattle.chains.proofs.reading.read_text.Tie as tie
@@ -23,4 +23,4 @@ returns_3 c =
     whole_bad r.before.before.args.text.now r.chain.ensures k.why.given.1
 
 pub read_text_spec : {M : Type 1} → statement M
-read_text_spec = tie.close (tie.spec (λ c κs. search needs) (λ c. search needs) (λ c. search needs) returns returns_2 returns_3)
+read_text_spec = tie.close (tie.spec (λ c κs. search rules) (λ c. search rules) (λ c. search rules) returns returns_2 returns_3)

@@ -1,5 +1,5 @@
 -- `signs::goes_on` meets its contract: each arm's byte picks its case.
-use Rattle.meaning.proofs.Kit.{◌∙◌, needs, ne_eqb}
+use Rattle.meaning.proofs.Kit.{◌∙◌, rules, ne_eqb}
 use Rattle.chains.proofs.signs.goes_on_lem.Statement.{statement}
 use Rattle.chains.proofs.signs.goes_on_lem.Tie as tie
 
@@ -10,5 +10,5 @@ returns_5 c =
 
 pub goes_on_spec : {M : Type 1} → statement M
 goes_on_spec = tie.close (tie.spec
-    (λ c κs. search needs) (λ c κs. search needs) (λ c. c.fits2.ensures ∙ rw c.before.match.keys1)
+    (λ c κs. search rules) (λ c κs. search rules) (λ c. c.fits2.ensures ∙ rw c.before.match.keys1)
     (λ c. c.fits3.ensures ∙ rw c.before.match.keys2) (λ c. rw c.match.keys3) (λ c. rw c.match.keys4) returns_5)

@@ -20,14 +20,14 @@ returns c =
     let l = at c.before in
     let a = l.before.before.args in
     let other = sym c.before.within.ensures ∙ not-true _ c.if1.true in
-    sym (l.loop.inv.1 ∙ lead_stops a.class a.text.now l.loop.n (omega arith) other)
+    sym (l.loop.invariant.1 ∙ lead_stops a.class a.text.now l.loop.n (omega arith) other)
 
 loop_again : tie.Need-loop-preserved invariant_loop decreases_loop
 loop_again c =
     let l = at c.before in
     let a = l.before.before.args in
     let one = sym c.before.within.ensures ∙ not-false _ c.if1.false in
-    (omega arith, l.loop.inv.1 ∙ lead_more a.class a.text.now l.loop.n (omega arith) one)
+    (omega arith, l.loop.invariant.1 ∙ lead_more a.class a.text.now l.loop.n (omega arith) one)
 
 returns_2 : tie.Need-returns-2 invariant_loop decreases_loop
 returns_2 c =

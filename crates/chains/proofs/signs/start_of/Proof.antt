@@ -1,5 +1,5 @@
 -- `signs::start_of` meets its contract.
-use Rattle.meaning.proofs.Kit.{◌≡◌, ◌∙◌, sym, refl, true, false, List, [], ◌∷◌, ℕ, ◌<◌, arith, length, get_or, needs, ne_eqb, eq-eqb}
+use Rattle.meaning.proofs.Kit.{◌≡◌, ◌∙◌, sym, refl, true, false, List, [], ◌∷◌, ℕ, ◌<◌, arith, length, get_or, rules, ne_eqb, eq-eqb}
 use Rattle.chains.proofs.Words.{start_of, belongs, Number, Digits, Bracket, Neither}
 use Rattle.chains.proofs.signs.start_of.Statement.{statement}
 use Rattle.chains.proofs.signs.start_of.Tie as tie
@@ -42,5 +42,5 @@ returns_4 c =
 
 pub start_of_spec : {M : Type 1} → statement M
 start_of_spec = tie.close (tie.spec
-    (λ c. start_none c.before.before.args.body.now c.if1.true) (λ c. search needs) (λ c κs. search needs) returns_2 (λ c. search needs)
+    (λ c. start_none c.before.before.args.body.now c.if1.true) (λ c. search rules) (λ c κs. search rules) returns_2 (λ c. search rules)
     returns_3 returns_4)

@@ -53,7 +53,7 @@ module _ (t : ℕ) where
       let p = counted c.before.before in
       let i = p.before.before in
       let s = i.before.before in
-      omega (arith, s.pre.1, natural_longer s.args.n i.if1.left, p.put-number.ensures.ends)
+      omega (arith, s.requires.1, natural_longer s.args.n i.if1.false, p.put-number.ensures.ends)
 
   returns_2 : Here lts.Need-returns-2
   returns_2 c =
@@ -61,7 +61,7 @@ module _ (t : ℕ) where
       let p = counted last in
       let i = p.before.before in
       let n = i.before.before.args.n in
-      rw (natural_long n i.if1.left)
+      rw (natural_long n i.if1.false)
       (put_put (natural (n / 10)) ((48 + n % 10) ∷ []) p.put-number.ensures (record { written = last.put2.ensures; ends = refl }))
 
 pub +put_number_spec : {M : Type 1} → statement M

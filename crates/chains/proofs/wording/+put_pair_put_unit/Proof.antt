@@ -1,6 +1,6 @@
 -- `wording::put_unit` and `wording::put_pair` call each other, and meet their contracts. The measure is the depth left, twice, with one more for a
 -- unit, which hands all its bytes to `put_pair`.
-use Rattle.meaning.proofs.Kit.{◌≡◌, ◌∙◌, sym, ap, refl, ◌≤◌, ℕ, ◌<◌, ◌+◌, ◌*◌, arith, length, needs}
+use Rattle.meaning.proofs.Kit.{◌≡◌, ◌∙◌, sym, ap, refl, ◌≤◌, ℕ, ◌<◌, ◌+◌, ◌*◌, arith, length, rules}
 use borrow.Fn.Kinds.{In, Out}
 use borrow.Fn.PlainCycle.{Measures, is, falls, and}
 use Rattle.chains.proofs.Words.{used_of, parse, Kind, Symbol, Not, Two}
@@ -51,7 +51,7 @@ module _ (t : ℕ) where
   Pair point = point (pair_calls t) (pair_at t) put_pair.Post
 
   join : (s : Pair pair_lts.Start) → Walk s.args.depth s.args.bytes.now (Two s.args.join)
-  join s = record { well = s.pre.1.0; says = s.pre.1.1.0 }
+  join s = record { well = s.requires.1.0; says = s.requires.1.1.0 }
 
   -- ---- the first operand is written, and the mark
 
@@ -81,7 +81,7 @@ module _ (t : ℕ) where
       → let s = begun f in
       f.put-unit.result.next + 1 + length (unit_text_of (second 255 s.args.depth s.args.bytes.now f.put-unit.result.used))
       ≤ 0xffff_ffff_ffff_ffff
-  room f = let s = begun f in omega (arith, pair_length (join s) (took f), s.pre.1.1.1, f.put-unit.ensures.1.ends)
+  room f = let s = begun f in omega (arith, pair_length (join s) (took f), s.requires.1.1.1, f.put-unit.ensures.1.ends)
 
   add_mark : Pair pair_lts.Need-overflow-add-put-unit
   add_mark c = let r = c.before.before in omega (arith, room (first_of r.before.before.before))
@@ -142,7 +142,7 @@ module _ (t : ℕ) where
   WalkAt k kind = Walk (start k).args.depth (start k).args.bytes.now kind
 
   walk : (k : Here unit_lts.After-kind-of) {kind : Kind} → k.kind-of.result ≡ kind → WalkAt k kind
-  walk k e = record { well = (start k).pre.1.0; says = sym k.kind-of.ensures ∙ e }
+  walk k e = record { well = (start k).requires.1.0; says = sym k.kind-of.ensures ∙ e }
 
   symbol : (c : Here unit_lts.After-enum-told) → WalkAt c.before.before Symbol
   symbol c = walk c.before.before c.enum_told.given.1
@@ -158,7 +158,7 @@ module _ (t : ℕ) where
   number_asks : Here unit_lts.Need-put-number-requires
   number_asks c κs =
       let e = c.before.before in
-      omega (arith, ap length (symbol_text (symbol e)), (start e.before.before).pre.1.1)
+      omega (arith, ap length (symbol_text (symbol e)), (start e.before.before).requires.1.1)
 
   returns : Here unit_lts.Need-returns
   returns c = let p = c.before.before in told_symbol (symbol p.before.before.before) p.put-number.ensures
@@ -169,7 +169,7 @@ module _ (t : ℕ) where
   inner_room : (e : Here unit_lts.After-enum-told2)
       → let a = (start e.before.before).args in
       a.at + 1 + length (unit_text_of (first 255 a.depth a.bytes.now)) ≤ 0xffff_ffff_ffff_ffff
-  inner_room e = omega (arith, ap length (not_text (negation e)), (start e.before.before).pre.1.1)
+  inner_room e = omega (arith, ap length (not_text (negation e)), (start e.before.before).requires.1.1)
 
   add_inner : Here unit_lts.Need-overflow-add-put-unit
   add_inner c = let p = c.before.before.before in omega (arith, inner_room p.before.before)
@@ -203,13 +203,13 @@ module _ (t : ℕ) where
   pair_room : (j : Here unit_lts.After-join)
       → let a = (start j.before.before).args in
       a.at + 2 + length (spelled_of (parse 255 a.depth a.bytes.now)) ≤ 0xffff_ffff_ffff_ffff
-  pair_room j = omega (arith, bracket_length (two j), (start j.before.before).pre.1.1)
+  pair_room j = omega (arith, bracket_length (two j), (start j.before.before).requires.1.1)
 
   pair_asks : Here unit_lts.Need-put-pair-requires
   pair_asks c κs =
       let j = joined_at c.before.before.before in
       let s = start j.before.before in
-      (omega (arith, s.pre.0), (s.pre.1.0, ((two j).says, omega (arith, pair_room j))))
+      (omega (arith, s.requires.0), (s.requires.1.0, ((two j).says, omega (arith, pair_room j))))
 
   abbrev opened : Here unit_lts.After-put-pair → Here unit_lts.After-put2
   opened p = p.before.before.before.before
@@ -233,13 +233,13 @@ module _ (t : ℕ) where
 
 pub +put_pair_put_unit_spec : {M : Type 1} → statement M
 +put_pair_put_unit_spec = close μ-pair μ-unit (λ t. pair_lts.spec (pair_calls t) (pair_at t) put_pair.Post
-    (λ c. omega (arith, long)) (λ c. omega (arith, long)) (λ c. search needs) (λ c. omega (arith, deep)) (first_asks t) (λ c κs. tt) (λ c κs. tt)
-    (sub_rest t) (sub_rest t) (λ c. search needs) (λ c. omega (arith, deep)) (add_mark t) (second_asks t) (add_used t) (add_used_2 t)
+    (λ c. omega (arith, long)) (λ c. omega (arith, long)) (λ c. search rules) (λ c. omega (arith, deep)) (first_asks t) (λ c κs. tt) (λ c κs. tt)
+    (sub_rest t) (sub_rest t) (λ c. search rules) (λ c. omega (arith, deep)) (add_mark t) (second_asks t) (add_used t) (add_used_2 t)
     (λ c. put_length (pair_returns t c).1) (pair_returns t))
     λ t. unit_lts.spec (unit_calls t) (unit_at t) put_unit.Post
-    (λ c. omega (arith, long)) (λ c. omega (arith, long)) (λ c. search needs) (λ c. omega (arith, long)) (λ c κs. tt) (λ c. search needs)
-    (λ c. number_there (symbol t c.before.before)) (number_asks t) (λ c. search needs) (λ c κs. tt) (λ c. omega (arith, deep)) (add_inner t)
-    (inner_asks t) (add_inner_used t) (λ c. search needs) (λ c κs. tt) (λ c. omega (arith, pair_room t (joined_at t c.before.before.before)))
-    (pair_asks t) (λ c κs. tt) (add_close t) (λ c. search needs)
+    (λ c. omega (arith, long)) (λ c. omega (arith, long)) (λ c. search rules) (λ c. omega (arith, long)) (λ c κs. tt) (λ c. search rules)
+    (λ c. number_there (symbol t c.before.before)) (number_asks t) (λ c. search rules) (λ c κs. tt) (λ c. omega (arith, deep)) (add_inner t)
+    (inner_asks t) (add_inner_used t) (λ c. search rules) (λ c κs. tt) (λ c. omega (arith, pair_room t (joined_at t c.before.before.before)))
+    (pair_asks t) (λ c κs. tt) (add_close t) (λ c. search rules)
     (λ c. put_length (returns t c).1) (returns t) (λ c. put_length (returns_2 t c).1) (returns_2 t) (λ c. put_length (returns_3 t c).1)
     (returns_3 t) (returns_4 t)

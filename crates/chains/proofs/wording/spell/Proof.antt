@@ -1,5 +1,5 @@
 -- `wording::spell` meets its contract: a formula of the board's symbols is the same where every byte but 0 is a symbol's number.
-use Rattle.meaning.proofs.Kit.{◌≡◌, ◌∙◌, sym, ap, refl, ⊎_elim, true, List, [], ◌∷◌, ◌≤◌, ℕ, arith, length, needs}
+use Rattle.meaning.proofs.Kit.{◌≡◌, ◌∙◌, sym, ap, refl, ⊎_elim, true, List, [], ◌∷◌, ◌≤◌, ℕ, arith, length, rules}
 use types.Run.{OneOf}
 use denote.Enum.Declared.{tag_of}
 use Rattle.chains.proofs.Words.{is_good, Parsed, good, bad, parse, levels, Kind, Symbol, Not, Two, Unknown, spelled}
@@ -62,15 +62,15 @@ returns c =
     let p = c.before.before in
     let j = p.before.before.before in
     let s = start j.before.before in
-    rw (wide s.args.symbols s.pre.0 levels s.args.bytes.now s.pre.1) p.put-pair.ensures.1
+    rw (wide s.args.symbols s.requires.0 levels s.args.bytes.now s.requires.1) p.put-pair.ensures.1
 
 returns_2 : tie.Need-returns-2
 returns_2 c =
     let u = c.before.before in
     let m = u.before.before in
     let s = start m.before in
-    rw (wide s.args.symbols s.pre.0 levels s.args.bytes.now s.pre.1, unit_whole m) u.put-unit.ensures.1
+    rw (wide s.args.symbols s.requires.0 levels s.args.bytes.now s.requires.1, unit_whole m) u.put-unit.ensures.1
 
 pub spell_spec : {M : Type 1} → statement M
 spell_spec = tie.close (tie.spec
-    read_kind (λ c κs. tt) (λ c. search needs) pair_asks unit_asks (λ c. search needs) returns (λ c. search needs) returns_2)
+    read_kind (λ c κs. tt) (λ c. search rules) pair_asks unit_asks (λ c. search rules) returns (λ c. search rules) returns_2)

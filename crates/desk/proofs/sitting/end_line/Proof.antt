@@ -1,5 +1,5 @@
 -- `sitting::end_line` meets its contract: by whether anything is left.
-use Rattle.meaning.proofs.Kit.{◌≡◌, arith, length, take, length-take-le, needs, ne_eqb}
+use Rattle.meaning.proofs.Kit.{◌≡◌, arith, length, take, length-take-le, rules, ne_eqb}
 use Rattle.desk.specs.Sittings.{after_end}
 use Rattle.desk.proofs.sitting.end_line.Statement.{statement}
 use Rattle.desk.proofs.sitting.end_line.Tie as tie
@@ -22,8 +22,8 @@ returns_2 c =
     let f = m.before.before.before in
     let s = start (at f) in
     let n = s.args.sitting.filled in
-    let long : length (take n s.args.line.now) ≡ n = length-take-le n s.args.line.now (omega (arith, s.pre.2)) in
+    let long : length (take n s.args.line.now) ≡ n = length-take-le n s.args.line.now (omega (arith, s.requires.2)) in
     rw (long, ne_eqb n 0 (at f).if1.false) f.take-filled.ensures.0
 
 pub end_line_spec : {M : Type 1} → statement M
-end_line_spec = tie.close (tie.spec returns (λ c κs. search needs) (λ c. search needs) (λ c. search needs) (λ c. search needs) returns_2)
+end_line_spec = tie.close (tie.spec returns (λ c κs. search rules) (λ c. search rules) (λ c. search rules) (λ c. search rules) returns_2)

@@ -1,5 +1,5 @@
 -- `sitting::gather` meets its contract: the invariant: k bytes stand behind those that were there.
-use Rattle.meaning.proofs.Kit.{◌≡◌, ◌∙◌, refl, ◌++◌, ◌≤◌, ◌<◌, ◌-◌, ◌+◌, arith, length, take, length-set, needs}
+use Rattle.meaning.proofs.Kit.{◌≡◌, ◌∙◌, refl, ◌++◌, ◌≤◌, ◌<◌, ◌-◌, ◌+◌, arith, length, take, length-set, rules}
 use Rattle.desk.proofs.Bytes.{gathered_none, gathered_more, gathered_all}
 use Rattle.desk.proofs.sitting.gather.Statement.{statement}
 use Rattle.desk.proofs.sitting.gather.Tie as tie
@@ -27,7 +27,7 @@ loop_again c =
     let s = start f in
     let a = s.args in
     let room = few f in
-    let inside : a.filled + l.loop.k < length l.loop.line = omega (arith, l.loop.invariant.1, room.1, s.pre.0) in (
+    let inside : a.filled + l.loop.k < length l.loop.line = omega (arith, l.loop.invariant.1, room.1, s.requires.0) in (
       omega arith,
       length-set l.loop.line (a.filled + l.loop.k) _ ∙ l.loop.invariant.1,
       gathered_more a.line.now a.bytes.now a.filled l.loop.line l.loop.k inside (omega (arith, room.0)) l.loop.invariant.2,
@@ -41,11 +41,11 @@ returns c =
     let a = s.args in
     let whole : l.loop.k ≡ f.fitting.result = omega arith in
     let all = gathered_all a.line.now a.bytes.now a.filled l.loop.line f.fitting.result in
-    (all s.pre.0 s.pre.1 f.fitting.ensures (rw whole at l.loop.invariant.2), (few f).1)
+    (all s.requires.0 s.requires.1 f.fitting.ensures (rw whole at l.loop.invariant.2), (few f).1)
 
 pub gather_spec : {M : Type 1} → statement M
 gather_spec = tie.close (tie.spec
-    invariant_loop decreases_loop (λ c. omega (arith, c.before.before.requires.1)) (λ c κs. search needs) loop_holds
+    invariant_loop decreases_loop (λ c. omega (arith, c.before.before.requires.1)) (λ c κs. search rules) loop_holds
     (λ c. omega (arith, (few c.before.before.before).0)) (λ c. omega (arith, (few c.before.before.before).1))
-    (λ c. omega (arith, (few c.before.before.before).1, c.before.before.loop.invariant.1, (start c.before.before.before).pre.0))
+    (λ c. omega (arith, (few c.before.before.before).1, c.before.before.loop.invariant.1, (start c.before.before.before).requires.0))
     (λ c. omega arith) (λ c. omega arith) loop_again (λ c. omega (arith, (few c.before.before).1)) (λ c. c.before.loop.invariant.1) returns)

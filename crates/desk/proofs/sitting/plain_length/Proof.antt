@@ -1,5 +1,5 @@
 -- `sitting::plain_length` meets its contract: by the last byte.
-use Rattle.meaning.proofs.Kit.{needs, ne_eqb}
+use Rattle.meaning.proofs.Kit.{rules, ne_eqb}
 use Rattle.desk.specs.Sittings.{plain_length}
 use Rattle.desk.proofs.Plain.{plain_none}
 use Rattle.desk.proofs.sitting.plain_length.Statement.{statement}
@@ -17,4 +17,4 @@ unfolding plain_length
 returns_3 c = rw (ne_eqb _ 13 c.if2.false)
 
 pub plain_length_spec : {M : Type 1} → statement M
-plain_length_spec = tie.close (tie.spec returns (λ c. search needs) (λ c. search needs) (λ c. search needs) returns_2 returns_3)
+plain_length_spec = tie.close (tie.spec returns (λ c. search rules) (λ c. search rules) (λ c. search rules) returns_2 returns_3)

@@ -1,5 +1,5 @@
 -- `sitting::take_bytes` meets its contract: the invariant: what is left of the bytes is still to be taken, from where the desk is.
-use Rattle.meaning.proofs.Kit.{◌≡◌, ◌∙◌, sym, ap, refl, ◌≤◌, ◌-◌, ◌+◌, arith, length, drop, length-drop, drop_of_length-le, length-take, needs}
+use Rattle.meaning.proofs.Kit.{◌≡◌, ◌∙◌, sym, ap, refl, ◌≤◌, ◌-◌, ◌+◌, arith, length, drop, length-drop, drop_of_length-le, length-take, rules}
 use native.Mathlib.Nat.{min-le_left}
 use Rattle.formula.proofs.Parts.{onward_drop}
 use Rattle.names.specs.Names.{table_length}
@@ -59,15 +59,15 @@ loop_again c =
     let now_there = sat t.here t.table t.names t.line in
     let filled = t.here.filled in
     let short : length now_there.pending ≤ 502 =
-    omega (arith, length-take filled t.line, min-le_left filled (length t.line), t.inv.1) in (
+    omega (arith, length-take filled t.line, min-le_left filled (length t.line), t.invariant.1) in (
       ap (λ (s : Sat). after_bytes s (drop (t.at + n.line-length.result + 1) bytes)) p.take_part.ensures.0
           ∙ sym (bytes_step now_there bytes t.at n.line-length.result (omega arith) short (next n))
-          ∙ t.inv.0,
+          ∙ t.invariant.0,
       p.take_part.ensures.1,
-      p.take_part.kept.1.1.0 ∙ t.inv.2,
-      p.take_part.kept.1.1.1.0 ∙ t.inv.3,
-      p.take_part.kept.1.1.1.1.0 ∙ t.inv.4,
-      p.take_part.kept.1.0 ∙ t.inv.5,
+      p.take_part.kept.1.1.0 ∙ t.invariant.2,
+      p.take_part.kept.1.1.1.0 ∙ t.invariant.3,
+      p.take_part.kept.1.1.1.1.0 ∙ t.invariant.4,
+      p.take_part.kept.1.0 ∙ t.invariant.5,
     )
 
 returns : tie.Need-returns invariant_loop decreases_loop
@@ -79,9 +79,9 @@ returns c =
 
 pub take_bytes_spec : {M : Type 1} → statement M
 take_bytes_spec = tie.close (tie.spec
-    invariant_loop decreases_loop loop_holds (λ c. omega arith) (λ c. omega arith) (λ c. omega arith) (λ c κs. search needs) (λ c. omega (arith, inside c))
+    invariant_loop decreases_loop loop_holds (λ c. omega arith) (λ c. omega arith) (λ c. omega arith) (λ c κs. search rules) (λ c. omega (arith, inside c))
     (λ c. omega arith) (λ c. omega arith) (λ c. let m = c.before in omega (arith, inside m.before.before.before))
     (λ c κs. let m = c.before.before in let i = (at m.before.before.before).loop.invariant in (i.2, i.3, i.4, i.1))
-    (λ c. let n = sized (here c) in omega (arith, inside n, (start (at n)).pre.4)) (λ c. omega arith) loop_again (λ c. c.before.loop.invariant.5)
-    (λ c. c.before.loop.invariant.2 ∙ sym (start c.before).pre.0) (λ c. c.before.loop.invariant.3 ∙ sym (start c.before).pre.1)
-    (λ c. c.before.loop.invariant.4 ∙ sym (start c.before).pre.2) returns)
+    (λ c. let n = sized (here c) in omega (arith, inside n, (start (at n)).requires.4)) (λ c. omega arith) loop_again (λ c. c.before.loop.invariant.5)
+    (λ c. c.before.loop.invariant.2 ∙ sym (start c.before).requires.0) (λ c. c.before.loop.invariant.3 ∙ sym (start c.before).requires.1)
+    (λ c. c.before.loop.invariant.4 ∙ sym (start c.before).requires.2) returns)

@@ -1,5 +1,5 @@
 -- `sitting::take_filled` meets its contract: the line is what is filled of its buffer.
-use Rattle.meaning.proofs.Kit.{sym, length-take-le, needs}
+use Rattle.meaning.proofs.Kit.{sym, length-take-le, rules}
 use Rattle.desk.proofs.sitting.take_filled.Statement.{statement}
 use Rattle.desk.proofs.sitting.take_filled.Tie as tie
 
@@ -11,4 +11,4 @@ slice_aggregate_take_line c =
 
 pub take_filled_spec : {M : Type 1} → statement M
 take_filled_spec = tie.close (tie.spec
-    slice_aggregate_take_line (λ c κs. search needs) (λ c. search needs) (λ c. search needs) (λ c. search needs) (λ c. search needs))
+    slice_aggregate_take_line (λ c κs. search rules) (λ c. search rules) (λ c. search rules) (λ c. search rules) (λ c. search rules))

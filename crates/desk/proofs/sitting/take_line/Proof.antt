@@ -1,5 +1,5 @@
 -- `sitting::take_line` meets its contract: what `take` promises, of the line without its carriage return.
-use Rattle.meaning.proofs.Kit.{◌∙◌, sym, refl, arith, length-take-le, needs}
+use Rattle.meaning.proofs.Kit.{◌∙◌, sym, refl, arith, length-take-le, rules}
 use Rattle.desk.specs.Sittings.{after_line}
 use Rattle.desk.proofs.Plain.{plain_within}
 use Rattle.desk.proofs.sitting.take_line.Statement.{statement}
@@ -28,5 +28,5 @@ returns c =
 
 pub take_line_spec : {M : Type 1} → statement M
 take_line_spec = tie.close (tie.spec
-    (λ c κs. search needs) slice_aggregate_text (λ c κs. search needs) (λ c κs. search needs) (λ c κs. search needs) (λ c κs. search needs)
-    (λ c. search needs) (λ c. search needs) (λ c. search needs) returns)
+    (λ c κs. search rules) slice_aggregate_text (λ c κs. search rules) (λ c κs. search rules) (λ c κs. search rules) (λ c κs. search rules)
+    (λ c. search rules) (λ c. search rules) (λ c. search rules) returns)

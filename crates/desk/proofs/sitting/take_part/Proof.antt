@@ -1,5 +1,5 @@
 -- `sitting::take_part` meets its contract: the line is gathered, and taken where it ends.
-use Rattle.meaning.proofs.Kit.{◌∙◌, ap, List, ℕ, arith, needs}
+use Rattle.meaning.proofs.Kit.{◌∙◌, ap, List, ℕ, arith, rules}
 use Rattle.desk.specs.Sittings.{after_line, sat}
 use Rattle.desk.proofs.Parts.{part_ended, part_goes_on}
 use Rattle.desk.proofs.sitting.take_part.Statement.{statement}
@@ -18,7 +18,7 @@ take_filled_requires c κs =
     let m = k.before.before.before in
     let g = m.before.before in
     let s = start g in
-    (s.pre.0, s.pre.1, omega (arith, g.gather.ensures.1, g.gather.auto, s.pre.2))
+    (s.requires.0, s.requires.1, omega (arith, g.gather.ensures.1, g.gather.auto, s.requires.2))
 
 returns : tie.Need-returns
 returns c =
@@ -29,7 +29,7 @@ returns c =
     let g = k.before.before in
     let a = (start g).args in
     let s = sat a.sitting a.table.now a.names.now a.line.now in
-    rw t.if1.taken
+    rw t.if1.true
     let line = ap (λ (l : List ℕ). after_line s.state l) g.gather.ensures.0 in
     let none = f.take-filled.ensures.1 in
     (part_ended s a.part.now _ _ _ (f.take-filled.ensures.0 ∙ line) none, omega (arith, none))
@@ -45,5 +45,5 @@ returns_2 c =
 
 pub take_part_spec : {M : Type 1} → statement M
 take_part_spec = tie.close (tie.spec
-    (λ c κs. search needs) take_filled_requires (λ c. search needs) (λ c. search needs) (λ c. search needs) (λ c. search needs) returns
-    (λ c. search needs) returns_2)
+    (λ c κs. search rules) take_filled_requires (λ c. search rules) (λ c. search rules) (λ c. search rules) (λ c. search rules) returns
+    (λ c. search rules) returns_2)

@@ -55,8 +55,8 @@ turn : (c : tie.Else1 invariant_loop decreases_loop) → let a = (start (at c)).
 turn c =
     let s = start (at c) in
     let l = (at c).loop in
-    next s.args.symbols (rows_lent s.args.table.now) s.args.variables l.row l.rule (left c) s.pre.0.1 s.pre.0.2 (some c)
-    (rw (same c) at l.inv.1.done)
+    next s.args.symbols (rows_lent s.args.table.now) s.args.variables l.row l.rule (left c) s.requires.0.1 s.requires.0.2 (some c)
+    (rw (same c) at l.invariant.1.done)
 
 returns : tie.Need-returns invariant_loop decreases_loop
 returns c =
@@ -84,7 +84,7 @@ append_clause_requires c κs =
     let e = g.before.before in
     let count = kept_count (turn e) (holds g) in (
       (omega (arith, count, long g), count, kept_small (turn e) (holds g), number e),
-      left_room (at e).loop.inv.1 (same e) (turn e) (omega arith) (kept_rows (turn e) (holds g)),
+      left_room (at e).loop.invariant.1 (same e) (turn e) (omega arith) (kept_rows (turn e) (holds g)),
     )
 
 loop_less : tie.Need-loop-smaller invariant_loop decreases_loop
@@ -93,7 +93,7 @@ loop_less c =
     let n = g.before.before.before in
     let l = n.before.loop in
     let r = g.gather.ensures in
-    omega (arith, place_after in_word l.i n.next_word.ensures l.inv.1.within, r.onward (keeps g), r.within (keeps g))
+    omega (arith, place_after in_word l.i n.next_word.ensures l.invariant.1.within, r.onward (keeps g), r.within (keeps g))
 
 loop_again : tie.Need-loop-preserved invariant_loop decreases_loop
 loop_again c =
@@ -102,7 +102,7 @@ loop_again c =
     let e = g.before.before in
     let r = g.gather.ensures in (
       long g,
-      left_next (at e).loop.inv.1 (same e) (turn e) (omega arith) (kept_rows (turn e) (holds g)) a.ensures.0 a.ensures.1
+      left_next (at e).loop.invariant.1 (same e) (turn e) (omega arith) (kept_rows (turn e) (holds g)) a.ensures.0 a.ensures.1
           (r.within (keeps g)) (r.rest (keeps g)),
     )
 

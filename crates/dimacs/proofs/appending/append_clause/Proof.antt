@@ -1,5 +1,5 @@
 -- `appending::append_clause` meets its contract: a clause that is always true leaves the table as it is.
-use Rattle.meaning.proofs.Kit.{sym, refl, ◌≤◌, ◌+◌, ◌*◌, add-zero, arith, length, needs}
+use Rattle.meaning.proofs.Kit.{sym, refl, ◌≤◌, ◌+◌, ◌*◌, add-zero, arith, length, rules}
 use Rattle.literals.specs.Row.{width}
 use Rattle.implicates.proofs.Appending.{appended_none}
 use Rattle.dimacs.proofs.appending.append_clause.Statement.{statement}
@@ -20,4 +20,4 @@ returns_2 c = let e = c.before.before.before in rw e.if1.false (c.before.append-
 pub append_clause_spec : {M : Type 1} → statement M
 append_clause_spec = tie.close (tie.spec
     returns (λ c κs. (c.before.before.before.requires.0, room c.before)) (λ c. omega (arith, room c.before.before.before))
-    (λ c. search needs) returns_2)
+    (λ c. search rules) returns_2)

@@ -96,8 +96,8 @@ take_in_requires c κs =
     let l = at w in (
       omega (arith, c.before.if3.false),
       omega (arith, w.literal-at.ensures.0.size, literal_most (word w)),
-      l.loop.inv.2,
-      l.loop.inv.3 ∙ l.before.before.before.pre.1,
+      l.loop.invariant.2,
+      l.loop.invariant.3 ∙ l.before.before.before.requires.1,
     )
 
 abbrev took : tie.After-slice-known2 invariant_loop decreases_loop → tie.After-take-in invariant_loop decreases_loop
@@ -112,13 +112,13 @@ loop_again c =
     let e = (took c).before.before in
     let w = literal (took c).before in
     let spells = w.literal-at.ensures.0 in
-    let begun = (at w).loop.inv.4 in
+    let begun = (at w).loop.invariant.4 in
     let held = t.ensures.step begun.literals (literal_of (word w)) spells.size spells.sign begun.holds in (
-      omega (arith, (at w).loop.inv.0, onward w),
+      omega (arith, (at w).loop.invariant.0, onward w),
       w.literal-at.ensures.1.within,
       omega (arith, t.ensures.fits, t.kept.0),
-      t.kept.0 ∙ (at w).loop.inv.3,
-      begun_more begun (there w) spells.size e.before.before.if2.left e.if3.left held,
+      t.kept.0 ∙ (at w).loop.invariant.3,
+      begun_more begun (there w) spells.size e.before.before.if2.false e.if3.false held,
     )
 
 pub gather_spec : {M : Type 1} → statement M

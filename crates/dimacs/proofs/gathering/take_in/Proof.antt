@@ -1,5 +1,5 @@
 -- `gathering::take_in` meets its contract: there were too many symbols before, or the literal's place is put into the row.
-use Rattle.meaning.proofs.Kit.{needs}
+use Rattle.meaning.proofs.Kit.{rules}
 use Rattle.dimacs.proofs.Collecting.{steps_many, steps_sown}
 use Rattle.dimacs.proofs.gathering.take_in.Statement.{statement}
 use Rattle.dimacs.proofs.gathering.take_in.Tie as tie
@@ -18,11 +18,11 @@ returns_2 c =
     let p = sown.before in
     let e = p.before.before in
     let s = start e in
-    steps_sown s.args.symbols s.args.k s.pre.0 e.before.either.ensures s.pre.3 e.if1.false s.pre.2 p.place_of.ensures
+    steps_sown s.args.symbols s.args.k s.requires.0 e.before.either.ensures s.requires.3 e.if1.false s.requires.2 p.place_of.ensures
     sown.insert.ensures
     c.either2.ensures
 
 pub take_in_spec : {M : Type 1} → statement M
 take_in_spec = tie.close (tie.spec
-    (λ c κs. search needs) returns (λ c κs. let s = start c.before in (s.pre.0, s.pre.1)) (λ c κs. (start c.before.before).requires.2)
-    (λ c κs. search needs) (λ c. c.before.before.before.insert.auto.0) returns_2)
+    (λ c κs. search rules) returns (λ c κs. let s = start c.before in (s.requires.0, s.requires.1)) (λ c κs. (start c.before.before).requires.2)
+    (λ c κs. search rules) (λ c. c.before.before.before.insert.auto.0) returns_2)

@@ -1,5 +1,5 @@
 -- `header::header` meets its contract.
-use Rattle.meaning.proofs.Kit.{◌∙◌, ap, ◌≤◌, needs}
+use Rattle.meaning.proofs.Kit.{◌∙◌, ap, ◌≤◌, rules}
 use Rattle.dimacs.specs.Words.{ends}
 use Rattle.dimacs.specs.Form.{header_in}
 use Rattle.dimacs.proofs.Scanning.{place_after}
@@ -19,5 +19,5 @@ returns c =
 
 pub header_spec : {M : Type 1} → statement M
 header_spec = tie.close (tie.spec
-    (λ c κs. search needs) (λ c κs. c.header-place.ensures.within) onward onward (λ c. c.line-end.ensures.within) (λ c κs. search needs)
+    (λ c κs. search rules) (λ c κs. c.header-place.ensures.within) onward onward (λ c. c.line-end.ensures.within) (λ c κs. search rules)
     returns)

@@ -1,5 +1,5 @@
 -- `header::header_in` meets its contract.
-use Rattle.meaning.proofs.Kit.{◌≡◌, ◌∙◌, sym, ap, true, List, ◌≤◌, ℕ, length, needs, not-false, not-true}
+use Rattle.meaning.proofs.Kit.{◌≡◌, ◌∙◌, sym, ap, true, List, ◌≤◌, ℕ, length, rules, not-false, not-true}
 use Rattle.formula.proofs.Parts.{onward_drop}
 use Rattle.dimacs.specs.Words.{words}
 use Rattle.dimacs.specs.Form.{counts_in, header_in, header_start, starts_with}
@@ -29,4 +29,4 @@ returns_2 c =
 
 pub header_in_spec : {M : Type 1} → statement M
 header_in_spec = tie.close (tie.spec
-    (λ c. search needs) (λ c κs. search needs) returns long long (λ c. search needs) (λ c κs. search needs) returns_2)
+    (λ c. search rules) (λ c κs. search rules) returns long long (λ c. search rules) (λ c κs. search rules) returns_2)

@@ -1,5 +1,5 @@
 -- `reading::add_clauses` meets its contract: rows are appended only where nothing of the text is at fault.
-use Rattle.meaning.proofs.Kit.{◌≡◌, ◌∙◌, sym, ap, [], arith, drop, needs}
+use Rattle.meaning.proofs.Kit.{◌≡◌, ◌∙◌, sym, ap, [], arith, drop, rules}
 use Rattle.literals.specs.Row.{rows_lent}
 use Rattle.implicates.specs.Appending.{appended}
 use Rattle.board.specs.Faults.{first_fault}
@@ -56,7 +56,7 @@ whole c =
 append_requires : tie.Need-append-requires
 append_requires c κs =
     let s = start c.before.before.before in
-    ((s.pre.0.1, (fine s).some, (fine s).sound.symbols, (fine s).lent, (fine s).few), rw (whole c.before) at (nothing c.before))
+    ((s.requires.0.1, (fine s).some, (fine s).sound.symbols, (fine s).lent, (fine s).few), rw (whole c.before) at (nothing c.before))
 
 done_requires : tie.Need-done-requires
 done_requires c κs =
@@ -70,7 +70,7 @@ returns c =
     let o = c.before.before in
     let f = o.before.before in
     let s = start f in
-    let all = read_refused s.args.table.now s.args.board s.args.text.now s.pre.0.0 s.pre.1 o.outcome.given.0.0
+    let all = read_refused s.args.table.now s.args.board s.args.text.now s.requires.0.0 s.requires.1 o.outcome.given.0.0
     ((found f).outcome ∙ o.outcome.given.1) (found f).clauses in
     (c.refused.ensures ∙ all.0, all.1)
 
@@ -83,11 +83,11 @@ returns_2 c =
     let b = s.args.board in
     let table = s.args.table.now in
     let none = nothing t in
-    let all = read_done table b s.args.text.now s.pre.0.0 s.pre.1 none ((found f).all_clauses none) ((found f).added none) in
+    let all = read_done table b s.args.text.now s.requires.0.0 s.requires.1 none ((found f).all_clauses none) ((found f).added none) in
     let rows = ap (λ (p : Parsed). appended table b.rows (numbered_rows b.symbols b.rules p)) (sym (whole t)) in
     (c.done.ensures ∙ all.0, a.append.ensures ∙ rows ∙ all.1)
 
 pub add_clauses_spec : {M : Type 1} → statement M
 add_clauses_spec = tie.close (tie.spec
-    (λ c κs. search needs) survey_clauses_requires (λ c. search needs) (λ c κs. search needs) (λ c. search needs) append_requires done_requires
-    (λ c. search needs) returns (λ c. search needs) returns_2)
+    (λ c κs. search rules) survey_clauses_requires (λ c. search rules) (λ c κs. search rules) (λ c. search rules) append_requires done_requires
+    (λ c. search rules) returns (λ c. search rules) returns_2)

@@ -1,5 +1,5 @@
 -- `reading::read` meets its contract: the board first, then the header, then the clauses behind it.
-use Rattle.meaning.proofs.Kit.{◌≡◌, ◌∙◌, sym, ap, true, ◌≤◌, needs, not-false, not-true}
+use Rattle.meaning.proofs.Kit.{◌≡◌, ◌∙◌, sym, ap, true, ◌≤◌, rules, not-false, not-true}
 use Rattle.board.specs.Faults.{good_board}
 use Rattle.dimacs.specs.Words.{ends}
 use Rattle.dimacs.specs.Form.{header_in, header_line}
@@ -58,6 +58,6 @@ returns_2 c =
 
 pub read_spec : {M : Type 1} → statement M
 read_spec = tie.close (tie.spec
-    (λ c κs. search needs) (λ c κs. search needs) (λ c. search needs) returns (λ c κs. search needs) (λ c κs. c.header-place.ensures.within) onward
-    onward (λ c. c.line-end.ensures.within) (λ c κs. search needs) (λ c. search needs) (λ c κs. search needs) (λ c. search needs)
-    add_clauses_requires (λ c. search needs) returns_2 (λ c. search needs) (λ c. search needs))
+    (λ c κs. search rules) (λ c κs. search rules) (λ c. search rules) returns (λ c κs. search rules) (λ c κs. c.header-place.ensures.within) onward
+    onward (λ c. c.line-end.ensures.within) (λ c κs. search rules) (λ c. search rules) (λ c κs. search rules) (λ c. search rules)
+    add_clauses_requires (λ c. search rules) returns_2 (λ c. search rules) (λ c. search rules))

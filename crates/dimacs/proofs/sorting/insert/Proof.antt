@@ -12,18 +12,18 @@ returns c =
     let t = c.before.before in
     let l = t.before in
     let s = start l in
-    insert_same s.args.row.now s.args.count s.pre s.args.p l.lower.result l.lower.ensures t.if1.true c.if2.true
+    insert_same s.args.row.now s.args.count s.requires s.args.p l.lower.result l.lower.ensures t.if1.true c.if2.true
 
 -- its symbol is not there yet
 new : (c : tie.Joined1) → let l = c.before in let a = (start l).args in
     l.lower.result < a.count → get_or a.row.now l.lower.result 0 / 2 ≡ a.p / 2 → ⊥
-new c h e = ⊎_elim (λ w. w.2.left e) (λ w. omega (arith, w.left)) c.if1.branch
+new c h e = ⊎_elim (λ w. w.2.false e) (λ w. omega (arith, w.false)) c.if1.branch
 
 returns_2 : tie.Need-returns-2
 returns_2 c =
     let l = c.before.before in
     let s = start l in
-    insert_full s.args.row.now s.args.count s.pre s.args.p l.lower.result l.lower.ensures (new c.before) c.if3.true
+    insert_full s.args.row.now s.args.count s.requires s.args.p l.lower.result l.lower.ensures (new c.before) c.if3.true
 
 -- and there is room for it
 room : (c : tie.Else3) → let a = (start c.before.before).args in a.count < length a.row.now
@@ -34,7 +34,7 @@ put_at_requires c κs =
     let e = c.before in
     let l = e.before.before in
     let s = start l in
-    (lower_within s.args.row.now s.args.count s.pre s.args.p l.lower.result l.lower.ensures, room e)
+    (lower_within s.args.row.now s.args.count s.requires s.args.p l.lower.result l.lower.ensures, room e)
 
 abbrev put : tie.After-slice-known3 → tie.After-put-at
 put c = c.before.before
@@ -44,7 +44,7 @@ returns_3 c =
     let e = (put c).before.before in
     let l = e.before.before in
     let s = start l in
-    insert_new s.args.row.now s.args.count s.pre s.args.p l.lower.result l.lower.ensures (new e.before) (room e)
+    insert_new s.args.row.now s.args.count s.requires s.args.p l.lower.result l.lower.ensures (new e.before) (room e)
     (put c).put-at.ensures
 
 pub insert_spec : {M : Type 1} → statement M

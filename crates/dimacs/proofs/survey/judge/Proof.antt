@@ -15,29 +15,29 @@ returns_4 : tie.Need-returns-4
 returns_4 c =
     let n = c.before in
     let e = few n in
-    fault_counted e.before.if1.left e.if2.left n.if3.false c.if4.true
+    fault_counted e.before.if1.false e.if2.false n.if3.false c.if4.true
 
 returns_5 : tie.Need-returns-5
 returns_5 c =
     let r = c.before in
     let n = r.before in
     let e = few n in
-    fault_none e.before.if1.left e.if2.left n.if3.false r.if4.false (rw c.if5.true (omega (arith, e.before.before.pre)))
+    fault_none e.before.if1.false e.if2.false n.if3.false r.if4.false (rw c.if5.true (omega (arith, e.before.before.requires)))
 
 returns_6 : tie.Need-returns-6
 returns_6 c =
     let w = c.before in
     let n = w.before.before in
     let e = few n in
-    fault_full e.before.if1.left e.if2.left n.if3.false c.if6.true w.if5.false
+    fault_full e.before.if1.false e.if2.false n.if3.false c.if6.true w.if5.false
 
 returns_7 : tie.Need-returns-7
 returns_7 c =
     let w = c.before in
     let n = w.before.before in
     let e = few n in
-    fault_none e.before.if1.left e.if2.left n.if3.false w.before.if4.false
-    (rw w.if5.false (omega (arith, e.before.before.pre, c.if6.false)))
+    fault_none e.before.if1.false e.if2.false n.if3.false w.before.if4.false
+    (rw w.if5.false (omega (arith, e.before.before.requires, c.if6.false)))
 
 pub judge_spec : {M : Type 1} → statement M
 judge_spec = tie.close (tie.spec

@@ -79,7 +79,7 @@ returns_3 c =
     let t = c.before in
     let g = t.before.before.before in
     let breaks = sym g.gather.ensures.is_kept ∙ not-true _ t.if3.true in
-    c.broken2.ensures ∙ sofar_broken (at (here g)).loop.inv.3 (first (here g) ∙ rw breaks)
+    c.broken2.ensures ∙ sofar_broken (at (here g)).loop.invariant.3 (first (here g) ∙ rw breaks)
 
 -- ---- it keeps the form
 
@@ -101,11 +101,11 @@ with_clause_requires : tie.Need-with-clause-requires invariant_loop decreases_lo
 with_clause_requires c κs =
     let e = here (gathered c) in
     let s = start (at e) in
-    let fits = (at e).loop.inv.3.fits in
-    (fits.0, s.pre.3, fits.1)
+    let fits = (at e).loop.invariant.3.fits in
+    (fits.0, s.requires.3, fits.1)
 
 add_count : tie.Need-overflow-add-count invariant_loop decreases_loop
-add_count c = let e = here (gathered c.before) in omega (arith, (at e).loop.inv.2, onward e, more e, (start (at e)).good)
+add_count c = let e = here (gathered c.before) in omega (arith, (at e).loop.invariant.2, onward e, more e, (start (at e)).good)
 
 loop_less : tie.Need-loop-smaller invariant_loop decreases_loop
 loop_less c =
@@ -120,10 +120,10 @@ loop_again c =
     let r = g.gather.ensures in
     let k = keeps c.before in
     let next = c.with_clause.ensures.with_clause (start (at e)).args.symbols (next_clause (left e)) _ (r.holds k) in (
-      g.gather.kept.0 ∙ (at e).loop.inv.0,
+      g.gather.kept.0 ∙ (at e).loop.invariant.0,
       r.within k,
-      omega (arith, (at e).loop.inv.2, onward e, r.onward k),
-      sofar_more (at e).loop.inv.3 (next_clause (left e)) (clause c.before) next,
+      omega (arith, (at e).loop.invariant.2, onward e, r.onward k),
+      sofar_more (at e).loop.invariant.3 (next_clause (left e)) (clause c.before) next,
     )
 
 pub survey_clauses_spec : {M : Type 1} → statement M

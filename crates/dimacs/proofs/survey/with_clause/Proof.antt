@@ -1,5 +1,5 @@
 -- `survey::with_clause` meets its contract, by what the clauses before come to and by what this one does.
-use Rattle.meaning.proofs.Kit.{true, false, Bool, not, ◌≤◌, arith, needs}
+use Rattle.meaning.proofs.Kit.{true, false, Bool, not, ◌≤◌, arith, rules}
 use mir.Val.{bool_byte}
 use Rattle.dimacs.proofs.Judging.{with_refused, with_fault, with_done}
 use Rattle.dimacs.proofs.survey.with_clause.Statement.{statement}
@@ -32,7 +32,7 @@ returns_3 c =
 
 pub with_clause_spec : {M : Type 1} → statement M
 with_clause_spec = tie.close (tie.spec
-    (λ c. search needs) (λ c. search needs) (λ c. omega arith) (λ c. omega arith) (λ c κs. omega arith) (λ c. search needs) (λ c. search needs)
+    (λ c. search rules) (λ c. search rules) (λ c. omega arith) (λ c. omega arith) (λ c κs. omega arith) (λ c. search rules) (λ c. search rules)
     (λ c. omega arith) (λ c. omega arith)
-    (λ c. let s = start (judged c) in omega (arith, s.pre.0, s.pre.1, one (not s.args.k.always)))
+    (λ c. let s = start (judged c) in omega (arith, s.requires.0, s.requires.1, one (not s.args.k.always)))
     (λ c. with_refused c.enum_told.given.1) returns_2 returns_3)

@@ -12,13 +12,13 @@ returns : tie.Need-returns
 returns c =
     let n = c.before.before in
     let s = start n.before in
-    minus_zero s.args.text.now s.args.at s.pre n.before.if1.true n.number-at.ensures c.if2.true
+    minus_zero s.args.text.now s.args.at s.requires n.before.if1.true n.number-at.ensures c.if2.true
 
 returns_2 : tie.Need-returns-2
 returns_2 c =
     let n = c.before.before in
     let s = start n.before in
-    minus_some s.args.text.now s.args.at s.pre n.before.if1.true n.number-at.ensures c.if2.false
+    minus_some s.args.text.now s.args.at s.requires n.before.if1.true n.number-at.ensures c.if2.false
 
 returns_3 : tie.Need-returns-3
 returns_3 c =

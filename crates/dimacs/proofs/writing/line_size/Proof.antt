@@ -30,7 +30,7 @@ loop_again : tie.Need-loop-preserved invariant_loop decreases_loop
 loop_again c =
     let l = (turn c).before in
     let next = spaced_size l.before.args.part.now l.loop.k (turn c).loop-test.true in
-    (omega arith, omega (arith, (measured c).0, l.loop.inv.1, next), omega (arith, (measured c).1, l.loop.inv.2))
+    (omega arith, omega (arith, (measured c).0, l.loop.invariant.1, next), omega (arith, (measured c).1, l.loop.invariant.2))
 
 returns : tie.Need-returns invariant_loop decreases_loop
 returns c =

@@ -1,5 +1,5 @@
 -- `writing::literal_size` meets its contract, by the sign.
-use Rattle.meaning.proofs.Kit.{◌≡◌, ap, ◌+◌, arith, length, needs}
+use Rattle.meaning.proofs.Kit.{◌≡◌, ap, ◌+◌, arith, length, rules}
 use Rattle.spelling.specs.Text.{literal}
 use Rattle.spelling.proofs.Pieces.{literal_most, literal_neg, literal_pos}
 use Rattle.dimacs.proofs.writing.literal_size.Statement.{statement}
@@ -22,5 +22,5 @@ returns_2 c =
 
 pub literal_size_spec : {M : Type 1} → statement M
 literal_size_spec = tie.close (tie.spec
-    (λ c. search needs) (λ c. search needs) (λ c. omega (arith, with_sign c, literal_most (start c.before).ranges.l))
+    (λ c. search rules) (λ c. search rules) (λ c. omega (arith, with_sign c, literal_most (start c.before).ranges.l))
     (λ c. omega (arith, with_sign c)) returns_2)

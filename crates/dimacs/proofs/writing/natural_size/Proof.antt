@@ -18,12 +18,12 @@ add_size c =
 
 loop_again : tie.Need-loop-preserved invariant_loop decreases_loop
 loop_again c =
-    let left = c.before.loop.left in
+    let left = c.before.loop.false in
     let split = ap length (natural_long left c.loop-test.true) in
     omega (arith, c.before.loop.invariant, split, length-append (natural (left / 10)) ((48 + left % 10) ∷ []))
 
 returns : tie.Need-returns invariant_loop decreases_loop
-returns c = omega (arith, c.before.loop.invariant, ap length (natural_short c.before.loop.left c.loop-test.false))
+returns c = omega (arith, c.before.loop.invariant, ap length (natural_short c.before.loop.false c.loop-test.false))
 
 pub natural_size_spec : {M : Type 1} → statement M
 natural_size_spec = tie.close (tie.spec invariant_loop decreases_loop (λ c. omega arith) add_size (λ c. omega arith) loop_again returns)

@@ -1,5 +1,5 @@
 -- `writing::put_counts` meets its contract: one piece after another.
-use Rattle.meaning.proofs.Kit.{◌≡◌, ◌∙◌, [], ◌∷◌, ◌++◌, ◌≤◌, ◌+◌, arith, length, length-set, needs}
+use Rattle.meaning.proofs.Kit.{◌≡◌, ◌∙◌, [], ◌∷◌, ◌++◌, ◌≤◌, ◌+◌, arith, length, length-set, rules}
 use Rattle.spelling.specs.Text.{natural}
 use Rattle.spelling.proofs.Pieces.{put_length, put_one, put_put}
 use Rattle.dimacs.specs.Form.{header_start}
@@ -60,7 +60,7 @@ returns c =
 
 pub put_counts_spec : {M : Type 1} → statement M
 put_counts_spec = tie.close (tie.spec
-    (λ c. search needs) (λ c κs. omega (arith, room c.before.before.before)) put_natural_requires
+    (λ c. search rules) (λ c κs. omega (arith, room c.before.before.before)) put_natural_requires
     (λ c. omega (arith, (second c.before.before).0, (second c.before.before).1)) (λ c. omega (arith, (second c.before.before.before).0))
     put_natural_requires_2 (λ c. omega (arith, (third c.before.before).0, (third c.before.before).1))
     (λ c. omega (arith, (third c.before.before).0)) (λ c. simp length-set (third c.before.before).1) returns)

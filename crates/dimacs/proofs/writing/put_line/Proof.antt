@@ -54,8 +54,8 @@ loop_again c =
     let p = c.before.before in
     let t = turn p in
     let l = t.before in
-    let same = put_length (put p) ∙ l.loop.inv.1 in
-    (omega arith, simp length-set same, spaced_put (start l).args.part.now l.loop.k t.loop-test.taken l.loop.inv.2 (put p))
+    let same = put_length (put p) ∙ l.loop.invariant.1 in
+    (omega arith, simp length-set same, spaced_put (start l).args.part.now l.loop.k t.loop-test.true l.loop.invariant.2 (put p))
 
 -- all literals are written
 all_put : (c : tie.After-loop invariant_loop decreases_loop) → let l = c.before in let a = (start l).args in
@@ -68,7 +68,7 @@ all_put c =
 end : (c : tie.After-loop invariant_loop decreases_loop) → c.before.loop.next + 2 ≤ length c.before.loop.out
 end c =
     let s = start c.before in
-    omega (arith, s.pre, line_size s.args.part.now, (all_put c).ends, c.before.loop.invariant.1)
+    omega (arith, s.requires, line_size s.args.part.now, (all_put c).ends, c.before.loop.invariant.1)
 
 pub put_line_spec : {M : Type 1} → statement M
 put_line_spec = tie.close (tie.spec

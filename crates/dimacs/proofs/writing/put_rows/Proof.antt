@@ -23,7 +23,7 @@ put_row_requires c κs =
     let l = c.before.before in
     let s = start l in
     let room = lines_room s.args.table.now l.loop.row s.args.used c.before.loop-test.true in
-    ((omega arith, omega arith), omega (arith, s.pre.1, room, l.loop.invariant.2.ends, l.loop.invariant.1))
+    ((omega arith, omega arith), omega (arith, s.requires.1, room, l.loop.invariant.2.ends, l.loop.invariant.1))
 
 loop_again : tie.Need-loop-preserved invariant_loop decreases_loop
 loop_again c =

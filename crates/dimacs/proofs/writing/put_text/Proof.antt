@@ -22,7 +22,7 @@ put_rows_requires c κs =
     let h = c.before.before.before in
     let s = start h in
     let put = h.put-counts.ensures in
-    (s.pre.0, omega (arith, s.pre.1, size s, put.ends, put_length put))
+    (s.requires.0, omega (arith, s.requires.1, size s, put.ends, put_length put))
 
 same_length : tie.Need-same-length
 same_length c =

@@ -1,5 +1,5 @@
 -- `writing::text_size` meets its contract. The invariant: the header, and the lines of the rows so far.
-use Rattle.meaning.proofs.Kit.{◌≡◌, ap, ◌≤◌, ◌-◌, ◌+◌, ◌*◌, arith, length, needs}
+use Rattle.meaning.proofs.Kit.{◌≡◌, ap, ◌≤◌, ◌-◌, ◌+◌, ◌*◌, arith, length, rules}
 use Rattle.spelling.proofs.Pieces.{natural_most}
 use Rattle.dimacs.specs.Writing.{clauses_at, counts_line, clause_lines}
 use Rattle.dimacs.proofs.TextLines.{counts_size, lines_none, lines_size, text_size}
@@ -54,6 +54,6 @@ returns c =
 
 pub text_size_spec : {M : Type 1} → statement M
 text_size_spec = tie.close (tie.spec
-    invariant_loop decreases_loop (λ c. search needs) (λ c. omega (arith, symbols_few c)) (λ c. search needs)
+    invariant_loop decreases_loop (λ c. search rules) (λ c. omega (arith, symbols_few c)) (λ c. search rules)
     (λ c. omega (arith, symbols_few c.before, used_few c)) loop_holds (λ c κs. omega arith)
     (λ c. omega (arith, c.before.before.loop.invariant.2, c.row-size.ensures.1)) (λ c. omega arith) (λ c. omega arith) loop_again returns)

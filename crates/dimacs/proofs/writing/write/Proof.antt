@@ -1,5 +1,5 @@
 -- `writing::write` meets its contract: its tests are the faults of `write_faults`, in their order, and what it puts is the text.
-use Rattle.meaning.proofs.Kit.{◌≡◌, ◌∙◌, sym, true, ◌≤◌, length, needs, not-false, not-true, le-leb, leb-true}
+use Rattle.meaning.proofs.Kit.{◌≡◌, ◌∙◌, sym, true, ◌≤◌, length, rules, not-false, not-true, le-leb, leb-true}
 use Rattle.literals.specs.declared.refusal.Refusal.TheVariants.{BadBoard, TableTooShort}
 use Rattle.board.specs.Faults.{good_board}
 use Rattle.board.proofs.Goodness.{Good, good_is}
@@ -61,5 +61,5 @@ returns_3 c =
 
 pub write_spec : {M : Type 1} → statement M
 write_spec = tie.close (tie.spec
-    (λ c κs. search needs) (λ c κs. search needs) returns fits_requires (λ c κs. search needs) returns_2 put_text_requires
+    (λ c κs. search rules) (λ c κs. search rules) returns fits_requires (λ c κs. search rules) returns_2 put_text_requires
     (λ c. put_length c.before.before.put-text.ensures) returns_3)

@@ -1,5 +1,5 @@
 -- `each` is safe and ends: the text that it cuts out is in the list.
-use Rattle.meaning.proofs.Kit.{⊎_elim, ◌≤◌, ◌-◌, arith, length, needs}
+use Rattle.meaning.proofs.Kit.{⊎_elim, ◌≤◌, ◌-◌, arith, length, rules}
 use Rattle.drill_dimacs.proofs.tries.each.Statement.{statement}
 use Rattle.drill_dimacs.proofs.tries.each.Tie as tie
 
@@ -11,6 +11,6 @@ decreases_loop b lent list start₀ k₀ start k = length list - k
 
 pub each_spec : {M : Type 1} → statement M
 each_spec = tie.close (tie.spec
-    invariant_loop decreases_loop (λ c. search needs) (λ c. search needs) (λ c. search needs) (λ c. search needs) (λ c. search needs) (λ c κs. search needs)
-    (λ c. search needs) (λ c. search needs) (λ c. search needs) (λ c. ⊎_elim (λ w. omega arith) (λ w. omega arith) c.if1.branch)
-    (λ c. search needs))
+    invariant_loop decreases_loop (λ c. search rules) (λ c. search rules) (λ c. search rules) (λ c. search rules) (λ c. search rules) (λ c κs. search rules)
+    (λ c. search rules) (λ c. search rules) (λ c. search rules) (λ c. ⊎_elim (λ w. omega arith) (λ w. omega arith) c.if1.branch)
+    (λ c. search rules))

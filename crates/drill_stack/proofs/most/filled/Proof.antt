@@ -1,5 +1,5 @@
 -- `filled` is safe and ends: it pushes the literal of each of the 400 places.
-use Rattle.meaning.proofs.Kit.{◌≤◌, ◌-◌, needs}
+use Rattle.meaning.proofs.Kit.{◌≤◌, ◌-◌, rules}
 use Rattle.drill_stack.proofs.most.filled.Statement.{statement}
 use Rattle.drill_stack.proofs.most.filled.Tie as tie
 
@@ -11,5 +11,5 @@ decreases_loop furnace table board₀ stacks₀ p₀ board stacks p = 400 - p
 
 pub filled_spec : {M : Type 1} → statement M
 filled_spec = tie.close (tie.spec
-    invariant_loop decreases_loop (λ c κs. search needs) (λ c κs. search needs) (λ c κs. search needs) (λ c. search needs) (λ c. search needs)
-    (λ c κs. search needs) (λ c κs. search needs) (λ c. search needs) (λ c. search needs) (λ c. search needs) (λ c. search needs))
+    invariant_loop decreases_loop (λ c κs. search rules) (λ c κs. search rules) (λ c κs. search rules) (λ c. search rules) (λ c. search rules)
+    (λ c κs. search rules) (λ c κs. search rules) (λ c. search rules) (λ c. search rules) (λ c. search rules) (λ c. search rules))

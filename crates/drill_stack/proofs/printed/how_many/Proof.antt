@@ -1,5 +1,5 @@
 -- `how_many` is safe and ends: it counts no more flags than it has passed.
-use Rattle.meaning.proofs.Kit.{⊎_elim, ◌≤◌, ◌-◌, arith, length, needs}
+use Rattle.meaning.proofs.Kit.{⊎_elim, ◌≤◌, ◌-◌, arith, length, rules}
 use Rattle.drill_stack.proofs.printed.how_many.Statement.{statement}
 use Rattle.drill_stack.proofs.printed.how_many.Tie as tie
 
@@ -14,5 +14,5 @@ loop_again c = ⊎_elim (λ w. omega arith) (λ w. omega arith) c.if1.branch
 
 pub how_many_spec : {M : Type 1} → statement M
 how_many_spec = tie.close (tie.spec
-    invariant_loop decreases_loop (λ c. search needs) (λ c. search needs) (λ c. search needs) (λ c. search needs) (λ c. search needs) loop_again
-    (λ c. search needs))
+    invariant_loop decreases_loop (λ c. search rules) (λ c. search rules) (λ c. search rules) (λ c. search rules) (λ c. search rules) loop_again
+    (λ c. search rules))

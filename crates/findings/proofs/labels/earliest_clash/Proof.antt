@@ -1,5 +1,5 @@
 -- `findings::labels::earliest_clash` meets its contract. The invariant: what is found among the first s symbols, and its larger rank.
-use Rattle.meaning.proofs.Kit.{◌≡◌, ⊎_elim, ◌≤◌, ◌-◌, ◌/◌, arith, length, needs}
+use Rattle.meaning.proofs.Kit.{◌≡◌, ⊎_elim, ◌≤◌, ◌-◌, ◌/◌, arith, length, rules}
 use Rattle.findings.specs.Ranks.{larger_in, earliest_in}
 use Rattle.findings.proofs.Clashes.{Found, found_none, found_more, found_kept}
 use Rattle.findings.proofs.labels.earliest_clash.Statement.{statement}
@@ -24,12 +24,12 @@ loop_again : tie.Need-loop-preserved invariant_loop decreases_loop
 loop_again c =
     let a = c.before in
     let l = at a in
-    let before = l.loop.inv.1 in
-    let few = l.before.before.pre in (
+    let before = l.loop.invariant.1 in
+    let few = l.before.before.requires in (
       omega arith,
       ⊎_elim
-          (λ w. rw (w.1, w.2, here a) (found_more before (omega arith) (rw (here a) at w.0.taken)))
-          (λ w. rw (w.1, w.2) (found_kept before (rw (here a) at w.0.left)))
+          (λ w. rw (w.1, w.2, here a) (found_more before (omega arith) (rw (here a) at w.0.true)))
+          (λ w. rw (w.1, w.2) (found_kept before (rw (here a) at w.0.false)))
           c.if1.branch,
     )
 
@@ -42,5 +42,5 @@ returns c =
 
 pub earliest_clash_spec : {M : Type 1} → statement M
 earliest_clash_spec = tie.close (tie.spec
-    invariant_loop decreases_loop (λ c. omega arith) (λ c. (search needs, found_none _)) (λ c. omega arith) (λ c. omega arith) (λ c. omega arith) (λ c. omega arith)
-    (λ c. omega arith) (λ c. omega arith) (λ c. omega arith) (λ c κs. search needs) (λ c. omega arith) (λ c. omega arith) loop_again returns)
+    invariant_loop decreases_loop (λ c. omega arith) (λ c. (search rules, found_none _)) (λ c. omega arith) (λ c. omega arith) (λ c. omega arith) (λ c. omega arith)
+    (λ c. omega arith) (λ c. omega arith) (λ c. omega arith) (λ c κs. search rules) (λ c. omega arith) (λ c. omega arith) loop_again returns)

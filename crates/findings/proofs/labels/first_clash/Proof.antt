@@ -1,5 +1,5 @@
 -- `findings::labels::first_clash` meets its contract. The invariant: none of the first s symbols clashes.
-use Rattle.meaning.proofs.Kit.{◌≡◌, ⊎_elim, inl, inr, false, ◌≤◌, ℕ, ◌<◌, ◌-◌, ◌/◌, arith, length, needs, lt-ltb, le-ltb, below_none, below_more}
+use Rattle.meaning.proofs.Kit.{◌≡◌, ⊎_elim, inl, inr, false, ◌≤◌, ℕ, ◌<◌, ◌-◌, ◌/◌, arith, length, rules, lt-ltb, le-ltb, below_none, below_more}
 use Rattle.meaning.specs.Tests.{none}
 use Rattle.findings.specs.Ranks.{clash_in}
 use Rattle.findings.proofs.Clashes.{clash_yes, clash_no}
@@ -25,7 +25,7 @@ loop_again : tie.Need-loop-preserved invariant_loop decreases_loop
 loop_again c =
     let l = c.before.before.before in
     let ranks = l.before.args.ranks.now in
-    let here = clash_no ranks l.loop.s (⊎_elim (λ w. inr w.2.left) (λ w. inl (le-ltb _ none w.left)) c.if1.branch) in
+    let here = clash_no ranks l.loop.s (⊎_elim (λ w. inr w.2.false) (λ w. inl (le-ltb _ none w.false)) c.if1.branch) in
     (omega arith, below_more (λ i. clash_in ranks i ≡ false) l.loop.s l.loop.invariant.1 here)
 
 returns_2 : tie.Need-returns-2 invariant_loop decreases_loop
@@ -35,5 +35,5 @@ returns_2 c =
 
 pub first_clash_spec : {M : Type 1} → statement M
 first_clash_spec = tie.close (tie.spec
-    invariant_loop decreases_loop (λ c. (search needs, below_none _)) (λ c. omega arith) (λ c. omega arith) (λ c. omega arith) (λ c. omega arith) (λ c. omega arith)
+    invariant_loop decreases_loop (λ c. (search rules, below_none _)) (λ c. omega arith) (λ c. omega arith) (λ c. omega arith) (λ c. omega arith) (λ c. omega arith)
     (λ c. omega arith) (λ c. omega arith) returns (λ c. omega arith) (λ c. omega arith) loop_again (λ c. omega arith) returns_2)

@@ -1,5 +1,5 @@
 -- `findings::labels::write_labels` meets its contract. The loop's invariant: the symbols passed have their label. The measure is the symbols left.
-use Rattle.meaning.proofs.Kit.{◌∙◌, refl, ap₂, List, ◌≤◌, ℕ, ◌-◌, ◌+◌, ◌*◌, arith, ltb, length, get_or, needs}
+use Rattle.meaning.proofs.Kit.{◌∙◌, refl, ap₂, List, ◌≤◌, ℕ, ◌-◌, ◌+◌, ◌*◌, arith, ltb, length, get_or, rules}
 use Rattle.meaning.specs.Tests.{none}
 use Rattle.meaning.specs.Rounds.{label_of}
 use Rattle.findings.specs.Ranks.{labels_from}
@@ -27,7 +27,7 @@ loop_again c =
     let ranks = l.before.before.before.args.ranks.now in
     let same = ap₂ (λ a b. label_of (ltb a none) (ltb b none))
     (any_default ranks (2 * l.loop.s) 0 none (omega arith)) (any_default ranks (2 * l.loop.s + 1) 0 none (omega arith)) in
-    (omega arith, filled_put l.loop.inv.1 c.label.result (omega arith) (c.label.ensures ∙ same))
+    (omega arith, filled_put l.loop.invariant.1 c.label.result (omega arith) (c.label.ensures ∙ same))
 
 returns : tie.Need-returns invariant_loop decreases_loop
 unfolding labels_from
@@ -35,6 +35,6 @@ returns c = let l = c.before in filled_all l.loop.invariant.1 _ refl (omega arit
 
 pub write_labels_spec : {M : Type 1} → statement M
 write_labels_spec = tie.close (tie.spec
-    invariant_loop decreases_loop (λ c. (search needs, filled_none)) (λ c. omega arith) (λ c. omega arith) (λ c. omega arith) (λ c. omega arith) (λ c. omega arith)
-    (λ c. omega arith) (λ c. omega arith) (λ c κs. search needs) (λ c. omega arith) (λ c. omega arith) (λ c. omega arith) loop_again
+    invariant_loop decreases_loop (λ c. (search rules, filled_none)) (λ c. omega arith) (λ c. omega arith) (λ c. omega arith) (λ c. omega arith) (λ c. omega arith)
+    (λ c. omega arith) (λ c. omega arith) (λ c κs. search rules) (λ c. omega arith) (λ c. omega arith) (λ c. omega arith) loop_again
     (λ c. omega arith) returns)

@@ -48,19 +48,19 @@ row_below c some =
     let s = start n.before in
     let a = s.args in
     let is = c.support.ensures in
-    let low = support_row (rows_in a.rows a.table.now) a.ranks.now (place n) (few_rows s.pre.0) (λ e. some (is ∙ e)) in
+    let low = support_row (rows_in a.rows a.table.now) a.ranks.now (place n) (few_rows s.requires.0) (λ e. some (is ∙ e)) in
     omega (arith, is, low, length_rows a.rows a.table.now)
 
 support_requires : tie.Need-support-requires invariant_loop decreases_loop
 support_requires c κs =
     let n = c.before in
     let s = start n.before in
-    rw s.pre.1.1.0 (s.pre.0, (s.pre.1.0, place_below n))
+    rw s.requires.1.1.0 (s.requires.0, (s.requires.1.0, place_below n))
 
 cast_mark_others : tie.Need-overflow-cast-mark-others invariant_loop decreases_loop
 cast_mark_others c =
     let r = c.before in
-    omega (arith, row_below r c.if1.true, (start r.before.before.before).pre.0.2.rows)
+    omega (arith, row_below r c.if1.true, (start r.before.before.before).requires.0.2.rows)
 
 mark_others_requires : tie.Need-mark-others-requires invariant_loop decreases_loop
 mark_others_requires c κs =
@@ -69,7 +69,7 @@ mark_others_requires c κs =
     let l = r.before.before.before in
     let s = start l in
     let fit : Fit (length l.loop.marks) (r.support.result + 1) s.args.table.now =
-    rw l.loop.invariant.long (fit_row _ s.args.rows _ s.pre.0 r.support.result (row_below r t.if1.true)) in
+    rw l.loop.invariant.long (fit_row _ s.args.rows _ s.requires.0 r.support.result (row_below r t.if1.true)) in
     (fit, l.loop.invariant.room)
 
 loop_again : tie.Need-loop-preserved invariant_loop decreases_loop
@@ -85,22 +85,22 @@ loop_again c =
     (λ y. rw (y.8, y.9, y.10)
     (trail_more w h
     (y.3.ensures.0
-    ∙ rw (leads_by a.rows a.table.now a.ranks.now (place n) r.support.result r.support.ensures (row_below r y.0.taken)))
+    ∙ rw (leads_by a.rows a.table.now a.ranks.now (place n) r.support.result r.support.ensures (row_below r y.0.true)))
     y.3.ensures.1 y.3.kept.1.1.1.1.0))
     (λ y. rw (y.1, y.2, y.3)
     (trail_more w h
     (join_never l.loop.marks _
-    (leads_nowhere (rows_in a.rows a.table.now) a.ranks.now (place n) (few_rows s.pre.0) (sym r.support.ensures ∙ y.0.left)))
+    (leads_nowhere (rows_in a.rows a.table.now) a.ranks.now (place n) (few_rows s.requires.0) (sym r.support.ensures ∙ y.0.false)))
     (queued_none w.room.count) refl))
     c.if1.branch
 
 add_at : tie.Need-overflow-add-at invariant_loop decreases_loop
-add_at c = let n = c.before.before.before in omega (arith, (in_queue n).1, (start n.before).pre.1.1.1.0.few)
+add_at c = let n = c.before.before.before in omega (arith, (in_queue n).1, (start n.before).requires.1.1.1.0.few)
 
 pub follow_spec : {M : Type 1} → statement M
 follow_spec = tie.close (tie.spec
-    invariant_loop decreases_loop (λ c. let s = entry c in trail_none s.pre.1.1.1.0 s.pre.1.1.1.1)
-    (λ c. omega (arith, (in_queue c).1, (start c.before).pre.1.1.1.0.few)) (λ c. (in_queue c.before).0)
+    invariant_loop decreases_loop (λ c. let s = entry c in trail_none s.requires.1.1.1.0 s.requires.1.1.1.1)
+    (λ c. omega (arith, (in_queue c).1, (start c.before).requires.1.1.1.0.few)) (λ c. (in_queue c.before).0)
     (λ c. omega (arith, c.slice-known3.given c.before.before.loop.at)) support_requires cast_mark_others mark_others_requires add_at
     (λ c. omega (arith, (in_queue c.before.before.before).1)) loop_again (λ c. c.before.loop.invariant.long) (λ c. c.before.loop.invariant.same)
     (λ c. trail_all c.before.loop.invariant c.loop-test.false))

@@ -1,6 +1,6 @@
 -- `findings::reach::keep_held` meets its contract. The loop's invariant: of the places passed only the held premises are kept. The measure
 -- is the places left.
-use Rattle.meaning.proofs.Kit.{ap, refl, false, ◌&&◌, ◌≤◌, ◌-◌, arith, length, needs}
+use Rattle.meaning.proofs.Kit.{ap, refl, false, ◌&&◌, ◌≤◌, ◌-◌, arith, length, rules}
 use Rattle.meaning.specs.Literals.{has}
 use Rattle.findings.specs.Reach.{held_only}
 use Rattle.findings.proofs.Filling.{Filled, filled_none, filled_put, filled_ahead, filled_all}
@@ -25,5 +25,5 @@ returns c = let l = c.before in filled_all l.loop.invariant.1 _ refl (omega arit
 
 pub keep_held_spec : {M : Type 1} → statement M
 keep_held_spec = tie.close (tie.spec
-    invariant_loop decreases_loop (λ c. (search needs, filled_none)) (λ c. omega arith) (λ c. omega arith) (λ c. omega arith) (λ c. omega arith) (λ c. omega arith)
+    invariant_loop decreases_loop (λ c. (search rules, filled_none)) (λ c. omega arith) (λ c. omega arith) (λ c. omega arith) (λ c. omega arith) (λ c. omega arith)
     loop_again (λ c. omega arith) returns)

@@ -1,5 +1,5 @@
 -- `findings::reach::mark_literal` meets its contract.
-use Rattle.meaning.proofs.Kit.{refl, true, false, ◌<◌, arith, length, needs}
+use Rattle.meaning.proofs.Kit.{refl, true, false, ◌<◌, arith, length, rules}
 use Rattle.findings.proofs.Joining.{join_one, join_marked}
 use Rattle.findings.proofs.Queueing.{queued_none, queued_one, queued_free}
 use Rattle.findings.proofs.reach.mark_literal.Statement.{statement}
@@ -16,5 +16,5 @@ returns_2 c =
 
 pub mark_literal_spec : {M : Type 1} → statement M
 mark_literal_spec = tie.close (tie.spec
-    (λ c. search needs) (λ c. (join_marked _ _ c.if1.true, queued_none c.before.before.requires.1.count)) (λ c. search needs)
-    (λ c. search needs) (λ c. omega (arith, free c)) free (λ c. omega (arith, free c)) (λ c. search needs) (λ c. search needs) returns_2)
+    (λ c. search rules) (λ c. (join_marked _ _ c.if1.true, queued_none c.before.before.requires.1.count)) (λ c. search rules)
+    (λ c. search rules) (λ c. omega (arith, free c)) free (λ c. omega (arith, free c)) (λ c. search rules) (λ c. search rules) returns_2)

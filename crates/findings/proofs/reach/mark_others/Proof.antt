@@ -1,6 +1,6 @@
 -- `findings::reach::mark_others` meets its contract. The loop's invariant: with the opposites of what is left of the row the marks are as
 -- they are to be, and those marked are in the queue. The measure is what is left of the eight numbers.
-use Rattle.meaning.proofs.Kit.{◌≡◌, ⊎_elim, ◌≤◌, ◌-◌, arith, length, needs}
+use Rattle.meaning.proofs.Kit.{◌≡◌, ⊎_elim, ◌≤◌, ◌-◌, arith, length, rules}
 use Rattle.meaning.specs.Literals.{opp}
 use Rattle.literals.specs.Row.{most_literals, numbers_at, decode}
 use Rattle.literals.proofs.Scanning.{left, left_all, left_last, left_end, Here, Literal, literal, place_allowed, opposite_allowed}
@@ -26,7 +26,7 @@ at c = c.before.before.before.before
 -- the number that the loop reads, and the literal that it is
 here : (c : tie.After-l invariant_loop decreases_loop)
     → let l = c.before.before in let a = (start l).args in Here (length a.marks.now) a.table.now a.row l.loop.j
-here c = record { fit = (start c.before.before).pre.0; inside = c.before.loop-test.true; fits = record { sfits = c.l.given } }
+here c = record { fit = (start c.before.before).requires.0; inside = c.before.loop-test.true; fits = record { sfits = c.l.given } }
 
 read : (p : tie.After-place invariant_loop decreases_loop)
     → let a = (start (at p)).args in Literal (length a.marks.now) a.table.now a.row (at p).loop.j p.place.result
@@ -39,15 +39,15 @@ other o = opposite_is (read o.before.before.before) o.before.opposite.ensures o.
 loop_holds : tie.Need-loop-init invariant_loop decreases_loop
 loop_holds c =
     let s = c.before.before in
-    (search needs, rw (left_all s.args.table.now s.args.row) (crossed_none s.requires.1.count))
+    (search rules, rw (left_all s.args.table.now s.args.row) (crossed_none s.requires.1.count))
 
 mark_literal_requires : tie.Need-mark-literal-requires invariant_loop decreases_loop
 mark_literal_requires c κs =
     let o = c.before.before in
     let p = o.before.before.before in
     let l = at p in
-    let w = l.loop.inv.1 in
-    (omega (arith, other o, (read p).opposite, w.long), room_after (start l).pre.1 w.queued w.long w.same)
+    let w = l.loop.invariant.1 in
+    (omega (arith, other o, (read p).opposite, w.long), room_after (start l).requires.1 w.queued w.long w.same)
 
 loop_again : tie.Need-loop-preserved invariant_loop decreases_loop
 loop_again c =
@@ -58,8 +58,8 @@ loop_again c =
           (λ y. (let o : tie.After-place2 invariant_loop decreases_loop =
           record { before = record { before = record { before = p; if2 = y.0 }; opposite = y.1 }; place2 = y.2 } in
           rw (y.10, y.11, y.12)
-          (crossed_other w y.0.taken (other o) y.5.ensures.0 y.5.ensures.1 y.5.kept.1.1.0)))
-          (λ y. rw (y.1, y.2, y.3) (crossed_same w y.0.left))
+          (crossed_other w y.0.true (other o) y.5.ensures.0 y.5.ensures.1 y.5.kept.1.1.0)))
+          (λ y. rw (y.1, y.2, y.3) (crossed_same w y.0.false))
           c.if2.branch,
     )
 

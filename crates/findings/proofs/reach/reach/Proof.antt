@@ -1,5 +1,5 @@
 -- `findings::reach::reach` meets its contract. The queue is a part of an array, lent three times.
-use Rattle.meaning.proofs.Kit.{◌≡◌, ◌∙◌, sym, ap, subst, List, ◌++◌, ℕ, ◌<◌, arith, eqb, length, drop, take, replicate, needs}
+use Rattle.meaning.proofs.Kit.{◌≡◌, ◌∙◌, sym, ap, subst, List, ◌++◌, ℕ, ◌<◌, arith, eqb, length, drop, take, replicate, rules}
 use Rattle.meaning.specs.Tests.{none}
 use Rattle.literals.specs.Row.{rows_in, Fit}
 use Rattle.literals.proofs.Scanning.{few_places, few_rows}
@@ -61,9 +61,9 @@ follow_requires c κs =
     let w = begun_again (two o) (rest_2 o) in
     let m = o.mark-literal2.last.1.0 in
     let a = s.args in
-    let fit : Fit (length m) a.rows a.table.now = rw w.long s.pre.0 in
-    let index : Index (length m) a.rows a.table.now a.heads.now a.links.now = rw w.long s.pre.1.0 in
-    let one_each = ap length s.pre.1.1.1.0 ∙ length_ranks_of (places s) (rows s) a.held.now ∙ sym w.long in
+    let fit : Fit (length m) a.rows a.table.now = rw w.long s.requires.0 in
+    let index : Index (length m) a.rows a.table.now a.heads.now a.links.now = rw w.long s.requires.1.0 in
+    let one_each = ap length s.requires.1.1.1.0 ∙ length_ranks_of (places s) (rows s) a.held.now ∙ sym w.long in
     (fit, (index, (one_each, (w.room, rw w.long w.queued))))
 
 -- all that they lead to is marked
@@ -83,7 +83,7 @@ returns c =
     let o = led f in
     let s = start (second o).before in
     let a = s.args in
-    let p = s.pre in
+    let p = s.requires in
     let last = f.follow.last.1.1.1.1.1.0 in
     let followed = subst (λ l. Followed (rows s) l o.mark-literal2.last.1.0 last) p.1.1.1.0 f.follow.ensures in
     let first_one = (second o).mark-literal.ensures.0 ∙ ap (λ l. join l (eqb a.p)) p.1.1.1.1 in
@@ -94,7 +94,7 @@ returns c =
 
 pub reach_spec : {M : Type 1} → statement M
 reach_spec = tie.close (tie.spec
-    (λ c. search needs) (λ c. sym (none_yet (start c)).same) (λ c κs. let s = start c in (s.pre.1.1.0.1, (none_yet s).room))
+    (λ c. search rules) (λ c. sym (none_yet (start c)).same) (λ c κs. let s = start c in (s.requires.1.1.0.1, (none_yet s).room))
     (λ c. let o = one_lent c in begun_fits (one o) (rest o)) (λ c. let o = one_lent c.before in sym (begun_again (one o) (rest o)).same)
     mark_literal_requires_2 (λ c. let o = two_lent c in begun_fits (two o) (rest_2 o))
-    (λ c. let o = two_lent c.before in sym (begun_again (two o) (rest_2 o)).same) follow_requires keep_held_requires (λ c. search needs) returns)
+    (λ c. let o = two_lent c.before in sym (begun_again (two o) (rest_2 o)).same) follow_requires keep_held_requires (λ c. search rules) returns)

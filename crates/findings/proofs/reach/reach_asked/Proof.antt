@@ -1,5 +1,5 @@
 -- `findings::reach::reach_asked` meets its contract: it asks for one literal, for the two of a symbol, or for none.
-use Rattle.meaning.proofs.Kit.{◌≡◌, ◌∙◌, sym, ap, List, ℕ, ◌<◌, ◌/◌, arith, length, get_or, needs}
+use Rattle.meaning.proofs.Kit.{◌≡◌, ◌∙◌, sym, ap, List, ℕ, ◌<◌, ◌/◌, arith, length, get_or, rules}
 use Rattle.meaning.specs.Tests.{none}
 use Rattle.literals.specs.Row.{rows_in}
 use Rattle.literals.proofs.Scanning.{few_places, few_rows}
@@ -28,7 +28,7 @@ below : (c : tie.Then3) → c.before.earliest-clash.result < places (start c.bef
 below c =
     let f = c.before in
     let s = start f.before.before in
-    symbol_below (places s) (rows s) s.args.held.now (small s) s.pre.1.1.1.0 f.earliest-clash.ensures c.if3.true
+    symbol_below (places s) (rows s) s.args.held.now (small s) s.requires.1.1.1.0 f.earliest-clash.ensures c.if3.true
 
 -- there is a rank for each place
 long : (s : tie.Start) → length s.args.ranks.now ≡ places s
@@ -38,9 +38,9 @@ returns : tie.Need-returns
 returns c =
     let t = c.before.before in
     let s = start t.before in
-    let none-there = ap (λ l. get_or l s.args.p 0) (sym s.pre.1.1.1.0) ∙ c.if2.true in
-    s.pre.1.1.1.1
-    ∙ asked_unranked (places s) (rows s) s.args.held.now (small s) (few_rows s.pre.0) t.if1.true none-there
+    let none-there = ap (λ l. get_or l s.args.p 0) (sym s.requires.1.1.1.0) ∙ c.if2.true in
+    s.requires.1.1.1.1
+    ∙ asked_unranked (places s) (rows s) s.args.held.now (small s) (few_rows s.requires.0) t.if1.true none-there
 
 reach_requires : tie.Need-reach-requires
 reach_requires c κs =
@@ -53,7 +53,7 @@ returns_2 c =
     let r = c.before.before in
     let t = asked r in
     let s = start t.before in
-    r.reach.ensures ∙ asked_literal (places s) (rows s) s.args.held.now t.if1.taken
+    r.reach.ensures ∙ asked_literal (places s) (rows s) s.args.held.now t.if1.true
 
 mul_reach : tie.Need-overflow-mul-reach
 mul_reach c = omega (arith, below c, small (start c.before.before.before))
@@ -71,19 +71,19 @@ returns_3 c =
     let f = t.before in
     let s = start f.before.before in
     r.reach2.ensures
-    ∙ asked_symbol (places s) (rows s) s.args.held.now (small s) s.pre.1.1.1.0 f.earliest-clash.ensures
+    ∙ asked_symbol (places s) (rows s) s.args.held.now (small s) s.requires.1.1.1.0 f.earliest-clash.ensures
     f.before.if1.false t.if3.true
 
 returns_4 : tie.Need-returns-4
 returns_4 c =
     let f = c.before in
     let s = start f.before.before in
-    s.pre.1.1.1.1
-    ∙ asked_nothing (places s) (rows s) s.args.held.now (small s) s.pre.1.1.1.0 f.earliest-clash.ensures
+    s.requires.1.1.1.1
+    ∙ asked_nothing (places s) (rows s) s.args.held.now (small s) s.requires.1.1.1.0 f.earliest-clash.ensures
     f.before.if1.false c.if3.false
 
 pub reach_asked_spec : {M : Type 1} → statement M
 reach_asked_spec = tie.close (tie.spec
-    (λ c. omega arith) (λ c. omega (arith, c.before.if1.true, long (start c.before.before))) returns reach_requires (λ c. search needs)
-    returns_2 (λ c κs. let s = start c.before in omega (arith, small s, long s)) (λ c. search needs) mul_reach mul_reach
-    (λ c. omega (arith, below c, small (start c.before.before.before))) reach_requires_2 (λ c. search needs) returns_3 returns_4)
+    (λ c. omega arith) (λ c. omega (arith, c.before.if1.true, long (start c.before.before))) returns reach_requires (λ c. search rules)
+    returns_2 (λ c κs. let s = start c.before in omega (arith, small s, long s)) (λ c. search rules) mul_reach mul_reach
+    (λ c. omega (arith, below c, small (start c.before.before.before))) reach_requires_2 (λ c. search rules) returns_3 returns_4)

@@ -1,5 +1,5 @@
 -- `findings::supports::clear` meets its contract. The loop's invariant: the places passed have none. The measure is the places left.
-use Rattle.meaning.proofs.Kit.{refl, ◌≤◌, ◌-◌, arith, length, needs}
+use Rattle.meaning.proofs.Kit.{refl, ◌≤◌, ◌-◌, arith, length, rules}
 use Rattle.meaning.specs.Tests.{none}
 use Rattle.findings.proofs.Filling.{Filled, filled_none, filled_put, filled_all}
 use Rattle.findings.proofs.supports.clear.Statement.{statement}
@@ -16,5 +16,5 @@ loop_again c = let l = c.before in (omega arith, filled_put l.loop.invariant.1 n
 
 pub clear_spec : {M : Type 1} → statement M
 clear_spec = tie.close (tie.spec
-    invariant_loop decreases_loop (λ c. (search needs, filled_none)) (λ c. omega arith) (λ c. omega arith) (λ c. omega arith) (λ c. omega arith) loop_again
+    invariant_loop decreases_loop (λ c. (search rules, filled_none)) (λ c. omega arith) (λ c. omega arith) (λ c. omega arith) (λ c. omega arith) loop_again
     (λ c. omega arith) (λ c. let l = c.before in filled_all l.loop.invariant.1 _ refl (omega arith)))

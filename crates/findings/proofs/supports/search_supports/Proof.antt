@@ -25,17 +25,17 @@ abbrev start : tie.At-loop invariant_loop decreases_loop → tie.Start invariant
 start c = c.before.before.before.before.before.before
 
 loop_holds : tie.Need-loop-init invariant_loop decreases_loop
-loop_holds c = let s = entry c in (omega arith, searched_none s.args.supports.now s.pre.1.1.1.1.1)
+loop_holds c = let s = entry c in (omega arith, searched_none s.args.supports.now s.requires.1.1.1.1.1)
 
 shared_slice_read_p : tie.Need-shared-slice-read-p invariant_loop decreases_loop
-shared_slice_read_p c = let n = c.before in omega (arith, n.loop-test.true, (start n.before).pre.1.1.1.1.0)
+shared_slice_read_p c = let n = c.before in omega (arith, n.loop-test.true, (start n.before).requires.1.1.1.1.0)
 
 support_requires : tie.Need-support-requires invariant_loop decreases_loop
 support_requires c κs =
     let n = c.before.before.before in
     let l = n.before in
     let s = start l in
-    (s.pre.0, (s.pre.1.0, s.pre.1.1.1.0.inside l.loop.at n.loop-test.true))
+    (s.requires.0, (s.requires.1.0, s.requires.1.1.1.0.inside l.loop.at n.loop-test.true))
 
 -- the place is one of those that are lent
 inside : (t : tie.Then2 invariant_loop decreases_loop) → let l = at t in let a = (start l).args in
@@ -49,8 +49,8 @@ loop_again c =
     let w = l.loop.invariant.1 in (
       omega (arith, n.loop-test.true),
       ⊎_elim
-          (λ y. rw y.3 (searched_put w y.2.result y.0.taken (ltb-true _ _ y.1.taken) y.2.ensures))
-          (λ y. rw y.1 (searched_left w (⊎_elim (λ z. inr (ltb-false _ _ z.1.left)) (λ z. inl (omega (arith, z.left))) y.0.came)))
+          (λ y. rw y.3 (searched_put w y.2.result y.0.true (ltb-true _ _ y.1.true) y.2.ensures))
+          (λ y. rw y.1 (searched_left w (⊎_elim (λ z. inr (ltb-false _ _ z.1.false)) (λ z. inl (omega (arith, z.false))) y.0.branch)))
           c.if1.branch,
     )
 
@@ -61,7 +61,7 @@ returns c =
     let a = s.args in
     let done : l.loop.at ≡ a.end = omega (arith, c.loop-test.false, l.loop.invariant.0) in
     searched_all (rows_in a.rows a.table.now) l.loop.invariant.1
-    (subst (λ e. AllQueued a.ranks.now a.queue.now e) (sym done) s.pre.1.1.1.0) s.pre.1.1.0
+    (subst (λ e. AllQueued a.ranks.now a.queue.now e) (sym done) s.requires.1.1.1.0) s.requires.1.1.0
 
 pub search_supports_spec : {M : Type 1} → statement M
 search_supports_spec = tie.close (tie.spec

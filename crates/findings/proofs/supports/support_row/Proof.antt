@@ -1,7 +1,7 @@
 -- `findings::supports::support_row` meets its contract. The outer loop's invariant: of the rows before the cell, those that contain p do not give
 -- it. The inner loop's: the row in hand gives p exactly if what is left of it says so. The measures are what is left of the cells' numbers,
 -- which rise along the list, and the numbers left of the row.
-use Rattle.meaning.proofs.Kit.{◌≡◌, ⊎_elim, true, ◌≤◌, ◌<◌, ◌-◌, ◌+◌, ◌*◌, ◌/◌, arith, length, get_or, needs, leb-true, leb-false}
+use Rattle.meaning.proofs.Kit.{◌≡◌, ⊎_elim, true, ◌≤◌, ◌<◌, ◌-◌, ◌+◌, ◌*◌, ◌/◌, arith, length, get_or, rules, leb-true, leb-false}
 use Rattle.meaning.specs.Tests.{none}
 use Rattle.meaning.specs.Literals.{opp}
 use Rattle.meaning.specs.Rounds.{gives}
@@ -52,7 +52,7 @@ fit : (e : tie.Else1 invariant_loop decreases_loop invariant_rows decreases_rows
 fit e =
     let o = e.before in
     let s = start o in
-    fit_row _ s.args.rows _ s.pre.0 (o.rows.cell / 8) (along_row s.pre.0 s.pre.1.0 o.rows.invariant (inside e))
+    fit_row _ s.args.rows _ s.requires.0 (o.rows.cell / 8) (along_row s.requires.0 s.requires.1.0 o.rows.invariant (inside e))
 
 -- the numbers rise along the list
 rises : (e : tie.Else1 invariant_loop decreases_loop invariant_rows decreases_rows)
@@ -60,13 +60,13 @@ rises : (e : tie.Else1 invariant_loop decreases_loop invariant_rows decreases_ro
 rises e =
     let o = e.before in
     let s = start o in
-    omega (arith, along_rises s.pre.0 s.pre.1.0 o.rows.invariant (inside e), inside e, s.pre.0.2.rows)
+    omega (arith, along_rises s.requires.0 s.requires.1.0 o.rows.invariant (inside e), inside e, s.requires.0.2.rows)
 
 linked : (e : tie.Else1 invariant_loop decreases_loop invariant_rows decreases_rows) → let o = e.before in o.rows.cell < length (start o).args.links.now
 linked e =
     let o = e.before in
     let s = start o in
-    along_linked s.pre.0 s.pre.1.0 o.rows.invariant (inside e)
+    along_linked s.requires.0 s.requires.1.0 o.rows.invariant (inside e)
 
 abbrev at : tie.After-place invariant_loop decreases_loop invariant_rows decreases_rows → tie.At-loop invariant_loop decreases_loop invariant_rows decreases_rows
 at c = c.before.before.before.before
@@ -95,8 +95,8 @@ row_gives : (c : tie.Left-loop invariant_loop decreases_loop invariant_rows decr
 row_gives c =
     let l = c.before in
     let end =
-    ⊎_elim (λ w. left_last _ (fit (held l)) l.loop.j w.left)
-    (λ w. left_end (here (record { before = record { before = l; loop-test = w.0 }; l = w.1 })) w.2.taken)
+    ⊎_elim (λ w. left_last _ (fit (held l)) l.loop.j w.false)
+    (λ w. left_end (here (record { before = record { before = l; loop-test = w.0 }; l = w.1 })) w.2.true)
     c.loop-test.branch in
     seen_all (rw end at l.loop.invariant.1)
 
@@ -105,8 +105,8 @@ loop_holds c =
     let e = c.before in
     let o = e.before in
     let s = start o in
-    let contains = along_contains s.pre.0 s.pre.1.0 o.rows.invariant (inside e) in
-    (search needs, rw (left_all s.args.table.now (o.rows.cell / 8)) (seen_none contains))
+    let contains = along_contains s.requires.0 s.requires.1.0 o.rows.invariant (inside e) in
+    (search rules, rw (left_all s.args.table.now (o.rows.cell / 8)) (seen_none contains))
 
 rows_again : tie.Need-rows-preserved invariant_loop decreases_loop invariant_rows decreases_rows
 rows_again c =
@@ -117,7 +117,7 @@ rows_again c =
     let s = start e.before in
     let a = s.args in
     let no = known_no a.ranks.now a.k (read p) (other o) (leb-true _ _ c.if4.true) in
-    missed_more _ s.pre.0 s.pre.1.0 e.before.rows.inv (inside e)
+    missed_more _ s.requires.0 s.requires.1.0 e.before.rows.invariant (inside e)
     (seen_fails (rw (read p).first at (at p).loop.invariant.1) t.if3.true no)
 
 loop_again : tie.Need-loop-preserved invariant_loop decreases_loop invariant_rows decreases_rows
@@ -129,27 +129,27 @@ loop_again c =
       ⊎_elim
           (λ y. (let o : tie.After-place2 invariant_loop decreases_loop invariant_rows decreases_rows =
           record { before = record { before = record { before = p; if3 = y.0 }; opposite = y.1 }; place2 = y.2 } in
-          seen_other w y.0.taken (known_yes a.ranks.now a.k (read p) (other o) (leb-false _ _ y.4.left))))
-          (λ y. seen_same w y.left)
+          seen_other w y.0.true (known_yes a.ranks.now a.k (read p) (other o) (leb-false _ _ y.4.false))))
+          (λ y. seen_same w y.false)
           c.if3.branch,
     )
 
 returns : tie.Need-returns invariant_loop decreases_loop invariant_rows decreases_rows
-returns c = let o = c.before in let s = start o in missed_all _ s.pre.0 s.pre.1.0 o.rows.invariant c.if1.true
+returns c = let o = c.before in let s = start o in missed_all _ s.requires.0 s.requires.1.0 o.rows.invariant c.if1.true
 
 returns_2 : tie.Need-returns-2 invariant_loop decreases_loop invariant_rows decreases_rows
 returns_2 c =
     let e = held c.before in
     let o = e.before in
     let s = start o in
-    missed_found _ s.pre.0 s.pre.1.0 o.rows.inv (inside e) (row_gives c)
+    missed_found _ s.requires.0 s.requires.1.0 o.rows.invariant (inside e) (row_gives c)
 
 pub support_row_spec : {M : Type 1} → statement M
 support_row_spec = tie.close (tie.spec
     invariant_loop decreases_loop invariant_rows decreases_rows (λ c. omega arith) (λ c. omega arith)
-    (λ c. let s = entry c in omega (arith, heads_long s.pre.1.0, s.pre.1.1))
+    (λ c. let s = entry c in omega (arith, heads_long s.requires.1.0, s.requires.1.1))
     (λ c. omega (arith, c.shared-slice-known4.given (entry c).args.p))
-    (λ c. let s = entry c in along_head s.pre.0 s.pre.1.0 s.pre.1.1) (λ c. omega arith) (λ c. linked c.before)
+    (λ c. let s = entry c in along_head s.requires.0 s.requires.1.0 s.requires.1.1) (λ c. omega arith) (λ c. linked c.before)
     (λ c. omega (arith, c.shared-slice-known5.given c.before.before.rows.cell)) (λ c. omega arith) loop_holds (λ c. omega arith)
     (λ c. omega arith) (λ c. omega arith) (λ c κs. place_allowed (here c.before) c.if2.false) (λ c κs. opposite_allowed (read c.before))
     (λ c κs. opposite_place_allowed (read c.before.before) c.opposite.ensures) (λ c. omega (arith, other_below c))

@@ -1,5 +1,5 @@
 -- `findings::supports::write_supports` meets its contract: the supports are cleared, and those of the queue's places are searched.
-use Rattle.meaning.proofs.Kit.{◌≡◌, ◌∙◌, sym, ap, ◌+◌, arith, length, needs}
+use Rattle.meaning.proofs.Kit.{◌≡◌, ◌∙◌, sym, ap, ◌+◌, arith, length, rules}
 use Rattle.meaning.specs.Tests.{tabulate, none}
 use Rattle.findings.specs.Ranks.{support_from}
 use Rattle.literals.specs.Row.{rows_in}
@@ -31,4 +31,4 @@ returns c =
     f.search-supports.ensures ∙ ap (λ n. tabulate n (λ i. support_from (rows_in a.rows a.table.now) a.ranks.now (a.from + i))) (same k)
 
 pub write_supports_spec : {M : Type 1} → statement M
-write_supports_spec = tie.close (tie.spec (λ c κs. search needs) search_supports_requires (λ c. search needs) returns)
+write_supports_spec = tie.close (tie.spec (λ c κs. search rules) search_supports_requires (λ c. search rules) returns)

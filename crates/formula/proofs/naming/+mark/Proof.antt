@@ -1,5 +1,5 @@
 -- `naming::mark` meets its contract. The measure is the depth left.
-use Rattle.meaning.proofs.Kit.{◌≡◌, ◌∙◌, sym, ◌≤◌, ℕ, ◌<◌, ◌-◌, ◌+◌, arith, length, needs}
+use Rattle.meaning.proofs.Kit.{◌≡◌, ◌∙◌, sym, ◌≤◌, ℕ, ◌<◌, ◌-◌, ◌+◌, arith, length, rules}
 use borrow.Fn.Kinds.{In, Out}
 use borrow.Fn.PlainCycle.{Measures, is, falls, and}
 use Rattle.formula.proofs.Words.{Kind, Symbol, Not, Two}
@@ -40,7 +40,7 @@ module _ (t : ℕ) where
   WalkAt k kind = Walk (start k).args.depth (start k).args.bytes.now kind
 
   walk : (k : Here lts.After-kind-of) {kind : Kind} → k.kind-of.result ≡ kind → WalkAt k kind
-  walk k e = record { well = (start k).pre.1; says = sym k.kind-of.ensures ∙ e }
+  walk k e = record { well = (start k).requires.1; says = sym k.kind-of.ensures ∙ e }
 
   symbol : (c : Here lts.After-enum-told) → WalkAt c.before.before Symbol
   symbol c = walk c.before.before c.enum_told.given.1
@@ -59,7 +59,7 @@ module _ (t : ℕ) where
   first_used : (f : Here lts.After-mark2) → 1 + f.mark2.result ≤ length (begun f).args.bytes.now
   first_used f = first_within (join f.before.before) f.mark2.ensures.0
 
-  -- ---- the needs
+  -- ---- the rules
 
   shared_slice_read_symbol : Here lts.Need-shared-slice-read-symbol
   shared_slice_read_symbol c = number_there (symbol c.before)
@@ -109,8 +109,8 @@ module _ (t : ℕ) where
 
 pub +mark_spec : {M : Type 1} → statement M
 +mark_spec = close μ λ t. lts.spec (calls t) (at t) mark.Post
-    (λ c. omega (arith, long)) (λ c. omega (arith, long)) (λ c. search needs) (λ c. omega (arith, long)) (λ c κs. tt) (λ c. search needs)
+    (λ c. omega (arith, long)) (λ c. omega (arith, long)) (λ c. search rules) (λ c. omega (arith, long)) (λ c κs. tt) (λ c. search rules)
     (shared_slice_read_symbol t) (λ c. omega (arith, c.shared-slice-known3.given 0)) (λ c. omega (arith, c.shared-slice-known3.given 0))
-    (λ c. search needs) (λ c. omega (arith, deep)) (mark_requires t) (add_result t) (λ c. search needs) (λ c. omega (arith, deep)) (mark_requires_2 t)
-    (sub_mark_3 t) (sub_mark_3 t) (λ c. search needs) (λ c. omega (arith, deep)) (mark_requires_3 t) (add_result_2 t) (add_result_3 t)
-    (λ c. search needs) (returns t) (returns_2 t) (returns_3 t) (returns_4 t)
+    (λ c. search rules) (λ c. omega (arith, deep)) (mark_requires t) (add_result t) (λ c. search rules) (λ c. omega (arith, deep)) (mark_requires_2 t)
+    (sub_mark_3 t) (sub_mark_3 t) (λ c. search rules) (λ c. omega (arith, deep)) (mark_requires_3 t) (add_result_2 t) (add_result_3 t)
+    (λ c. search rules) (returns t) (returns_2 t) (returns_3 t) (returns_4 t)

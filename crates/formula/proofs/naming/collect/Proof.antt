@@ -33,8 +33,8 @@ loop_again_2 c =
     let g = (at c.before).loop.invariant in
     let t = c.before.before in
     ⊎_elim
-    (λ w. rw (w.2, w.3) (gathered_more g t.before.before.loop-test.true w.0.taken (omega (arith, g.few, w.1.left))))
-    (λ w. rw (w.1, w.2) (gathered_past g 1 (λ i h. (let first : i ≡ 0 = omega arith in rw (first, add-zero) w.0.left))))
+    (λ w. rw (w.2, w.3) (gathered_more g t.before.before.loop-test.true w.0.true (omega (arith, g.few, w.1.false))))
+    (λ w. rw (w.1, w.2) (gathered_past g 1 (λ i h. (let first : i ≡ 0 = omega arith in rw (first, add-zero) w.0.false))))
     c.if2.branch
 
 pub collect_spec : {M : Type 1} → statement M

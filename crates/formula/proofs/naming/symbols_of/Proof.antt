@@ -1,5 +1,5 @@
 -- `naming::symbols_of` meets its contract: what is collected from the marks is what stands in the formula.
-use Rattle.meaning.proofs.Kit.{◌∙◌, sym, ap, needs}
+use Rattle.meaning.proofs.Kit.{◌∙◌, sym, ap, rules}
 use Rattle.formula.proofs.Words.{parse, levels, names_of}
 use Rattle.formula.proofs.Listing.{names_told}
 use Rattle.formula.proofs.Widening.{wide, wide_well}
@@ -18,10 +18,10 @@ returns c =
     let S = s.args.symbols in
     let bytes = s.args.bytes.now in
     let marking = c.before.before.mark in
-    let good = wide_well S s.pre.0 levels bytes s.pre.1 in
+    let good = wide_well S s.requires.0 levels bytes s.requires.1 in
     c.collect.ensures
-    ∙ names_told S s.pre.0 (parse 255 levels bytes) good marking.new.1.1.0 marking.ensures.1
-    ∙ ap (names_of S) (sym (wide S s.pre.0 levels bytes s.pre.1))
+    ∙ names_told S s.requires.0 (parse 255 levels bytes) good marking.new.1.1.0 marking.ensures.1
+    ∙ ap (names_of S) (sym (wide S s.requires.0 levels bytes s.requires.1))
 
 pub symbols_of_spec : {M : Type 1} → statement M
-symbols_of_spec = tie.close (tie.spec mark_requires (λ c κs. search needs) returns)
+symbols_of_spec = tie.close (tie.spec mark_requires (λ c κs. search rules) returns)

@@ -1,5 +1,5 @@
 -- `reading::read` meets its contract. The measure is the depth left.
-use Rattle.meaning.proofs.Kit.{◌≡◌, ◌∙◌, sym, ap, List, ◌≤◌, ℕ, ◌<◌, ◌+◌, arith, length, needs}
+use Rattle.meaning.proofs.Kit.{◌≡◌, ◌∙◌, sym, ap, List, ◌≤◌, ℕ, ◌<◌, ◌+◌, arith, length, rules}
 use borrow.Fn.Kinds.{In, Out}
 use borrow.Fn.PlainCycle.{Measures, is, falls, and}
 use Rattle.formula.proofs.Words.{read_of, extent, Kind, Not, Two}
@@ -67,7 +67,7 @@ module _ (t : ℕ) where
   first_used : (c : Here lts.After-count) → 1 + c.count.given.0.0 ≤ length (bytes c.before.before)
   first_used c = omega (arith, ap extent c.count.given.1, first_seen c.before.before)
 
-  -- ---- the needs
+  -- ---- the rules
 
   returns : Here lts.Need-returns
   returns c =
@@ -130,8 +130,8 @@ module _ (t : ℕ) where
 
 pub +read_spec : {M : Type 1} → statement M
 +read_spec = close μ λ t. lts.spec (calls t) (at t) read.Post
-    (returns t) (returns_2 t) (λ c. search needs) (λ c. search needs) (λ c. search needs) (λ c. search needs) (λ c κs. tt) (λ c. search needs)
-    (λ c κs. tt) (λ c. search needs) (λ c. search needs) (λ c κs. omega arith) (past_by_requires t) (λ c. search needs) (λ c. search needs)
-    (λ c κs. omega arith) (λ c. search needs) (add_past_by t) (sub_read_3 t) (sub_read_3 t) (λ c. search needs) (λ c. search needs)
-    (λ c κs. omega arith) (past_by_requires_2 t) (λ c. search needs) (past_by_requires_3 t) (λ c. search needs) (returns_3 t) (returns_4 t)
+    (returns t) (returns_2 t) (λ c. search rules) (λ c. search rules) (λ c. search rules) (λ c. search rules) (λ c κs. tt) (λ c. search rules)
+    (λ c κs. tt) (λ c. search rules) (λ c. search rules) (λ c κs. omega arith) (past_by_requires t) (λ c. search rules) (λ c. search rules)
+    (λ c κs. omega arith) (λ c. search rules) (add_past_by t) (sub_read_3 t) (sub_read_3 t) (λ c. search rules) (λ c. search rules)
+    (λ c κs. omega arith) (past_by_requires_2 t) (λ c. search rules) (past_by_requires_3 t) (λ c. search rules) (returns_3 t) (returns_4 t)
     (returns_5 t) (returns_6 t) (returns_7 t)

@@ -1,5 +1,5 @@
 -- `reading::read_whole` meets its contract.
-use Rattle.meaning.proofs.Kit.{needs}
+use Rattle.meaning.proofs.Kit.{rules}
 use Rattle.formula.proofs.Parsing.{whole_used, whole_more, whole_bad}
 use Rattle.formula.proofs.reading.read_whole.Statement.{statement}
 use Rattle.formula.proofs.reading.read_whole.Tie as tie
@@ -25,4 +25,4 @@ returns_3 c =
     whole_bad (start r).args.symbols (start r).args.bytes.now r.read.ensures c.before.why.given.1
 
 pub read_whole_spec : {M : Type 1} → statement M
-read_whole_spec = tie.close (tie.spec (λ c κs. search needs) (λ c. search needs) (λ c. search needs) returns returns_2 returns_3)
+read_whole_spec = tie.close (tie.spec (λ c κs. search rules) (λ c. search rules) (λ c. search rules) returns returns_2 returns_3)

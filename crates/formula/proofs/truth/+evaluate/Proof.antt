@@ -1,5 +1,5 @@
 -- `truth::evaluate` meets its contract. The measure is the depth left.
-use Rattle.meaning.proofs.Kit.{◌≡◌, ◌∙◌, sym, ap, Bool, ◌≤◌, ℕ, ◌<◌, ◌-◌, ◌+◌, arith, length, needs}
+use Rattle.meaning.proofs.Kit.{◌≡◌, ◌∙◌, sym, ap, Bool, ◌≤◌, ℕ, ◌<◌, ◌-◌, ◌+◌, arith, length, rules}
 use borrow.Fn.Kinds.{In, Out}
 use borrow.Fn.PlainCycle.{Measures, is, falls, and}
 use Rattle.formula.proofs.Words.{look, bits, used_of, Kind, Symbol, Not, Two, Valued}
@@ -50,7 +50,7 @@ module _ (t : ℕ) where
   WalkAt k kind = Walk (start k).args.depth (start k).args.bytes.now kind
 
   walk : (k : Here lts.After-kind-of) {kind : Kind} → k.kind-of.result ≡ kind → WalkAt k kind
-  walk k e = record { well = (start k).pre.1.0; says = sym k.kind-of.ensures ∙ e }
+  walk k e = record { well = (start k).requires.1.0; says = sym k.kind-of.ensures ∙ e }
 
   symbol : (c : Here lts.After-enum-told) → WalkAt c.before.before Symbol
   symbol c = walk c.before.before c.enum_told.given.1
@@ -72,13 +72,13 @@ module _ (t : ℕ) where
   first_used : (f : Here lts.After-evaluate2) → 1 + f.evaluate2.result.used ≤ length (begun f).args.bytes.now
   first_used f = first_within (join f.before.before) (took f)
 
-  -- ---- the needs
+  -- ---- the rules
 
   shared_slice_read_given : Here lts.Need-shared-slice-read-given
   shared_slice_read_given c = number_there (symbol c.before)
 
   evaluate_requires : Here lts.Need-evaluate-requires
-  evaluate_requires c κs = (omega (arith, deep), (not_well (negation c), (start c.before.before).pre.1.1))
+  evaluate_requires c κs = (omega (arith, deep), (not_well (negation c), (start c.before.before).requires.1.1))
 
   add_t21 : Here lts.Need-overflow-add-t21
   add_t21 c =
@@ -86,7 +86,7 @@ module _ (t : ℕ) where
       omega (arith, first_within (negation v.before) (ap used v.evaluate.ensures), (start v.before.before.before).good.0.1)
 
   evaluate_requires_2 : Here lts.Need-evaluate-requires-2
-  evaluate_requires_2 c κs = (omega (arith, deep), (first_well (join c.before), (start c.before.before.before).pre.1.1))
+  evaluate_requires_2 c κs = (omega (arith, deep), (first_well (join c.before), (start c.before.before.before).requires.1.1))
 
   sub_evaluate_3 : Here lts.Need-overflow-sub-evaluate-3
   sub_evaluate_3 c = omega (arith, first_used c, onward_length 1 (begun c).args.bytes.now)
@@ -127,8 +127,8 @@ module _ (t : ℕ) where
 
 pub +evaluate_spec : {M : Type 1} → statement M
 +evaluate_spec = close μ λ t. lts.spec (calls t) (at t) evaluate.Post
-    (λ c. omega (arith, long)) (λ c. omega (arith, long)) (λ c. search needs) (λ c. omega (arith, long)) (λ c κs. tt) (λ c. search needs)
-    (shared_slice_read_given t) (λ c κs. omega arith) (λ c. search needs) (λ c. omega (arith, deep)) (evaluate_requires t) (add_t21 t)
-    (λ c. search needs) (λ c. omega (arith, deep)) (evaluate_requires_2 t) (sub_evaluate_3 t) (sub_evaluate_3 t) (λ c. search needs)
-    (λ c. omega (arith, deep)) (evaluate_requires_3 t) (λ c κs. tt) (add_t23 t) (add_t27 t) (λ c. search needs) (returns t) (returns_2 t)
+    (λ c. omega (arith, long)) (λ c. omega (arith, long)) (λ c. search rules) (λ c. omega (arith, long)) (λ c κs. tt) (λ c. search rules)
+    (shared_slice_read_given t) (λ c κs. omega arith) (λ c. search rules) (λ c. omega (arith, deep)) (evaluate_requires t) (add_t21 t)
+    (λ c. search rules) (λ c. omega (arith, deep)) (evaluate_requires_2 t) (sub_evaluate_3 t) (sub_evaluate_3 t) (λ c. search rules)
+    (λ c. omega (arith, deep)) (evaluate_requires_3 t) (λ c κs. tt) (add_t23 t) (add_t27 t) (λ c. search rules) (returns t) (returns_2 t)
     (returns_3 t) (returns_4 t)

@@ -1,5 +1,5 @@
 -- `truth::bit_at` meets its contract: a mask of the lowest bit is the remainder by 2.
-use Rattle.meaning.proofs.Kit.{◌∙◌, sym, ap, ℕ, ◌/◌, ◌^◌, eqb, needs}
+use Rattle.meaning.proofs.Kit.{◌∙◌, sym, ap, ℕ, ◌/◌, ◌^◌, eqb, rules}
 use lib.Bits.{and_mask}
 use Rattle.meaning.proofs.Bits.{bit_is}
 use Rattle.formula.proofs.truth.bit_at.Statement.{statement}
@@ -9,4 +9,4 @@ returns : tie.Need-returns
 returns c = ap (λ (n : ℕ). eqb n 1) (and_mask (c.args.assignment / 2 ^ c.args.place) 1) ∙ sym (bit_is c.args.place c.args.assignment)
 
 pub bit_at_spec : {M : Type 1} → statement M
-bit_at_spec = tie.close (tie.spec (λ c. search needs) returns)
+bit_at_spec = tie.close (tie.spec (λ c. search rules) returns)

@@ -1,6 +1,6 @@
 -- `truth::fill_truth` meets its contract. The loop's invariant: the values under the assignments passed stand in the table.
 -- The measure is how many assignments are left.
-use Rattle.meaning.proofs.Kit.{◌≡◌, ◌∙◌, sym, ap, false, ◌≤◌, ℕ, ◌<◌, ◌-◌, ◌^◌, arith, length, get_or, length-set, needs, below_none}
+use Rattle.meaning.proofs.Kit.{◌≡◌, ◌∙◌, sym, ap, false, ◌≤◌, ℕ, ◌<◌, ◌-◌, ◌^◌, arith, length, get_or, length-set, rules, below_none}
 use Rattle.meaning.proofs.Tables.{filled_more, tabulate_ext}
 use Rattle.formula.proofs.Words.{parse, levels, truth_of, Valued}
 use Rattle.formula.proofs.Assignments.{value_at, truth_by_number}
@@ -22,7 +22,7 @@ start c = c.before.before.before.before
 evaluate_requires : tie.Need-evaluate-requires invariant_loop decreases_loop
 evaluate_requires c κs =
     let s = start c.before in
-    (wide_well s.args.symbols s.pre.0 levels s.args.bytes.now s.pre.1.0, s.pre.1.1.0)
+    (wide_well s.args.symbols s.requires.0 levels s.args.bytes.now s.requires.1.0, s.requires.1.1.0)
 
 loop_again : tie.Need-loop-preserved invariant_loop decreases_loop
 loop_again c =
@@ -41,9 +41,9 @@ returns c =
     let l = c.before.loop in
     tabulate_ext false (2 ^ length names) (value_at names (parse 255 levels bytes)) l.table l.invariant.1 (λ k h. l.invariant.2 k (omega arith))
     ∙ sym (truth_by_number names (parse 255 levels bytes))
-    ∙ ap (truth_of names) (sym (wide s.args.symbols s.pre.0 levels bytes s.pre.1.0))
+    ∙ ap (truth_of names) (sym (wide s.args.symbols s.requires.0 levels bytes s.requires.1.0))
 
 pub fill_truth_spec : {M : Type 1} → statement M
 fill_truth_spec = tie.close (tie.spec
-    invariant_loop decreases_loop (λ c. (omega arith, c.before.before.before.requires.1.1.1, below_none _)) evaluate_requires (λ c. search needs)
-    (λ c. search needs) (λ c. omega arith) loop_again (λ c. omega arith) returns)
+    invariant_loop decreases_loop (λ c. (omega arith, c.before.before.before.requires.1.1.1, below_none _)) evaluate_requires (λ c. search rules)
+    (λ c. search rules) (λ c. omega arith) loop_again (λ c. omega arith) returns)

@@ -1,6 +1,6 @@
 -- `truth::given` meets its contract. The loop's invariant: what the names give the symbol is what the last `left` of them give it.
 -- The measure is how many names are left.
-use Rattle.meaning.proofs.Kit.{◌≡◌, ◌∙◌, sym, ◌≤◌, arith, length, needs}
+use Rattle.meaning.proofs.Kit.{◌≡◌, ◌∙◌, sym, ◌≤◌, arith, length, rules}
 use Rattle.formula.proofs.Words.{look, bits}
 use Rattle.formula.proofs.Looking.{look_last, look_here, look_next, look_none, look_all}
 use Rattle.formula.proofs.truth.given.Statement.{statement}
@@ -24,23 +24,23 @@ returns c =
     let t = c.before.before in
     let l = t.before.before.loop in
     let a = (start t.before.before).args in
-    let given = look_here a.names.now a.assignment a.symbol l.left t.before.loop-test.true l.invariant.0 c.before.if1.true in
+    let given = look_here a.names.now a.assignment a.symbol l.false t.before.loop-test.true l.invariant.0 c.before.if1.true in
     c.bit_at.ensures ∙ sym (l.invariant.1 ∙ given)
 
 loop_again : tie.Need-loop-preserved invariant_loop decreases_loop
 loop_again c =
     let a = (start c.before.before.before).args in
     let l = c.before.before.before.loop in
-    let given = look_next a.names.now a.assignment a.symbol l.left c.before.before.loop-test.true l.invariant.0 c.if1.false in
+    let given = look_next a.names.now a.assignment a.symbol l.false c.before.before.loop-test.true l.invariant.0 c.if1.false in
     (omega arith, l.invariant.1 ∙ given)
 
 returns_2 : tie.Need-returns-2 invariant_loop decreases_loop
 returns_2 c =
     let a = (start c.before).args in
     let l = c.before.loop in
-    sym (l.invariant.1 ∙ look_none a.names.now a.assignment a.symbol l.left (omega arith))
+    sym (l.invariant.1 ∙ look_none a.names.now a.assignment a.symbol l.false (omega arith))
 
 pub given_spec : {M : Type 1} → statement M
 given_spec = tie.close (tie.spec
-    invariant_loop decreases_loop loop_holds (λ c. search needs) (λ c. omega arith) (λ c. search needs) (λ c κs. omega arith) returns (λ c. search needs)
+    invariant_loop decreases_loop loop_holds (λ c. search rules) (λ c. omega arith) (λ c. search rules) (λ c κs. omega arith) returns (λ c. search rules)
     (λ c. omega arith) loop_again returns_2)

@@ -43,7 +43,7 @@ module _ (t : ℕ) where
   long : (e : Here lts.Else1) → (length (truth e) ≡ 2 * 2 ^ ((start e).args.n - 1)) × (length (hits e) ≡ 3 * 3 ^ ((start e).args.n - 1))
   long e =
       let s = start e in
-      (s.pre.1.0 ∙ pow_down 2 s.args.n e.if1.left, s.pre.1.1 ∙ pow_down 3 s.args.n e.if1.left)
+      (s.requires.1.0 ∙ pow_down 2 s.args.n e.if1.false, s.requires.1.1 ∙ pow_down 3 s.args.n e.if1.false)
 
   -- the point after the first call, from that after the second
   abbrev first : Here lts.After-fill-hits2 → Here lts.After-fill-hits

@@ -1,5 +1,5 @@
 -- `is_prime` meets its contract: by a table of hits, leaving out one literal decides.
-use Rattle.meaning.proofs.Kit.{◌∙◌, needs}
+use Rattle.meaning.proofs.Kit.{◌∙◌, rules}
 use Rattle.implicates.proofs.Lone.{prime_at}
 use Rattle.implicates.proofs.hits.is_prime.Statement.{statement}
 use Rattle.implicates.proofs.hits.is_prime.Tie as tie
@@ -16,4 +16,4 @@ returns_2 c =
     c.one-less-hit.ensures ∙ rw e.if1.false at (prime_at a.args.hits.now a.args.n a.args.c a.requires.0)
 
 pub is_prime_spec : {M : Type 1} → statement M
-is_prime_spec = tie.close (tie.spec (λ c. search needs) returns (λ c κs. search needs) returns_2)
+is_prime_spec = tie.close (tie.spec (λ c. search rules) returns (λ c κs. search rules) returns_2)

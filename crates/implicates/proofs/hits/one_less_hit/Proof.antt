@@ -56,8 +56,8 @@ loop_again c =
       next_rest t,
       next_weight t i.2,
       ⊎_elim
-          (λ w. found t i.2 hits w.0.taken (not-false _ w.2.left) i.3)
-          (λ w. next_out_lem t i.2 hits w.left ∙ i.3)
+          (λ w. found t i.2 hits w.0.true (not-false _ w.2.false) i.3)
+          (λ w. next_out_lem t i.2 hits w.false ∙ i.3)
           c.if1.branch,
     )
 

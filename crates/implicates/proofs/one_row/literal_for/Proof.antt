@@ -1,5 +1,5 @@
 -- `one_row::literal_for` meets its contract: the symbol is at most 200, so it and its negation fit.
-use Rattle.meaning.proofs.Kit.{◌≡◌, ◌∙◌, ◌+◌, ◌/◌, ◌%◌, add-one, arith, ℕ, ℤ, pos, neg_ℤ, w16, SFits, to_z-of_z, needs, ne_eqb, eq-eqb}
+use Rattle.meaning.proofs.Kit.{◌≡◌, ◌∙◌, ◌+◌, ◌/◌, ◌%◌, add-one, arith, ℕ, ℤ, pos, neg_ℤ, w16, SFits, to_z-of_z, rules, ne_eqb, eq-eqb}
 use Rattle.literals.specs.Literal.{literal_at}
 use Rattle.literals.proofs.Signed.{small_abs, minus_is, minus_fits}
 use Rattle.implicates.proofs.one_row.literal_for.Statement.{statement}
@@ -27,4 +27,4 @@ returns_2 c = to_z-of_z (sub_result c) ∙ minus_is (fits c.before) ∙ odd c.be
 
 pub literal_for_spec : {M : Type 1} → statement M
 literal_for_spec = tie.close (tie.spec
-    (λ c. omega arith) (λ c. search needs) (λ c. to_z-of_z (fits c.before) ∙ even c.before.args.p c.if1.true) sub_result returns_2)
+    (λ c. omega arith) (λ c. search rules) (λ c. to_z-of_z (fits c.before) ∙ even c.before.args.p c.if1.true) sub_result returns_2)

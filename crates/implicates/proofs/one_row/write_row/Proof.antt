@@ -26,7 +26,7 @@ long s = omega (arith, length_encode (take s.args.count s.args.row.now), s.requi
 number_of_requires : tie.Need-number-of-requires invariant_loop decreases_loop
 number_of_requires c κs =
     let s = start c.before in
-    (s.pre.1, s.pre.2, omega (arith, s.pre.0, c.loop-test.true, c.before.loop.invariant.same), s.pre.3)
+    (s.requires.1, s.requires.2, omega (arith, s.requires.0, c.loop-test.true, c.before.loop.invariant.same), s.requires.3)
 
 loop_again : tie.Need-loop-preserved invariant_loop decreases_loop
 loop_again c =
@@ -43,7 +43,7 @@ returns c =
     let s = start c.before in
     let part = s.args.part.now in
     copied_all (numbers s) part (omega (arith, long s)) l.part l.k l.invariant (omega (arith, long s, c.loop-test.false, l.invariant.same))
-    ∙ encode_all_lem (take s.args.count s.args.row.now) part s.pre.0
+    ∙ encode_all_lem (take s.args.count s.args.row.now) part s.requires.0
 
 pub write_row_spec : {M : Type 1} → statement M
 write_row_spec = tie.close (tie.spec

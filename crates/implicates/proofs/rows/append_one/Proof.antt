@@ -1,5 +1,5 @@
 -- `append_one` meets its contract: a clause that is not chosen leaves the table as it is.
-use Rattle.meaning.proofs.Kit.{◌≡◌, ◌∙◌, sym, ap, false, Bool, List, [], ◌∷◌, ◌≤◌, ℕ, ◌+◌, ◌*◌, arith, ℤ, length, get_or, w16, to_z_pos, needs}
+use Rattle.meaning.proofs.Kit.{◌≡◌, ◌∙◌, sym, ap, false, Bool, List, [], ◌∷◌, ◌≤◌, ℕ, ◌+◌, ◌*◌, arith, ℤ, length, get_or, w16, to_z_pos, rules}
 use Rattle.meaning.proofs.Kit.{not-false, not-true}
 use Rattle.meaning.specs.BySize.{of_size}
 use Rattle.meaning.specs.Clauses.{Digit, size}
@@ -57,12 +57,12 @@ returns_3 : tie.Need-returns-3
 returns_3 c =
     let e = c.before.before.before in
     let s = start e.before.before.before in
-    let w : After s _ _ = one_row (room e) (picked_it e) c.before.write-row.ensures (to_z_pos w16 (omega (arith, s.pre.0.5))) in
+    let w : After s _ _ = one_row (room e) (picked_it e) c.before.write-row.ensures (to_z_pos w16 (omega (arith, s.requires.0.5))) in
     (w.rows, w.count)
 
 pub append_one_spec : {M : Type 1} → statement M
 append_one_spec = tie.close (tie.spec
-    (λ c. search needs) returns (λ c κs. search needs) returns_2 (λ c. search needs) (λ c. search needs) (λ c. search needs) (λ c. search needs)
-    (λ c. search needs) (λ c. omega (arith, room c)) (λ c κs. search needs) (λ c. search needs)
-    (λ c. omega (arith, room c.before.before.before)) (λ c. search needs)
-    (λ c. omega (arith, c.table.given.1, room c.before.before.before)) (λ c. search needs) (λ c. search needs) returns_3)
+    (λ c. search rules) returns (λ c κs. search rules) returns_2 (λ c. search rules) (λ c. search rules) (λ c. search rules) (λ c. search rules)
+    (λ c. search rules) (λ c. omega (arith, room c)) (λ c κs. search rules) (λ c. search rules)
+    (λ c. omega (arith, room c.before.before.before)) (λ c. search rules)
+    (λ c. omega (arith, c.table.given.1, room c.before.before.before)) (λ c. search rules) (λ c. search rules) returns_3)

@@ -42,7 +42,7 @@ append_one_requires c κs =
     let l = c.before.before in
     let s = start l in
     let next = next_room _ l.loop.invariant.1 (more l (omega arith)) (room l (l.loop.c + 1)) in
-    ((s.pre.0.0, s.pre.0.1, s.pre.0.2, omega arith, omega arith, s.pre.0.4), next)
+    ((s.requires.0.0, s.requires.0.1, s.requires.0.2, omega arith, omega arith, s.requires.0.4), next)
 
 loop_again : tie.Need-loop-preserved invariant_loop decreases_loop
 loop_again c =

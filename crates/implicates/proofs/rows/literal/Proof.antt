@@ -1,5 +1,5 @@
 -- `literal` meets its contract: a symbol is below 256, so it and its negation fit.
-use Rattle.meaning.proofs.Kit.{◌≡◌, ◌∙◌, sym, true, false, ◌<◌, suc, zero, arith, ℕ, ℤ, pos, negsuc, neg_ℤ, w16, SFits, to_z-of_z, needs}
+use Rattle.meaning.proofs.Kit.{◌≡◌, ◌∙◌, sym, true, false, ◌<◌, suc, zero, arith, ℕ, ℤ, pos, negsuc, neg_ℤ, w16, SFits, to_z-of_z, rules}
 use Rattle.meaning.specs.Literals.{place}
 use Rattle.literals.specs.Literal.{place_of, literal_at}
 use Rattle.literals.proofs.Places.{literal_at_place}
@@ -33,4 +33,4 @@ returns_2 : tie.Need-returns-2
 returns_2 c = to_z-of_z (fits c.before) ∙ rw c.if1.false (plus_at c.before.args.symbol c.before.requires)
 
 pub literal_spec : {M : Type 1} → statement M
-literal_spec = tie.close (tie.spec (λ c. search needs) sub_result returns returns_2)
+literal_spec = tie.close (tie.spec (λ c. search rules) sub_result returns returns_2)

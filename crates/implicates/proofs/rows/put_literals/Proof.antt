@@ -26,12 +26,12 @@ abbrev clause : tie.At-loop invariant_loop decreases_loop → List Digit
 clause l = clause_at (start l).args.n (start l).args.c
 
 turn : (c : tie.In-loop invariant_loop decreases_loop) → let a = (start c.before).args in let l = c.before.loop in Turn a.n a.c l.rest l.k
-turn c = let i = c.before.loop.invariant in record { known = (start c.before).pre.4; some = c.loop-test.true; low = i.0; left = i.1 }
+turn c = let i = c.before.loop.invariant in record { known = (start c.before).requires.4; some = c.loop-test.true; low = i.0; left = i.1 }
 
 row_long : (l : tie.At-loop invariant_loop decreases_loop) → length l.loop.row ≡ most_literals
 row_long l =
     let s = start l in
-    ap length l.loop.invariant.3 ∙ length_put_from s.args.symbols.now s.args.n s.args.c s.pre.2 s.pre.1 l.loop.k
+    ap length l.loop.invariant.3 ∙ length_put_from s.args.symbols.now s.args.n s.args.c s.requires.2 s.requires.1 l.loop.k
 
 at_low : (l : tie.At-loop invariant_loop decreases_loop) → l.loop.at ≤ l.loop.k
 at_low l = omega (arith, l.loop.invariant.2, size_le (take l.loop.k (clause l)), length-take l.loop.k (clause l))
@@ -54,7 +54,7 @@ sub_at c = omega (arith, c.before.before.loop.invariant.2, count_literal (turn c
 literal_requires : tie.Need-literal-requires invariant_loop decreases_loop
 literal_requires c κs =
     let s = start c.before.before.before in
-    symbol_pos s.args.symbols.now _ s.pre.3 (omega arith)
+    symbol_pos s.args.symbols.now _ s.requires.3 (omega arith)
 
 slice_set_from_row : tie.Need-slice-set-from-row invariant_loop decreases_loop
 slice_set_from_row c =
@@ -72,14 +72,14 @@ loop_again c =
     (λ w. let put = to_z-of_z (sfits_of {w = w16} {z = w.2.result} w.2.ok) ∙ w.2.ensures in (
       omega arith,
       next_rest t,
-      omega (arith, w.4, i.2, count_literal t w.0.taken),
-      w.3 ∙ put_literal t ss s.pre.2 i.3 i.2 w.0.taken put,
+      omega (arith, w.4, i.2, count_literal t w.0.true),
+      w.3 ∙ put_literal t ss s.requires.2 i.3 i.2 w.0.true put,
     ))
-    (λ w. (omega arith, next_rest t, w.2 ∙ i.2 ∙ count_out t w.0.left, w.1 ∙ i.3 ∙ put_out t ss s.pre.2 w.0.left))
+    (λ w. (omega arith, next_rest t, w.2 ∙ i.2 ∙ count_out t w.0.false, w.1 ∙ i.3 ∙ put_out t ss s.requires.2 w.0.false))
     c.if1.branch
 
 same_length : tie.Need-same-length invariant_loop decreases_loop
-same_length c = row_long c.before ∙ sym (ap length (start c.before).pre.0 ∙ length-replicate most_literals (pos 0))
+same_length c = row_long c.before ∙ sym (ap length (start c.before).requires.0 ∙ length-replicate most_literals (pos 0))
 
 returns : tie.Need-returns invariant_loop decreases_loop
 returns c =
@@ -87,7 +87,7 @@ returns c =
     let l = c.before.loop in
     let ss = s.args.symbols.now in
     let e : l.k ≡ 0 = omega arith in
-    l.invariant.3 ∙ ap (put_from ss (clause c.before)) e ∙ put_done ss s.args.n s.args.c s.pre.2 s.pre.1
+    l.invariant.3 ∙ ap (put_from ss (clause c.before)) e ∙ put_done ss s.args.n s.args.c s.requires.2 s.requires.1
 
 pub put_literals_spec : {M : Type 1} → statement M
 put_literals_spec = tie.close (tie.spec

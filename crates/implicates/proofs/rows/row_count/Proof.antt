@@ -25,8 +25,8 @@ loop_again c =
     let turn = count_turn p (clauses n) l.c [] (omega (arith, length_clauses n)) in
     let test = ap p (clause_at_lem n l.c (omega arith)) ∙ marked_at a.args.primes.now n l.c (omega arith) in
     ⊎_elim
-    (λ w. let one = ap tally (test ∙ w.0.taken) in (omega arith, omega arith, omega (arith, turn, one, w.1, l.invariant.2)))
-    (λ w. let none = ap tally (test ∙ w.0.left) in (omega arith, omega arith, omega (arith, turn, none, w.1, l.invariant.2)))
+    (λ w. let one = ap tally (test ∙ w.0.true) in (omega arith, omega arith, omega (arith, turn, one, w.1, l.invariant.2)))
+    (λ w. let none = ap tally (test ∙ w.0.false) in (omega arith, omega arith, omega (arith, turn, none, w.1, l.invariant.2)))
     c.if1.branch
 
 returns : tie.Need-returns invariant_loop decreases_loop

@@ -1,5 +1,5 @@
 -- `write_row` meets its contract: the row is cleared, and then the literals are put in.
-use Rattle.meaning.proofs.Kit.{◌∙◌, ap, ℕ, pos, replicate, needs}
+use Rattle.meaning.proofs.Kit.{◌∙◌, ap, ℕ, pos, replicate, rules}
 use Rattle.implicates.proofs.rows.write_row.Statement.{statement}
 use Rattle.implicates.proofs.rows.write_row.Tie as tie
 
@@ -10,4 +10,4 @@ put_literals_requires c κs =
     (cleared.clear.ensures ∙ ap (λ (j : ℕ). replicate j (pos 0)) p.0, p.1, p.2, p.3, p.4, p.5)
 
 pub write_row_spec : {M : Type 1} → statement M
-write_row_spec = tie.close (tie.spec (λ c κs. search needs) put_literals_requires (λ c. search needs) (λ c. search needs))
+write_row_spec = tie.close (tie.spec (λ c κs. search rules) put_literals_requires (λ c. search rules) (λ c. search rules))

@@ -1,5 +1,5 @@
 -- `held_by` meets its contract: of both sets of premises the furnace's own is looked through.
-use Rattle.meaning.proofs.Kit.{◌≡◌, ◌∙◌, sym, ap, subst, true, Bool, List, ℕ, ltb, length, needs}
+use Rattle.meaning.proofs.Kit.{◌≡◌, ◌∙◌, sym, ap, subst, true, Bool, List, ℕ, ltb, length, rules}
 use Rattle.meaning.specs.Tests.{all}
 use Rattle.meaning.specs.Literals.{has}
 use Rattle.least.proofs.Striking.{first_held, second_held}
@@ -17,7 +17,7 @@ all_held_requires c κs =
     let t = c.before.before.before in
     let s = t.before.before in
     let a = s.args in
-    let long : 400 ≡ length a.t1.first = search needs in
+    let long : 400 ≡ length a.t1.first = search rules in
     subst (λ (n : ℕ). all (λ p. ltb p n) a.places.now ≡ true) long s.requires.1
 
 all_held_requires_2 : tie.Need-all-held-requires-2
@@ -25,21 +25,21 @@ all_held_requires_2 c κs =
     let t = c.before.before.before in
     let s = t.before.before in
     let a = s.args in
-    let long : 400 ≡ length a.t1.second = search needs in
+    let long : 400 ≡ length a.t1.second = search rules in
     subst (λ (n : ℕ). all (λ p. ltb p n) a.places.now ≡ true) long s.requires.1
 
 returns : tie.Need-returns
 returns c =
     let t = own c in
     let a = t.before.before.args in
-    c.all_held.ensures ∙ ap (λ (h : List Bool). all (has h) a.places.now) (sym (first_held a.t1 a.furnace t.if1.taken))
+    c.all_held.ensures ∙ ap (λ (h : List Bool). all (has h) a.places.now) (sym (first_held a.t1 a.furnace t.if1.true))
 
 returns_2 : tie.Need-returns-2
 returns_2 c =
     let t = other c in
     let s = t.before.before in
     let a = s.args in
-    c.all-held2.ensures ∙ ap (λ (h : List Bool). all (has h) a.places.now) (sym (second_held a.t1 a.furnace s.pre.0 t.if1.left))
+    c.all-held2.ensures ∙ ap (λ (h : List Bool). all (has h) a.places.now) (sym (second_held a.t1 a.furnace s.requires.0 t.if1.false))
 
 pub held_by_spec : {M : Type 1} → statement M
 held_by_spec = tie.close (tie.spec all_held_requires all_held_requires_2 returns returns_2)

@@ -1,5 +1,5 @@
 -- `least` meets its contract: its tests are the faults of `least_faults`, in their order; and there is room for the places of twelve candidates.
-use Rattle.meaning.proofs.Kit.{◌≡◌, ◌∙◌, sym, true, List, ℕ, arith, length, take, replicate, length-replicate, length-take-le, needs, not-false}
+use Rattle.meaning.proofs.Kit.{◌≡◌, ◌∙◌, sym, true, List, ℕ, arith, length, take, replicate, length-replicate, length-take-le, rules, not-false}
 use Rattle.meaning.proofs.Kit.{not-true}
 use Rattle.meaning.specs.Tests.{all}
 use Rattle.literals.specs.Literal.{in_range}
@@ -88,6 +88,6 @@ returns_5 c =
 
 pub least_spec : {M : Type 1} → statement M
 least_spec = tie.close (tie.spec
-    (λ c κs. search needs) (λ c κs. search needs) returns (λ c κs. search needs) (λ c κs. search needs) returns_2 (λ c κs. search needs)
-    (λ c κs. search needs) returns_3 (λ c κs. search needs) returns_4 (λ c. omega (arith, c.if4.false)) (λ c. sym (part c.before))
+    (λ c κs. search rules) (λ c κs. search rules) returns (λ c κs. search rules) (λ c κs. search rules) returns_2 (λ c κs. search rules)
+    (λ c κs. search rules) returns_3 (λ c κs. search rules) returns_4 (λ c. omega (arith, c.if4.false)) (λ c. sym (part c.before))
     least_placed_requires returns_5)

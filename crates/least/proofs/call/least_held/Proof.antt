@@ -1,5 +1,5 @@
 -- `least_held` meets its contract: the set of all is tried first.
-use Rattle.meaning.proofs.Kit.{◌≡◌, ◌∙◌, sym, ap, false, Bool, ◌≤◌, ◌-◌, one-le-pow, arith, length, needs}
+use Rattle.meaning.proofs.Kit.{◌≡◌, ◌∙◌, sym, ap, false, Bool, ◌≤◌, ◌-◌, one-le-pow, arith, length, rules}
 use Rattle.candidates.specs.Sets.{chosen}
 use Rattle.least.specs.Withdrawing.{leaves_conflict}
 use Rattle.least.proofs.Answers.{all_chosen, least_few, stays, ended}
@@ -48,7 +48,7 @@ cast_set c =
     let e = c.before.before.before in
     let s = start e.before.before.before in
     let a = s.args in
-    omega (arith, c.before.search.ensures, least_few a.table.now a.board a.furnace a.places.now s.pre.1.0 (quiet e))
+    omega (arith, c.before.search.ensures, least_few a.table.now a.board a.furnace a.places.now s.requires.1.0 (quiet e))
 
 returns_2 : tie.Need-returns-2
 returns_2 c =
@@ -58,5 +58,5 @@ returns_2 c =
 
 pub least_held_spec : {M : Type 1} → statement M
 least_held_spec = tie.close (tie.spec
-    (λ c κs. c.before.requires.1.0) (λ c. omega (arith, some c)) (λ c κs. search needs) (λ c. search needs) (λ c κs. search needs) (λ c. search needs)
-    (λ c. search needs) (λ c κs. search needs) cast_set returns returns_2)
+    (λ c κs. c.before.requires.1.0) (λ c. omega (arith, some c)) (λ c κs. search rules) (λ c. search rules) (λ c κs. search rules) (λ c. search rules)
+    (λ c. search rules) (λ c κs. search rules) cast_set returns returns_2)

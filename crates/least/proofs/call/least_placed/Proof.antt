@@ -1,5 +1,5 @@
 -- `least_placed` meets its contract: the places of the candidates tell whether one is repeated, and whether all are held.
-use Rattle.meaning.proofs.Kit.{◌≡◌, ◌∙◌, sym, ap, true, List, ℕ, ◌*◌, arith, ltb, length, length-map, needs, not-false, not-true}
+use Rattle.meaning.proofs.Kit.{◌≡◌, ◌∙◌, sym, ap, true, List, ℕ, ◌*◌, arith, ltb, length, length-map, rules, not-false, not-true}
 use Rattle.meaning.specs.Tests.{all}
 use Rattle.meaning.specs.Literals.{has}
 use Rattle.literals.specs.Literal.{place_of}
@@ -29,7 +29,7 @@ low : (c : tie.After-write-places) → let a = (start c).args in all (λ p. ltb 
 low c =
     let s = start c in
     let a = s.args in
-    ap (all (λ p. ltb p (2 * a.board.symbols))) (placed c) ∙ places_low a.board.symbols a.candidates.now s.pre.0.2
+    ap (all (λ p. ltb p (2 * a.board.symbols))) (placed c) ∙ places_low a.board.symbols a.candidates.now s.requires.0.2
 
 write_places_requires : tie.Need-write-places-requires
 write_places_requires c κs =
@@ -52,8 +52,8 @@ held_by_requires c κs =
     let w = placing c.before.before in
     let s = start w in
     let a = s.args in
-    let g = good_is a.table.now a.board s.pre.0.0 in
-    (s.pre.0.1, low_more (2 * a.board.symbols) 400 (places w) (omega (arith, g.sound.symbols)) (low w))
+    let g = good_is a.table.now a.board s.requires.0.0 in
+    (s.requires.0.1, low_more (2 * a.board.symbols) 400 (places w) (omega (arith, g.sound.symbols)) (low w))
 
 -- whether the furnace holds all of them
 held : (c : tie.After-held-by) → let a = (start (placing c.before.before.before)).args in
@@ -78,7 +78,7 @@ least_held_requires c κs =
     let w = placing h.before.before.before in
     let s = start w in
     let a = s.args in
-    ((s.pre.0.0, s.pre.0.1), (omega (arith, ap length (placed w), length-map a.candidates.now place_of, s.pre.1.0), low w))
+    ((s.requires.0.0, s.requires.0.1), (omega (arith, ap length (placed w), length-map a.candidates.now place_of, s.requires.1.0), low w))
 
 returns_3 : tie.Need-returns-3
 returns_3 c =
@@ -93,5 +93,5 @@ returns_3 c =
 
 pub least_placed_spec : {M : Type 1} → statement M
 least_placed_spec = tie.close (tie.spec
-    write_places_requires (λ c κs. search needs) (λ c κs. search needs) (λ c. search needs) returns held_by_requires (λ c κs. search needs)
-    (λ c. search needs) returns_2 least_held_requires (λ c. search needs) returns_3)
+    write_places_requires (λ c κs. search rules) (λ c κs. search rules) (λ c. search rules) returns held_by_requires (λ c κs. search rules)
+    (λ c. search rules) returns_2 least_held_requires (λ c. search rules) returns_3)

@@ -1,5 +1,5 @@
 -- `effect_of` meets its contract: blame tells whether a conflict is left, and what it stands on.
-use Rattle.meaning.proofs.Kit.{◌≡◌, sym, refl, subst, true, List, ℕ, ◌*◌, arith, ltb, replicate, needs}
+use Rattle.meaning.proofs.Kit.{◌≡◌, sym, refl, subst, true, List, ℕ, ◌*◌, arith, ltb, replicate, rules}
 use Rattle.meaning.specs.Tests.{all}
 use Rattle.board.proofs.Goodness.{good_is}
 use Rattle.candidates.proofs.Places.{low_more}
@@ -29,7 +29,7 @@ marked_requires : tie.Need-marked-requires
 marked_requires c κs =
     let s = start (asked c) in
     let long = (asked c).blame.auto.1.1.1.0 in
-    (s.pre.1.0, subst (λ (n : ℕ). all (λ p. ltb p n) s.args.places.now ≡ true) (sym long) (low s))
+    (s.requires.1.0, subst (λ (n : ℕ). all (λ p. ltb p n) s.args.places.now ≡ true) (sym long) (low s))
 
 returns : tie.Need-returns
 returns c =
@@ -37,7 +37,7 @@ returns c =
     let t = b.before.before in
     let s = start b in
     let a = s.args in
-    leaves_told a.table.now a.board a.furnace a.places.now a.set s.pre.0.0 s.pre.0.1 s.pre.1.1 unmarked refl
+    leaves_told a.table.now a.board a.furnace a.places.now a.set s.requires.0.0 s.requires.0.1 s.requires.1.1 unmarked refl
     t.struck-off.ensures b.blame.ensures.0 c.before.before.enum_told.given.1 b.blame.ensures.1 c.marked.ensures
 
 returns_2 : tie.Need-returns-2
@@ -46,10 +46,10 @@ returns_2 c =
     let t = b.before.before in
     let s = start b in
     let a = s.args in
-    ends_told a.table.now a.board a.furnace a.places.now a.set s.pre.0.0 s.pre.0.1 s.pre.1.1 unmarked refl
+    ends_told a.table.now a.board a.furnace a.places.now a.set s.requires.0.0 s.requires.0.1 s.requires.1.1 unmarked refl
     t.struck-off.ensures b.blame.ensures.0 c.enum-told2.given.1
 
 pub effect_of_spec : {M : Type 1} → statement M
 effect_of_spec = tie.close (tie.spec
-    (λ c κs. (c.before.requires.0.1, low c.before)) (λ c. search needs) (λ c κs. search needs) (λ c. search needs) (λ c. search needs)
-    marked_requires (λ c. search needs) returns returns_2)
+    (λ c κs. (c.before.requires.0.1, low c.before)) (λ c. search rules) (λ c κs. search rules) (λ c. search rules) (λ c. search rules)
+    marked_requires (λ c. search rules) returns returns_2)

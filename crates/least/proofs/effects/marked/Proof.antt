@@ -28,11 +28,11 @@ loop_again c =
     let i = l.loop.i in
     let test = eqb (get_or a.marks.now (get_or a.places.now (i - 1) 0) 0) 1 in
     let value : c.before.if1.one ≡ cond test 1 0 =
-    ⊎_elim (λ w. w.1 ∙ sym (ap (λ (b : Bool). cond b 1 0) (eq-eqb _ 1 w.0.taken)))
-    (λ w. w.1 ∙ sym (ap (λ (b : Bool). cond b 1 0) (ne_eqb _ 1 w.0.left))) c.before.if1.branch in (
-      omega (arith, l.loop.inv.0),
-      ap₂ (λ (one set : ℕ). one + 2 * set) value l.loop.inv.1
-          ∙ sym (marked_more a.marks.now a.places.now i (omega arith) l.loop.inv.0),
+    ⊎_elim (λ w. w.1 ∙ sym (ap (λ (b : Bool). cond b 1 0) (eq-eqb _ 1 w.0.true)))
+    (λ w. w.1 ∙ sym (ap (λ (b : Bool). cond b 1 0) (ne_eqb _ 1 w.0.false))) c.before.if1.branch in (
+      omega (arith, l.loop.invariant.0),
+      ap₂ (λ (one set : ℕ). one + 2 * set) value l.loop.invariant.1
+          ∙ sym (marked_more a.marks.now a.places.now i (omega arith) l.loop.invariant.0),
     )
 
 returns : tie.Need-returns invariant_loop decreases_loop

@@ -19,13 +19,13 @@ loop_again c =
     let l = c.before.before in (
       omega arith,
       marked_turn l.before.args.places.now l.loop.i l.loop.rest struck_off false (λ h p ps. refl) (omega arith) l.loop.invariant.1
-          (⊎_elim (λ w. inl (w.0.taken, w.2)) (λ w. inr (w.0.left, w.1)) c.if1.branch),
+          (⊎_elim (λ w. inl (w.0.true, w.2)) (λ w. inr (w.0.false, w.1)) c.if1.branch),
     )
 
 returns : tie.Need-returns invariant_loop decreases_loop
 returns c =
     let l = c.before in
-    sym (ap (struck_off l.loop.left) (chosen_end l.before.args.places.now l.loop.i l.loop.rest (omega arith))) ∙ l.loop.invariant.1
+    sym (ap (struck_off l.loop.false) (chosen_end l.before.args.places.now l.loop.i l.loop.rest (omega arith))) ∙ l.loop.invariant.1
 
 pub strike_spec : {M : Type 1} → statement M
 strike_spec = tie.close (tie.spec

@@ -1,5 +1,5 @@
 -- `struck_off` meets its contract: of both sets of premises the furnace's own is changed.
-use Rattle.meaning.proofs.Kit.{needs}
+use Rattle.meaning.proofs.Kit.{rules}
 use Rattle.least.proofs.Striking.{struck_first, struck_second}
 use Rattle.least.proofs.effects.struck_off.Statement.{statement}
 use Rattle.least.proofs.effects.struck_off.Tie as tie
@@ -18,4 +18,4 @@ returns_2 c =
     struck_second a.board a.furnace a.places.now a.set s.requires.0 t.if1.false c.strike2.ensures
 
 pub struck_off_spec : {M : Type 1} → statement M
-struck_off_spec = tie.close (tie.spec (λ c κs. search needs) (λ c κs. search needs) returns returns_2)
+struck_off_spec = tie.close (tie.spec (λ c κs. search rules) (λ c κs. search rules) returns returns_2)

@@ -1,5 +1,5 @@
 -- `keep` meets its contract: where there is no room nothing is written, as by a store beyond the end.
-use Rattle.meaning.proofs.Kit.{sym, ap, refl, Bool, cond, ◌+◌, arith, length, needs, lt-ltb, le-ltb}
+use Rattle.meaning.proofs.Kit.{sym, ap, refl, Bool, cond, ◌+◌, arith, length, rules, lt-ltb, le-ltb}
 use lib.Seq.{set_out}
 use Rattle.least.proofs.search.keep.Statement.{statement}
 use Rattle.least.proofs.search.keep.Tie as tie
@@ -18,4 +18,4 @@ returns_2 c =
 
 pub keep_spec : {M : Type 1} → statement M
 keep_spec = tie.close (tie.spec
-    (λ c. search needs) (λ c. search needs) (λ c. search needs) (λ c. search needs) (λ c. search needs) returns returns_2)
+    (λ c. search rules) (λ c. search rules) (λ c. search rules) (λ c. search rules) (λ c. search rules) returns returns_2)

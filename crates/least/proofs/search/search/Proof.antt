@@ -32,7 +32,7 @@ search_size_requires c κs =
     let i = c.before in
     let l = i.before in
     let s = start l in
-    (s.pre.0, ((s.pre.1.0, s.pre.1.1, i.loop-test.true), l.loop.invariant.1))
+    (s.requires.0, ((s.requires.1.0, s.requires.1.1, i.loop-test.true), l.loop.invariant.1))
 
 returns : tie.Need-returns invariant_loop decreases_loop
 returns c = ⊎_elim (λ x. absurd (c.if1.true x.0)) (λ x. x.0) (found c).search-size.ensures
@@ -41,7 +41,7 @@ loop_again : tie.Need-loop-preserved invariant_loop decreases_loop
 loop_again c =
     let z = sized c in
     let l = z.before.before.before in (
-      z.search-size.kept.1.1.1.1.1.1.0 ∙ l.loop.inv.0,
+      z.search-size.kept.1.1.1.1.1.1.0 ∙ l.loop.invariant.0,
       ⊎_elim (λ x. rw (add-one l.loop.k) x.1) (λ x. absurd (omega (arith, x.0, x.1, c.if1.false))) z.search-size.ensures,
     )
 
@@ -54,5 +54,5 @@ returns_2 c =
 pub search_spec : {M : Type 1} → statement M
 search_spec = tie.close (tie.spec
     invariant_loop decreases_loop (λ c. (refl, none_searched _ _ _)) search_size_requires (λ c. omega arith)
-    (λ c. (let z = found c in z.search-size.kept.1.1.1.1.1.1.0 ∙ z.before.before.before.loop.inv.0))
+    (λ c. (let z = found c in z.search-size.kept.1.1.1.1.1.1.0 ∙ z.before.before.before.loop.invariant.0))
     returns (λ c. omega arith) (λ c. omega arith) loop_again (λ c. omega arith) (λ c. c.before.loop.invariant.0) returns_2)

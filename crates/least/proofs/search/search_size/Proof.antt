@@ -58,7 +58,7 @@ below i =
     omega (arith, i.loop-test.true, last_is l, one-le-pow (n - a.k) 2 (omega arith), one-le-pow n 2 (omega arith))
 
 few : (i : tie.In-loop invariant_loop decreases_loop) → i.before.loop.set < 4096
-few i = let s = start i.before in omega (arith, below i, sets_few (length s.args.places.now) s.pre.1.0.0)
+few i = let s = start i.before in omega (arith, below i, sets_few (length s.args.places.now) s.requires.1.0.0)
 
 past : (c : tie.After-loop invariant_loop decreases_loop) → let a = (start c.before).args in let n = length a.places.now in
     2 ^ n - 2 ^ (n - a.k) < c.before.loop.set
@@ -71,9 +71,9 @@ try_set_requires c κs =
     let l = i.before in
     let s = start l in
     let n = length s.args.places.now in (
-      s.pre.0,
+      s.requires.0,
       (
-        (s.pre.1.0.0, s.pre.1.0.1, below i),
+        (s.requires.1.0.0, s.requires.1.0.1, below i),
         subst (λ (j : ℕ). Searched (test s) n j l.loop.set l.loop.auto l.loop.cores) (sym (has_k t)) l.loop.invariant.1,
       ),
     )
@@ -92,7 +92,7 @@ loop_holds c =
     let n = length a.places.now in (
       refl,
       subst (λ (j : ℕ). Searched (test s) n a.k (j - 1) a.known a.cores.now) (sym c.power3.ensures)
-          (size_begun (test s) n a.k a.known a.cores.now s.pre.1.1),
+          (size_begun (test s) n a.k a.known a.cores.now s.requires.1.1),
     )
 
 returns : tie.Need-returns invariant_loop decreases_loop
@@ -105,15 +105,15 @@ loop_again c =
     let s = start l in
     ⊎_elim
     (λ t. (
-      ap length t.7 ∙ t.2.kept.1.1.1.1.1.1.0 ∙ l.loop.inv.0,
+      ap length t.7 ∙ t.2.kept.1.1.1.1.1.1.0 ∙ l.loop.invariant.0,
       searched_as (has_k record { before = w; if1 = t.0 }) t.7 t.8
-          (⊎_elim (λ x. x.1) (λ x. absurd (omega (arith, x.0, x.1, t.6.left))) t.2.ensures),
+          (⊎_elim (λ x. x.1) (λ x. absurd (omega (arith, x.0, x.1, t.6.false))) t.2.ensures),
     ))
     (λ t. (
-      ap length t.1 ∙ l.loop.inv.0,
+      ap length t.1 ∙ l.loop.invariant.0,
       searched_as refl t.1 t.2
-          (passed_over (test s) (length s.args.places.now) s.args.k l.loop.set l.loop.kept l.loop.cores l.loop.inv.1
-          (sym w.worth-trying.ensures ∙ t.0.left)),
+          (passed_over (test s) (length s.args.places.now) s.args.k l.loop.set l.loop.kept l.loop.cores l.loop.invariant.1
+          (sym w.worth-trying.ensures ∙ t.0.false)),
     ))
     c.if1.branch
 
@@ -132,7 +132,7 @@ search_size_spec = tie.close (tie.spec
     (λ c κs. omega (arith, (begun c).requires.1.0))
     (λ c. omega (arith, c.power3.ensures, one-le-pow (begun c.before).args.k 2 (omega arith))) loop_holds
     (λ c. c.before.loop.invariant.1.room) (λ c. sym (length-take-le _ _ c.before.before.loop.invariant.1.room))
-    (λ c κs. (start c.before.before).pre.1.0.0) try_set_requires (λ c. omega arith)
-    (λ c. (let z = tried c in z.try-set.kept.1.1.1.1.1.1.0 ∙ (worth z.before.before.before).loop.inv.0))
+    (λ c κs. (start c.before.before).requires.1.0.0) try_set_requires (λ c. omega arith)
+    (λ c. (let z = tried c in z.try-set.kept.1.1.1.1.1.1.0 ∙ (worth z.before.before.before).loop.invariant.0))
     returns (λ c. omega (arith, few c.before.before.before)) (λ c. omega arith) loop_again (λ c. omega arith) (λ c. c.before.loop.invariant.0)
     returns_2)

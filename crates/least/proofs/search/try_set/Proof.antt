@@ -1,5 +1,5 @@
 -- `try_set` meets its contract: the effect of withdrawing the set tells whether it is the one, or what the conflict that it leaves stands on.
-use Rattle.meaning.proofs.Kit.{◌≡◌, ◌∙◌, sym, ap, refl, subst, inl, inr, true, Bool, not, List, ℕ, suc, ◌*◌, arith, length, set, needs}
+use Rattle.meaning.proofs.Kit.{◌≡◌, ◌∙◌, sym, ap, refl, subst, inl, inr, true, Bool, not, List, ℕ, suc, ◌*◌, arith, length, set, rules}
 use Rattle.candidates.specs.Sets.{chosen, size}
 use Rattle.least.specs.Least.{ends}
 use Rattle.board.specs.Furnaces.{held_by}
@@ -33,7 +33,7 @@ keep_requires c κs =
     let k = c.before.before in
     let s = start k in
     let a = s.args in
-    (omega (arith, (left k).1, core_few a.table.now a.board a.furnace a.places.now a.set s.pre.1.0.0), s.pre.1.1.room)
+    (omega (arith, (left k).1, core_few a.table.now a.board a.furnace a.places.now a.set s.requires.1.0.0), s.requires.1.1.room)
 
 returns : tie.Need-returns
 returns c =
@@ -55,9 +55,9 @@ returns_2 c =
     let l = left k in
     let n = length a.places.now in
     let e = ends_by a.table.now a.board a.furnace a.places.now a.set ∙ ap not l.0 in
-    let missed = core_missed a.table.now a.board a.furnace a.places.now a.set s.pre.0.0 l.0 in
+    let missed = core_missed a.table.now a.board a.furnace a.places.now a.set s.requires.0.0 l.0 in
     let core = k.core.given.0.0 in
-    let more = core_found (test s) n (size n a.set) a.set a.known a.cores.now s.pre.1.1 core e (λ x z. missed x (rw (← l.1) z)) in
+    let more = core_found (test s) n (size n a.set) a.set a.known a.cores.now s.requires.1.1 core e (λ x z. missed x (rw (← l.1) z)) in
     let so : ℕ → List ℕ → Type 0 = λ j cs. Searched (test s) n (size n a.set) (suc a.set) j cs in
     inl (
       refl,
@@ -67,4 +67,4 @@ returns_2 c =
 
 pub try_set_spec : {M : Type 1} → statement M
 try_set_spec = tie.close (tie.spec
-    (λ c κs. search needs) (λ c. search needs) (λ c. search needs) (λ c. search needs) keep_requires returns (λ c. search needs) returns_2)
+    (λ c κs. search rules) (λ c. search rules) (λ c. search rules) (λ c. search rules) keep_requires returns (λ c. search rules) returns_2)

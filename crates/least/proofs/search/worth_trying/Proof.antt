@@ -1,5 +1,5 @@
 -- `worth_trying` meets its contract: the size is looked at first.
-use Rattle.meaning.proofs.Kit.{◌∙◌, sym, ap, Bool, ◌&&◌, not, arith, needs, ne_eqb, eq-eqb}
+use Rattle.meaning.proofs.Kit.{◌∙◌, sym, ap, Bool, ◌&&◌, not, arith, rules, ne_eqb, eq-eqb}
 use Rattle.candidates.specs.Sets.{size}
 use Rattle.least.specs.Search.{misses_one}
 use Rattle.least.proofs.search.worth_trying.Statement.{statement}
@@ -19,4 +19,4 @@ returns_2 c =
     sym (ap (λ (b : Bool). b && not (misses_one a.cores.now a.set)) other)
 
 pub worth_trying_spec : {M : Type 1} → statement M
-worth_trying_spec = tie.close (tie.spec (λ c κs. search needs) (λ c κs. search needs) returns returns_2)
+worth_trying_spec = tie.close (tie.spec (λ c κs. search rules) (λ c κs. search rules) returns returns_2)

@@ -1,5 +1,5 @@
 -- `lines::commands::formula_length` meets its contract: by what reading answers.
-use Rattle.meaning.proofs.Kit.{◌∙◌, sym, needs}
+use Rattle.meaning.proofs.Kit.{◌∙◌, sym, rules}
 use Rattle.formula.specs.Parse.{levels, parse}
 use Rattle.lines.specs.Commands.{formula_length}
 use Rattle.lines.proofs.Reading.{length_good, length_bad}
@@ -22,4 +22,4 @@ returns_2 c =
     sym (length_bad (parse a.symbols levels a.body.now) _ _ _ (sym r.read.ensures ∙ c.enum_told.given.1))
 
 pub formula_length_spec : {M : Type 1} → statement M
-formula_length_spec = tie.close (tie.spec (λ c κs. search needs) (λ c. search needs) (λ c. search needs) returns returns_2)
+formula_length_spec = tie.close (tie.spec (λ c κs. search rules) (λ c. search rules) (λ c. search rules) returns returns_2)

@@ -1,5 +1,5 @@
 -- `lines::commands::literal_in` meets its contract: the two bytes are a number below 65,536, and 65,536 is taken off where the sign bit is set.
-use Rattle.meaning.proofs.Kit.{◌∙◌, sym, ◌<◌, arith, needs}
+use Rattle.meaning.proofs.Kit.{◌∙◌, sym, ◌<◌, arith, rules}
 use Rattle.lines.proofs.Reading.{cut_fits, cut_is, literal_high, literal_low, lowered_fits, two_bytes}
 use Rattle.lines.proofs.commands.literal_in.Statement.{statement}
 use Rattle.lines.proofs.commands.literal_in.Tie as tie
@@ -15,8 +15,8 @@ returns_2 c =
 
 pub literal_in_spec : {M : Type 1} → statement M
 literal_in_spec = tie.close (tie.spec
-    (λ c. search needs) (λ c. omega (arith, c.shared-slice-known.given 0)) (λ c. search needs) (λ c. omega (arith, c.shared-slice-known2.given 1))
+    (λ c. search rules) (λ c. omega (arith, c.shared-slice-known.given 0)) (λ c. search rules) (λ c. omega (arith, c.shared-slice-known2.given 1))
     (λ c. omega (arith, c.shared-slice-known2.given 1))
-    (λ c. omega (arith, c.before.shared-slice-known.given 0, c.shared-slice-known2.given 1)) (λ c. search needs)
+    (λ c. omega (arith, c.before.shared-slice-known.given 0, c.shared-slice-known2.given 1)) (λ c. search rules)
     (λ c. literal_low c.before.before.before.args.body.now c.if1.true) (λ c. record { sfits = omega (arith, small c) })
     (λ c. lowered_fits _ c.if1.false (small c)) (λ c. cut_fits _ c.if1.false (small c)) returns_2)

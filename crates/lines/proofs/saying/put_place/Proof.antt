@@ -1,5 +1,5 @@
 -- `lines::saying::put_place` meets its contract: the number is below 2, above 6, or one that has a place.
-use Rattle.meaning.proofs.Kit.{◌≡◌, true, ℕ, arith, leb, needs, le-leb, lt-leb}
+use Rattle.meaning.proofs.Kit.{◌≡◌, true, ℕ, arith, leb, rules, le-leb, lt-leb}
 use Rattle.literals.specs.Refusals.{number_of}
 use Rattle.spelling.proofs.Pieces.{put_none}
 use Rattle.lines.proofs.saying.put_place.Statement.{statement}
@@ -30,4 +30,4 @@ returns_3 c =
 
 pub put_place_spec : {M : Type 1} → statement M
 put_place_spec = tie.close (tie.spec
-    (λ c κs. search needs) returns returns_2 (λ c. search needs) (λ c κs. search needs) (λ c. search needs) returns_3)
+    (λ c κs. search rules) returns returns_2 (λ c. search rules) (λ c κs. search rules) (λ c. search rules) returns_3)

@@ -1,5 +1,5 @@
 -- `lines::saying::put_reason` meets its contract: one piece after another.
-use Rattle.meaning.proofs.Kit.{◌≡◌, ◌∙◌, ◌≤◌, ◌+◌, arith, length, needs}
+use Rattle.meaning.proofs.Kit.{◌≡◌, ◌∙◌, ◌≤◌, ◌+◌, arith, length, rules}
 use Rattle.spelling.proofs.Pieces.{put_length, put_put}
 use Rattle.lines.proofs.saying.put_reason.Statement.{statement}
 use Rattle.lines.proofs.saying.put_reason.Tie as tie
@@ -57,5 +57,5 @@ returns c =
 
 pub put_reason_spec : {M : Type 1} → statement M
 put_reason_spec = tie.close (tie.spec
-    (λ c. search needs) (λ c κs. omega arith) (λ c. search needs) put_named_requires_2 (λ c. search needs) put_word_requires put_literals_requires
-    (λ c. search needs) returns)
+    (λ c. search rules) (λ c κs. omega arith) (λ c. search rules) put_named_requires_2 (λ c. search rules) put_word_requires put_literals_requires
+    (λ c. search rules) returns)

@@ -1,5 +1,5 @@
 -- `lines::saying::put_rows` meets its contract: one piece after another.
-use Rattle.meaning.proofs.Kit.{arith, needs}
+use Rattle.meaning.proofs.Kit.{arith, rules}
 use Rattle.spelling.proofs.Pieces.{put_length, put_put}
 use Rattle.lines.proofs.saying.put_rows.Statement.{statement}
 use Rattle.lines.proofs.saying.put_rows.Tie as tie
@@ -21,4 +21,4 @@ returns c =
 
 pub put_rows_spec : {M : Type 1} → statement M
 put_rows_spec = tie.close (tie.spec
-    (λ c. search needs) (λ c κs. omega arith) (λ c. search needs) put_named_requires_2 (λ c. search needs) returns)
+    (λ c. search rules) (λ c κs. omega arith) (λ c. search rules) put_named_requires_2 (λ c. search rules) returns)

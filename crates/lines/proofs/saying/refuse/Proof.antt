@@ -1,5 +1,5 @@
 -- `lines::saying::refuse` meets its contract: the number is that of the refusal.
-use Rattle.meaning.proofs.Kit.{refl, arith, needs}
+use Rattle.meaning.proofs.Kit.{refl, arith, rules}
 use Rattle.lines.proofs.saying.refuse.Statement.{statement}
 use Rattle.lines.proofs.saying.refuse.Tie as tie
 
@@ -12,4 +12,4 @@ returns c =
 
 pub refuse_spec : {M : Type 1} → statement M
 refuse_spec = tie.close (tie.spec
-    (λ c κs. search needs) (λ c. search needs) (λ c. search needs) (λ c κs. omega arith) (λ c. search needs) returns)
+    (λ c κs. search rules) (λ c. search rules) (λ c. search rules) (λ c κs. omega arith) (λ c. search rules) returns)

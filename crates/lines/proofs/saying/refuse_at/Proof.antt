@@ -1,5 +1,5 @@
 -- `lines::saying::refuse_at` meets its contract: the place stands after the number.
-use Rattle.meaning.proofs.Kit.{arith, needs}
+use Rattle.meaning.proofs.Kit.{arith, rules}
 use Rattle.spelling.proofs.Pieces.{put_put}
 use Rattle.lines.proofs.saying.refuse_at.Statement.{statement}
 use Rattle.lines.proofs.saying.refuse_at.Tie as tie
@@ -15,4 +15,4 @@ returns c =
     )
 
 pub refuse_at_spec : {M : Type 1} → statement M
-refuse_at_spec = tie.close (tie.spec (λ c κs. search needs) (λ c κs. search needs) (λ c. search needs) returns)
+refuse_at_spec = tie.close (tie.spec (λ c κs. search rules) (λ c κs. search rules) (λ c. search rules) returns)

@@ -1,5 +1,5 @@
 -- `lines::saying::say_addition` meets its contract: by the outcome.
-use Rattle.meaning.proofs.Kit.{refl, needs}
+use Rattle.meaning.proofs.Kit.{refl, rules}
 use Rattle.lines.proofs.saying.say_addition.Statement.{statement}
 use Rattle.lines.proofs.saying.say_addition.Tie as tie
 
@@ -14,4 +14,4 @@ returns_2 c =
 
 pub say_addition_spec : {M : Type 1} → statement M
 say_addition_spec = tie.close (tie.spec
-    (λ c. search needs) (λ c κs. search needs) (λ c. search needs) (λ c κs. search needs) (λ c. search needs) returns (λ c. search needs) returns_2)
+    (λ c. search rules) (λ c κs. search rules) (λ c. search rules) (λ c κs. search rules) (λ c. search rules) returns (λ c. search rules) returns_2)

@@ -1,5 +1,5 @@
 -- `lines::saying::say_body` meets its contract: each arm makes its call.
-use Rattle.meaning.proofs.Kit.{◌≡◌, refl, ◌≤◌, arith, length, needs}
+use Rattle.meaning.proofs.Kit.{◌≡◌, refl, ◌≤◌, arith, length, rules}
 use Rattle.lines.specs.Commands.{body_length, command_table}
 use Rattle.lines.specs.declared.commands.Command.{Command}
 use Rattle.lines.proofs.Reading.{read_back}
@@ -75,13 +75,13 @@ returns_7 c =
 
 pub say_body_spec : {M : Type 1} → statement M
 say_body_spec = tie.close (tie.spec
-    (λ c. search needs) (λ c. let t = c.before in body_there (entry t.before.before) t.enum_told.given.1)
-    (λ c. omega (arith, c.shared-slice-known2.given 0)) (λ c κs. search needs) (λ c κs. search needs) (λ c. search needs) (λ c κs. search needs)
-    (λ c. search needs) (λ c κs. let t = c.before in body_there (entry t.before.before) t.enum-told3.given.1) (λ c κs. search needs)
-    (λ c κs. search needs) (λ c. search needs) (λ c κs. let t = c.before in body_there (entry t.before.before) t.enum-told4.given.1)
-    (λ c κs. search needs) (λ c κs. search needs) (λ c. search needs)
-    (λ c κs. let t = c.before in body_there (entry t.before.before) t.enum-told5.given.1) (λ c κs. search needs) (λ c κs. search needs)
-    (λ c. search needs) (λ c κs. let t = c.before in body_there (entry t.before.before) t.enum-told6.given.1) (λ c κs. search needs)
-    (λ c. search needs) (λ c κs. search needs) (λ c. search needs) returns (λ c. search needs) (λ c. search needs) returns_2 (λ c. search needs)
-    (λ c. search needs) returns_3 (λ c. search needs) (λ c. search needs) returns_4 (λ c. search needs) (λ c. search needs) returns_5
-    (λ c. search needs) (λ c. search needs) returns_6 (λ c. search needs) returns_7)
+    (λ c. search rules) (λ c. let t = c.before in body_there (entry t.before.before) t.enum_told.given.1)
+    (λ c. omega (arith, c.shared-slice-known2.given 0)) (λ c κs. search rules) (λ c κs. search rules) (λ c. search rules) (λ c κs. search rules)
+    (λ c. search rules) (λ c κs. let t = c.before in body_there (entry t.before.before) t.enum-told3.given.1) (λ c κs. search rules)
+    (λ c κs. search rules) (λ c. search rules) (λ c κs. let t = c.before in body_there (entry t.before.before) t.enum-told4.given.1)
+    (λ c κs. search rules) (λ c κs. search rules) (λ c. search rules)
+    (λ c κs. let t = c.before in body_there (entry t.before.before) t.enum-told5.given.1) (λ c κs. search rules) (λ c κs. search rules)
+    (λ c. search rules) (λ c κs. let t = c.before in body_there (entry t.before.before) t.enum-told6.given.1) (λ c κs. search rules)
+    (λ c. search rules) (λ c κs. search rules) (λ c. search rules) returns (λ c. search rules) (λ c. search rules) returns_2 (λ c. search rules)
+    (λ c. search rules) returns_3 (λ c. search rules) (λ c. search rules) returns_4 (λ c. search rules) (λ c. search rules) returns_5
+    (λ c. search rules) (λ c. search rules) returns_6 (λ c. search rules) returns_7)

@@ -1,5 +1,5 @@
 -- `lines::saying::say_change` meets its contract: by the outcome.
-use Rattle.meaning.proofs.Kit.{arith, needs}
+use Rattle.meaning.proofs.Kit.{arith, rules}
 use Rattle.lines.proofs.saying.say_change.Statement.{statement}
 use Rattle.lines.proofs.saying.say_change.Tie as tie
 
@@ -11,5 +11,5 @@ returns_2 c =
 
 pub say_change_spec : {M : Type 1} → statement M
 say_change_spec = tie.close (tie.spec
-    (λ c. search needs) (λ c. search needs) (λ c κs. search needs) (λ c. search needs) (λ c κs. search needs) (λ c. search needs)
-    (λ c. let w = c.before.before in rw w.before.before.before.enum_told.given.1 w.accept.ensures) (λ c. search needs) returns_2)
+    (λ c. search rules) (λ c. search rules) (λ c κs. search rules) (λ c. search rules) (λ c κs. search rules) (λ c. search rules)
+    (λ c. let w = c.before.before in rw w.before.before.before.enum_told.given.1 w.accept.ensures) (λ c. search rules) returns_2)

@@ -1,5 +1,5 @@
 -- `lines::saying::say_command` meets its contract: the body is cut short, or whole.
-use Rattle.meaning.proofs.Kit.{arith, needs}
+use Rattle.meaning.proofs.Kit.{arith, rules}
 use Rattle.lines.proofs.Bodies.{cut_said, cut_table, whole_said}
 use Rattle.lines.proofs.saying.say_command.Statement.{statement}
 use Rattle.lines.proofs.saying.say_command.Tie as tie
@@ -27,5 +27,5 @@ returns_2 c =
 
 pub say_command_spec : {M : Type 1} → statement M
 say_command_spec = tie.close (tie.spec
-    (λ c κs. search needs) (λ c. search needs) (λ c κs. search needs) (λ c. search needs) returns (λ c κs. search needs) (λ c. search needs)
-    (λ c. search needs) returns_2)
+    (λ c κs. search rules) (λ c. search rules) (λ c κs. search rules) (λ c. search rules) returns (λ c κs. search rules) (λ c. search rules)
+    (λ c. search rules) returns_2)

@@ -1,5 +1,5 @@
 -- `lines::saying::say_rule` meets its contract: the formula's bytes are cut out and handed to the board.
-use Rattle.meaning.proofs.Kit.{sym, ◌≤◌, arith, length, length-take-le, needs}
+use Rattle.meaning.proofs.Kit.{sym, ◌≤◌, arith, length, length-take-le, rules}
 use Rattle.lines.specs.Commands.{command_table}
 use Rattle.lines.proofs.Reading.{formula_most}
 use Rattle.lines.proofs.saying.say_rule.Statement.{statement}
@@ -25,5 +25,5 @@ returns c =
 
 pub say_rule_spec : {M : Type 1} → statement M
 say_rule_spec = tie.close (tie.spec
-    (λ c κs. search needs) (λ c. sym (length-take-le _ _ (size_most c.before.before))) (λ c κs. search needs)
-    (λ c. omega (arith, size_most (measured c.before))) (λ c κs. search needs) (λ c. search needs) (λ c. search needs) returns)
+    (λ c κs. search rules) (λ c. sym (length-take-le _ _ (size_most c.before.before))) (λ c κs. search rules)
+    (λ c. omega (arith, size_most (measured c.before))) (λ c κs. search rules) (λ c. search rules) (λ c. search rules) returns)

@@ -1,5 +1,5 @@
 -- `lines::saying::say_standing` meets its contract: by the standing.
-use Rattle.meaning.proofs.Kit.{arith, needs}
+use Rattle.meaning.proofs.Kit.{arith, rules}
 use Rattle.lines.proofs.saying.say_standing.Statement.{statement}
 use Rattle.lines.proofs.saying.say_standing.Tie as tie
 
@@ -11,10 +11,10 @@ returns_5 c =
 
 pub say_standing_spec : {M : Type 1} → statement M
 say_standing_spec = tie.close (tie.spec
-    (λ c. search needs) (λ c. search needs) (λ c κs. search needs) (λ c. search needs) (λ c. search needs) (λ c κs. search needs)
-    (λ c. search needs) (λ c. search needs) (λ c κs. search needs) (λ c. search needs) (λ c. search needs) (λ c κs. search needs)
-    (λ c. search needs) (λ c κs. search needs) (λ c. search needs)
-    (λ c. let w = c.before.before in rw w.before.before.before.enum_told.given.1 w.accept.ensures) (λ c. search needs)
-    (λ c. let w = c.before.before in rw w.before.before.before.enum-told2.given.1 w.accept2.ensures) (λ c. search needs)
-    (λ c. let w = c.before.before in rw w.before.before.before.enum-told3.given.1 w.accept3.ensures) (λ c. search needs)
-    (λ c. let w = c.before.before in rw w.before.before.before.enum-told4.given.1 w.accept4.ensures) (λ c. search needs) returns_5)
+    (λ c. search rules) (λ c. search rules) (λ c κs. search rules) (λ c. search rules) (λ c. search rules) (λ c κs. search rules)
+    (λ c. search rules) (λ c. search rules) (λ c κs. search rules) (λ c. search rules) (λ c. search rules) (λ c κs. search rules)
+    (λ c. search rules) (λ c κs. search rules) (λ c. search rules)
+    (λ c. let w = c.before.before in rw w.before.before.before.enum_told.given.1 w.accept.ensures) (λ c. search rules)
+    (λ c. let w = c.before.before in rw w.before.before.before.enum-told2.given.1 w.accept2.ensures) (λ c. search rules)
+    (λ c. let w = c.before.before in rw w.before.before.before.enum-told3.given.1 w.accept3.ensures) (λ c. search rules)
+    (λ c. let w = c.before.before in rw w.before.before.before.enum-told4.given.1 w.accept4.ensures) (λ c. search rules) returns_5)

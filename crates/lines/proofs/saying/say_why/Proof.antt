@@ -1,5 +1,5 @@
 -- `lines::saying::say_why` meets its contract: by the outcome; the part is a row of at most eight literals.
-use Rattle.meaning.proofs.Kit.{◌≡◌, ◌∙◌, sym, ap, refl, ◌-◌, arith, length, drop, take, length-take, to_z-of_z, needs}
+use Rattle.meaning.proofs.Kit.{◌≡◌, ◌∙◌, sym, ap, refl, ◌-◌, arith, length, drop, take, length-take, to_z-of_z, rules}
 use Rattle.board.specs.Asking.{explain_part, explain_numbers, Span}
 use Rattle.board.specs.declared.asking.Reason.{Reason}
 use Rattle.lines.specs.Commands.{journal_furnace}
@@ -50,5 +50,5 @@ returns_2 c =
 
 pub say_why_spec : {M : Type 1} → statement M
 say_why_spec = tie.close (tie.spec
-    (λ c κs. search needs) (λ c. search needs) (λ c κs. search needs) (λ c. search needs) (λ c κs. search needs) put_reason_requires
-    (λ c. search needs) returns (λ c. search needs) returns_2)
+    (λ c κs. search rules) (λ c. search rules) (λ c κs. search rules) (λ c. search rules) (λ c κs. search rules) put_reason_requires
+    (λ c. search rules) returns (λ c. search rules) returns_2)

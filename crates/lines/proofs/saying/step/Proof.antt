@@ -1,5 +1,5 @@
 -- `lines::saying::step` meets its contract: the line's pieces, one after the other.
-use Rattle.meaning.proofs.Kit.{◌≡◌, ◌≤◌, arith, length, needs}
+use Rattle.meaning.proofs.Kit.{◌≡◌, ◌≤◌, arith, length, rules}
 use Rattle.spelling.proofs.Pieces.{natural_most, put_length}
 use Rattle.lines.proofs.Bodies.{word_most}
 use Rattle.lines.proofs.Lines.{line_did, line_table}
@@ -31,7 +31,7 @@ text_at q =
     let p = numbered q in
     let e = q.put-command.ensures in
     let n = word_most p.before.before.command-of.result in
-    (omega (arith, (word_at p).0, e.ends, n), omega (arith, (word_at p).0, (word_at p).1, e.ends, n, put_length e, (start p).pre))
+    (omega (arith, (word_at p).0, e.ends, n), omega (arith, (word_at p).0, (word_at p).1, e.ends, n, put_length e, (start p).requires))
 
 put_natural_requires : tie.Need-put-natural-requires
 put_natural_requires c κs =
@@ -69,6 +69,6 @@ returns c =
 
 pub step_spec : {M : Type 1} → statement M
 step_spec = tie.close (tie.spec
-    (λ c. search needs) (λ c κs. search needs) put_natural_requires
-    (λ c κs. let p = c.before.before.before in omega (arith, (word_at p).0, (word_at p).1)) (λ c. search needs) (λ c. search needs)
-    (λ c. search needs) say_command_requires (λ c. search needs) put_word_requires (λ c. search needs) (λ c. search needs) returns)
+    (λ c. search rules) (λ c κs. search rules) put_natural_requires
+    (λ c κs. let p = c.before.before.before in omega (arith, (word_at p).0, (word_at p).1)) (λ c. search rules) (λ c. search rules)
+    (λ c. search rules) say_command_requires (λ c. search rules) put_word_requires (λ c. search rules) (λ c. search rules) returns)

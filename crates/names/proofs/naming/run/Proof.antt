@@ -18,14 +18,14 @@ at c = c.before.before.before
 returns : tie.Need-returns invariant_loop decreases_loop
 returns c =
     let l = at c.before in
-    sym (l.loop.inv.1 ∙ run_stops l.before.before.args.text.now l.loop.n (omega arith)
+    sym (l.loop.invariant.1 ∙ run_stops l.before.before.args.text.now l.loop.n (omega arith)
     (sym c.before.in-name.ensures ∙ not-true _ c.if1.true))
 
 loop_again : tie.Need-loop-preserved invariant_loop decreases_loop
 loop_again c =
     let l = at c.before in (
       omega arith,
-      l.loop.inv.1 ∙ run_more l.before.before.args.text.now l.loop.n (omega arith)
+      l.loop.invariant.1 ∙ run_more l.before.before.args.text.now l.loop.n (omega arith)
           (sym c.before.in-name.ensures ∙ not-false _ c.if1.false),
     )
 

@@ -1,5 +1,5 @@
 -- `replacing::rename` meets its contract: a run that has a slot becomes its symbol's number.
-use Rattle.meaning.proofs.Kit.{◌∙◌, sym, ap, suc, add-one, arith, length, needs, lt-ltb, le-ltb}
+use Rattle.meaning.proofs.Kit.{◌∙◌, sym, ap, suc, add-one, arith, length, rules, lt-ltb, le-ltb}
 use Rattle.names.specs.Names.{most_named, name_slot}
 use Rattle.names.specs.Replacing.{numeral}
 use Rattle.names.proofs.Replaced.{renamed_known, unknown_stays}
@@ -29,4 +29,4 @@ returns_2 c =
 
 pub rename_spec : {M : Type 1} → statement M
 rename_spec = tie.close (tie.spec
-    (λ c κs. omega arith) (λ c. omega arith) (λ c κs. tt) (λ c. search needs) returns (λ c. search needs) returns_2)
+    (λ c κs. omega arith) (λ c. omega arith) (λ c κs. tt) (λ c. search rules) returns (λ c. search rules) returns_2)

@@ -29,13 +29,13 @@ runs c = let l = (at c).loop in omega (arith, c.run.ensures, ap run (onward_drop
 
 -- it lies within the text
 inside : (c : tie.After-run invariant_loop decreases_loop) → end c ≤ length (at c).loop.text
-inside c = let l = (at c).loop in run_inside l.text l.at (end c) (omega arith) l.inv.0 (runs c)
+inside c = let l = (at c).loop in run_inside l.text l.at (end c) (omega arith) l.invariant.0 (runs c)
 
 loop_again : tie.Need-loop-preserved invariant_loop decreases_loop
 loop_again c =
     let l = at c.before in
     let t = l.loop in
-    (omega arith, t.inv.1, t.inv.2 ∙ coming_byte (names_at l) t.text t.at (omega arith) (omega (arith, runs c.before)))
+    (omega arith, t.invariant.1, t.invariant.2 ∙ coming_byte (names_at l) t.text t.at (omega arith) (omega (arith, runs c.before)))
 
 -- the run that was renamed
 abbrev here : tie.After-slice-known2 invariant_loop decreases_loop → tie.After-run invariant_loop decreases_loop
@@ -47,10 +47,10 @@ loop_again_2 c =
     let l = at f in
     let t = l.loop in
     let r = c.before.before.rename in
-    let same = run_length t.text t.at (end f) (omega arith) t.inv.0 (runs f) (names_at l) r.new.0 r.ensures in (
+    let same = run_length t.text t.at (end f) (omega arith) t.invariant.0 (runs f) (names_at l) r.new.0 r.ensures in (
       omega (arith, same, inside f),
-      same ∙ t.inv.1,
-      t.inv.2 ∙ coming_run t.text t.at (end f) (omega arith) t.inv.0 (runs f) (names_at l) r.new.0 r.ensures,
+      same ∙ t.invariant.1,
+      t.invariant.2 ∙ coming_run t.text t.at (end f) (omega arith) t.invariant.0 (runs f) (names_at l) r.new.0 r.ensures,
     )
 
 returns : tie.Need-returns invariant_loop decreases_loop

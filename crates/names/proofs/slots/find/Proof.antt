@@ -24,7 +24,7 @@ within : (c : tie.In-loop invariant_loop decreases_loop) → let a = (start c.be
 within c =
     let l = c.before in
     let s = start l in
-    omega (arith, slot_ends s.args.width l.loop.k s.args.count c.loop-test.true, l.loop.invariant.1, s.pre.0)
+    omega (arith, slot_ends s.args.width l.loop.k s.args.count c.loop-test.true, l.loop.invariant.1, s.requires.0)
 
 -- and this is told of it
 told : (c : tie.After-fits2 invariant_loop decreases_loop) → let l = (at c).before in let a = (start l).args in
@@ -32,7 +32,7 @@ told : (c : tie.After-fits2 invariant_loop decreases_loop) → let l = (at c).be
 told c =
     let l = (at c).before in
     let a = (start l).args in
-    c.fits2.ensures ∙ ap (λ s. fits s a.word.now) (slot_part a.width l.loop.k l.loop.at a.slots.now l.loop.inv.1)
+    c.fits2.ensures ∙ ap (λ s. fits s a.word.now) (slot_part a.width l.loop.k l.loop.at a.slots.now l.loop.invariant.1)
 
 returns : tie.Need-returns invariant_loop decreases_loop
 returns c =
@@ -40,16 +40,16 @@ returns c =
     let l = t.before in
     let s = start l in
     let a = s.args in
-    found_here a.width a.count a.slots.now a.word.now s.pre.1 l.loop.k t.loop-test.taken
-    (sym (told c.before) ∙ c.if1.true) l.loop.inv.2
+    found_here a.width a.count a.slots.now a.word.now s.requires.1 l.loop.k t.loop-test.true
+    (sym (told c.before) ∙ c.if1.true) l.loop.invariant.2
 
 loop_again : tie.Need-loop-preserved invariant_loop decreases_loop
 loop_again c =
     let l = (at c.before).before in
     let width = (start l).args.width in (
       omega arith,
-      ap (λ n. n + width) l.loop.inv.1 ∙ sym (ap (λ n. width * n) (add-one l.loop.k) ∙ mul-suc width l.loop.k),
-      below_more _ _ l.loop.inv.2 (sym (told c.before) ∙ c.if1.false),
+      ap (λ n. n + width) l.loop.invariant.1 ∙ sym (ap (λ n. width * n) (add-one l.loop.k) ∙ mul-suc width l.loop.k),
+      below_more _ _ l.loop.invariant.2 (sym (told c.before) ∙ c.if1.false),
     )
 
 returns_2 : tie.Need-returns-2 invariant_loop decreases_loop
@@ -57,7 +57,7 @@ returns_2 c =
     let l = c.before in
     let s = start l in
     let a = s.args in
-    found_nowhere a.width a.count a.slots.now a.word.now s.pre.1 (λ i h. l.loop.invariant.2 i (omega arith))
+    found_nowhere a.width a.count a.slots.now a.word.now s.requires.1 (λ i h. l.loop.invariant.2 i (omega arith))
 
 pub find_spec : {M : Type 1} → statement M
 find_spec = tie.close (tie.spec

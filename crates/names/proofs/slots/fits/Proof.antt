@@ -22,13 +22,13 @@ returns_2 : tie.Need-returns-2 invariant_loop decreases_loop
 returns_2 c =
     let l = at c.before in
     let a = l.before.before.args in
-    sym (l.loop.inv.1 ∙ fits_differs a.slot.now a.word.now l.loop.k (omega arith) (omega arith) c.if2.true)
+    sym (l.loop.invariant.1 ∙ fits_differs a.slot.now a.word.now l.loop.k (omega arith) (omega arith) c.if2.true)
 
 loop_again : tie.Need-loop-preserved invariant_loop decreases_loop
 loop_again c =
     let l = at c.before in
     let a = l.before.before.args in
-    (omega arith, l.loop.inv.1 ∙ fits_goes a.slot.now a.word.now l.loop.k (omega arith) (omega arith) c.if2.false)
+    (omega arith, l.loop.invariant.1 ∙ fits_goes a.slot.now a.word.now l.loop.k (omega arith) (omega arith) c.if2.false)
 
 returns_3 : tie.Need-returns-3 invariant_loop decreases_loop
 returns_3 c =

@@ -15,7 +15,7 @@ decreases_loop slot₀ word k₀ slot k = length slot₀ - k
 byte : (c : tie.Joined1 invariant_loop decreases_loop) → let l = c.before.before in c.if1.slot ≡ get_or l.before.args.word.now l.loop.k 0
 byte c =
     let l = c.before.before in
-    ⊎_elim (λ w. w.2) (λ w. w.1 ∙ sym (list_get_or_eq_default l.before.args.word.now 0 {n = l.loop.k} w.0.left)) c.if1.branch
+    ⊎_elim (λ w. w.2) (λ w. w.1 ∙ sym (list_get_or_eq_default l.before.args.word.now 0 {n = l.loop.k} w.0.false)) c.if1.branch
 
 loop_again : tie.Need-loop-preserved invariant_loop decreases_loop
 loop_again c =

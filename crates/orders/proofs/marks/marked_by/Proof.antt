@@ -23,7 +23,7 @@ bit_is : (c : tie.Joined1 invariant_loop decreases_loop) → let l = c.before.be
 bit_is c =
     let l = c.before.before.before in
     let b = get_or l.before.args.word.now (l.loop.k - 1) 0 in
-    ⊎_elim (λ w. w.1 ∙ rw (eq-eqb b 49 w.0.taken)) (λ w. w.1 ∙ rw (ne_eqb b 49 w.0.left)) c.if1.branch
+    ⊎_elim (λ w. w.1 ∙ rw (eq-eqb b 49 w.0.true)) (λ w. w.1 ∙ rw (ne_eqb b 49 w.0.false)) c.if1.branch
 
 bit_small : (c : tie.Joined1 invariant_loop decreases_loop) → c.if1.bit < 2
 bit_small c = ⊎_elim (λ w. omega arith) (λ w. omega arith) c.if1.branch

@@ -34,7 +34,7 @@ rows_marked_requires c κs =
     let rows = rows_right c.before.before in
     let s = start c.before.before in
     let a = s.args in
-    let fit = both_true (ends_at (5 + a.rows) a.line.now) _ (rw (rows, count_right c) at s.pre) in
+    let fit = both_true (ends_at (5 + a.rows) a.line.now) _ (rw (rows, count_right c) at s.requires) in
     (count_few a.rows rows, count_few a.count (count_right c), omega arith, fit.1)
 
 returns_3 : tie.Need-returns-3

@@ -1,5 +1,5 @@
 -- `reading::affirm` meets its contract: a number that fits is its own literal.
-use Rattle.meaning.proofs.Kit.{sym, ap, needs}
+use Rattle.meaning.proofs.Kit.{sym, ap, rules}
 use Rattle.orders.specs.Reading.{affirmed}
 use Rattle.orders.proofs.Literals.{number_fits, narrow_number, affirmed_is}
 use Rattle.orders.proofs.reading.affirm.Statement.{statement}
@@ -15,4 +15,4 @@ returns_2 : tie.Need-returns-2
 returns_2 c = ap affirmed (sym c.before.found2.given.1)
 
 pub affirm_spec : {M : Type 1} → statement M
-affirm_spec = tie.close (tie.spec (λ c. search needs) cast_t5 (λ c. search needs) returns returns_2)
+affirm_spec = tie.close (tie.spec (λ c. search rules) cast_t5 (λ c. search rules) returns returns_2)

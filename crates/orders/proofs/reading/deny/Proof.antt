@@ -1,5 +1,5 @@
 -- `reading::deny` meets its contract: of a number that fits the opposite fits too.
-use Rattle.meaning.proofs.Kit.{sym, ap, needs}
+use Rattle.meaning.proofs.Kit.{sym, ap, rules}
 use Rattle.orders.specs.Reading.{denied}
 use Rattle.orders.proofs.Literals.{number_fits, opposite_fits, narrow_number, denied_is}
 use Rattle.orders.proofs.reading.deny.Statement.{statement}
@@ -18,4 +18,4 @@ returns_2 : tie.Need-returns-2
 returns_2 c = ap denied (sym c.before.found2.given.1)
 
 pub deny_spec : {M : Type 1} → statement M
-deny_spec = tie.close (tie.spec (λ c. search needs) cast_t5 sub_t6 (λ c. search needs) returns returns_2)
+deny_spec = tie.close (tie.spec (λ c. search rules) cast_t5 sub_t6 (λ c. search rules) returns returns_2)

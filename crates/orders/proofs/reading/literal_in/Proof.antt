@@ -1,5 +1,5 @@
 -- `reading::literal_in` meets its contract: by the first byte.
-use Rattle.meaning.proofs.Kit.{◌∙◌, sym, ap, subst, arith, needs}
+use Rattle.meaning.proofs.Kit.{◌∙◌, sym, ap, subst, arith, rules}
 use Rattle.orders.specs.Reading.{Narrow, affirmed, denied, symbol_in}
 use Rattle.formula.proofs.Parts.{onward_drop}
 use Rattle.orders.proofs.Literals.{symbol_narrow, literal_of_none, literal_denied, literal_affirmed}
@@ -29,6 +29,6 @@ returns_3 c =
 
 pub literal_in_spec : {M : Type 1} → statement M
 literal_in_spec = tie.close (tie.spec
-    returns (λ c. omega arith) (λ c. omega arith) (λ c. omega arith) (λ c. omega arith) (λ c κs. search needs)
-    (λ c κs. subst Narrow (sym c.symbol-in.ensures) (symbol_narrow _ _)) returns_2 (λ c κs. search needs)
+    returns (λ c. omega arith) (λ c. omega arith) (λ c. omega arith) (λ c. omega arith) (λ c κs. search rules)
+    (λ c κs. subst Narrow (sym c.symbol-in.ensures) (symbol_narrow _ _)) returns_2 (λ c κs. search rules)
     (λ c κs. subst Narrow (sym c.symbol-in2.ensures) (symbol_narrow _ _)) returns_3)

@@ -1,5 +1,5 @@
 -- `taking::act` meets its contract: by which of the three calls it is.
-use Rattle.meaning.proofs.Kit.{to_z-of_z, needs, ne_eqb}
+use Rattle.meaning.proofs.Kit.{to_z-of_z, rules, ne_eqb}
 use Rattle.orders.proofs.Carried.{held_does, dropped_does, pushed_does}
 use Rattle.orders.proofs.taking.act.Statement.{statement}
 use Rattle.orders.proofs.taking.act.Tie as tie
@@ -33,5 +33,5 @@ returns_3 c =
 
 pub act_spec : {M : Type 1} → statement M
 act_spec = tie.close (tie.spec
-    (λ c κs. search needs) (λ c κs. search needs) returns (λ c κs. search needs) (λ c κs. search needs) returns_2 (λ c κs. search needs)
-    (λ c κs. search needs) returns_3)
+    (λ c κs. search rules) (λ c κs. search rules) returns (λ c κs. search rules) (λ c κs. search rules) returns_2 (λ c κs. search rules)
+    (λ c κs. search rules) returns_3)

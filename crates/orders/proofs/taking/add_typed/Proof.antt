@@ -1,5 +1,5 @@
 -- `taking::add_typed` meets its contract: the text in its room is the text typed, with its names replaced.
-use Rattle.meaning.proofs.Kit.{needs}
+use Rattle.meaning.proofs.Kit.{rules}
 use Rattle.names.specs.Replacing.{replaced}
 use Rattle.orders.proofs.Carried.{ruled_does}
 use Rattle.orders.proofs.Typed.{padded_whole}
@@ -22,4 +22,4 @@ returns c =
 
 pub add_typed_spec : {M : Type 1} → statement M
 add_typed_spec = tie.close (tie.spec
-    (λ c κs. search needs) (λ c κs. search needs) (λ c κs. search needs) (λ c κs. search needs) (λ c. search needs) (λ c. search needs) returns)
+    (λ c κs. search rules) (λ c κs. search rules) (λ c κs. search rules) (λ c κs. search rules) (λ c. search rules) (λ c. search rules) returns)

@@ -1,5 +1,5 @@
 -- `taking::enter_pairs` meets its contract: by the marks.
-use Rattle.meaning.proofs.Kit.{◌≡◌, ◌∙◌, sym, true, needs, not-false, not-true}
+use Rattle.meaning.proofs.Kit.{◌≡◌, ◌∙◌, sym, true, rules, not-false, not-true}
 use Rattle.orders.specs.Marks.{table_fits}
 use Rattle.orders.proofs.Slips.{slip_does}
 use Rattle.orders.proofs.Carried.{entered_does}
@@ -25,5 +25,5 @@ returns_2 c =
 
 pub enter_pairs_spec : {M : Type 1} → statement M
 enter_pairs_spec = tie.close (tie.spec
-    (λ c κs. search needs) (λ c κs. search needs) returns (λ c κs. fits c) (λ c κs. search needs) (λ c κs. search needs) (λ c. search needs)
+    (λ c κs. search rules) (λ c κs. search rules) returns (λ c κs. fits c) (λ c κs. search rules) (λ c κs. search rules) (λ c. search rules)
     returns_2)

@@ -1,5 +1,5 @@
 -- `taking::judge_name` meets its contract: by its tests, one after the other.
-use Rattle.meaning.proofs.Kit.{◌≡◌, ◌∙◌, cond, ◌&&◌, not, suc, arith, eqb, ltb, needs, ne_eqb, eq-eqb, le-leb, lt-ltb, le-ltb, lt-leb}
+use Rattle.meaning.proofs.Kit.{◌≡◌, ◌∙◌, cond, ◌&&◌, not, suc, arith, eqb, ltb, rules, ne_eqb, eq-eqb, le-leb, lt-ltb, le-ltb, lt-leb}
 use Rattle.orders.specs.States.{named_reply, simply}
 use Rattle.orders.specs.declared.Reply.TheVariants.{Done as Made, Not}
 use Rattle.orders.specs.declared.Slip.TheVariants.{NameTaken}
@@ -73,5 +73,5 @@ returns_7 c =
 
 pub judge_name_spec : {M : Type 1} → statement M
 judge_name_spec = tie.close (tie.spec
-    (λ c κs. search needs) returns (λ c κs. search needs) returns_2 (λ c κs. search needs) returns_3 (λ c κs. search needs) returns_4
-    (λ c κs. search needs) (λ c κs. search needs) returns_5 (λ c. search needs) (λ c κs. search needs) returns_6 (λ c κs. search needs) returns_7)
+    (λ c κs. search rules) returns (λ c κs. search rules) returns_2 (λ c κs. search rules) returns_3 (λ c κs. search rules) returns_4
+    (λ c κs. search rules) (λ c κs. search rules) returns_5 (λ c. search rules) (λ c κs. search rules) returns_6 (λ c κs. search rules) returns_7)

@@ -1,5 +1,5 @@
 -- `taking::literal_line` meets its contract: by the literal, and that nothing follows it.
-use Rattle.meaning.proofs.Kit.{◌≡◌, ◌∙◌, sym, subst, to_z-of_z, needs, not-false, not-true}
+use Rattle.meaning.proofs.Kit.{◌≡◌, ◌∙◌, sym, subst, to_z-of_z, rules, not-false, not-true}
 use Rattle.orders.specs.Words.{word_at}
 use Rattle.orders.specs.Reading.{literal_in}
 use Rattle.orders.proofs.Slips.{slip_does}
@@ -35,5 +35,5 @@ returns_3 c =
 
 pub literal_line_spec : {M : Type 1} → statement M
 literal_line_spec = tie.close (tie.spec
-    (λ c κs. search needs) (λ c κs. search needs) (λ c. search needs) (λ c κs. search needs) (λ c. search needs) (λ c κs. search needs)
-    (λ c κs. search needs) returns (λ c κs. search needs) returns_2 returns_3)
+    (λ c κs. search rules) (λ c κs. search rules) (λ c. search rules) (λ c κs. search rules) (λ c. search rules) (λ c κs. search rules)
+    (λ c κs. search rules) returns (λ c κs. search rules) returns_2 returns_3)

@@ -1,5 +1,5 @@
 -- `taking::name` meets its contract: the name is written where the tests are passed.
-use Rattle.meaning.proofs.Kit.{ap, ◌≤◌, ◌-◌, ◌+◌, ◌*◌, arith, needs}
+use Rattle.meaning.proofs.Kit.{ap, ◌≤◌, ◌-◌, ◌+◌, ◌*◌, arith, rules}
 use Rattle.orders.specs.States.{is_made}
 use Rattle.orders.proofs.Own.{named_does}
 use Rattle.orders.proofs.Named.{named_fits, slot_written, unmade}
@@ -21,7 +21,7 @@ returns c =
     let s = start j in
     let a = s.args in
     let at = 24 * (a.symbol - 1) in
-    rw (slot_written a.names.now at (at + 24 - at) a.given.now _ (omega arith) (omega (arith, fits t, s.pre)) p.put.ensures)
+    rw (slot_written a.names.now at (at + 24 - at) a.given.now _ (omega arith) (omega (arith, fits t, s.requires)) p.put.ensures)
     (rw (ap is_made t.enum_told.given.1) at (named_does a.desk a.table.now _ _ _ _ j.judge-name.ensures))
 
 returns_2 : tie.Need-returns-2
@@ -32,6 +32,6 @@ returns_2 c =
 
 pub name_spec : {M : Type 1} → statement M
 name_spec = tie.close (tie.spec
-    (λ c κs. search needs) (λ c. search needs) (λ c. omega (arith, (fits c).0)) (λ c. omega (arith, (fits c).1)) (λ c. omega (arith, (fits c).1))
-    (λ c. omega arith) (λ c. omega arith) (λ c. omega (arith, fits c)) (λ c κs. search needs) (λ c. search needs) returns (λ c. search needs)
+    (λ c κs. search rules) (λ c. search rules) (λ c. omega (arith, (fits c).0)) (λ c. omega (arith, (fits c).1)) (λ c. omega (arith, (fits c).1))
+    (λ c. omega arith) (λ c. omega arith) (λ c. omega (arith, fits c)) (λ c κs. search rules) (λ c. search rules) returns (λ c. search rules)
     returns_2)

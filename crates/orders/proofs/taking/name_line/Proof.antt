@@ -1,5 +1,5 @@
 -- `taking::name_line` meets its contract: by the symbol and the name, and that nothing follows them.
-use Rattle.meaning.proofs.Kit.{◌≡◌, ◌∙◌, sym, needs, not-false, not-true}
+use Rattle.meaning.proofs.Kit.{◌≡◌, ◌∙◌, sym, rules, not-false, not-true}
 use Rattle.names.specs.Names.{is_name}
 use Rattle.orders.specs.Words.{word_at}
 use Rattle.orders.specs.Reading.{symbol_in}
@@ -49,6 +49,6 @@ returns_4 c =
 
 pub name_line_spec : {M : Type 1} → statement M
 name_line_spec = tie.close (tie.spec
-    (λ c κs. search needs) (λ c κs. search needs) (λ c. search needs) (λ c κs. search needs) (λ c. search needs) (λ c κs. search needs)
-    (λ c κs. search needs) (λ c κs. search needs) (λ c. search needs) returns (λ c κs. search needs) (λ c κs. search needs) (λ c. search needs)
-    returns_2 (λ c κs. search needs) (λ c. search needs) returns_3 (λ c. search needs) returns_4)
+    (λ c κs. search rules) (λ c κs. search rules) (λ c. search rules) (λ c κs. search rules) (λ c. search rules) (λ c κs. search rules)
+    (λ c κs. search rules) (λ c κs. search rules) (λ c. search rules) returns (λ c κs. search rules) (λ c κs. search rules) (λ c. search rules)
+    returns_2 (λ c κs. search rules) (λ c. search rules) returns_3 (λ c. search rules) returns_4)

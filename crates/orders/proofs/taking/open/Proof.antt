@@ -1,5 +1,5 @@
 -- `taking::open` meets its contract: by the outcome of the call.
-use Rattle.meaning.proofs.Kit.{needs}
+use Rattle.meaning.proofs.Kit.{rules}
 use Rattle.orders.proofs.Own.{zeros, opened_does, unopened_does}
 use Rattle.orders.proofs.taking.open.Statement.{statement}
 use Rattle.orders.proofs.taking.open.Tie as tie
@@ -20,5 +20,5 @@ returns_2 c =
 
 pub open_spec : {M : Type 1} → statement M
 open_spec = tie.close (tie.spec
-    (λ c κs. search needs) (λ c. search needs) (λ c κs. search needs) (λ c. search needs) (λ c. search needs) (λ c κs. search needs)
-    (λ c κs. search needs) returns (λ c. search needs) returns_2)
+    (λ c κs. search rules) (λ c. search rules) (λ c κs. search rules) (λ c. search rules) (λ c. search rules) (λ c κs. search rules)
+    (λ c κs. search rules) returns (λ c. search rules) returns_2)

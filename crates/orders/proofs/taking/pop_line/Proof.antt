@@ -1,5 +1,5 @@
 -- `taking::pop_line` meets its contract: nothing follows the word.
-use Rattle.meaning.proofs.Kit.{◌∙◌, sym, needs, not-false, not-true}
+use Rattle.meaning.proofs.Kit.{◌∙◌, sym, rules, not-false, not-true}
 use Rattle.orders.proofs.Slips.{slip_does}
 use Rattle.orders.proofs.Carried.{popped_does}
 use Rattle.orders.proofs.taking.pop_line.Statement.{statement}
@@ -15,4 +15,4 @@ returns_2 c =
     rw (c.of-step.ensures, p.pop.ensures, sym t.before.ends_at.ensures ∙ not-false _ t.if1.false) (popped_does _ _ _ _)
 
 pub pop_line_spec : {M : Type 1} → statement M
-pop_line_spec = tie.close (tie.spec (λ c κs. search needs) (λ c κs. search needs) returns (λ c κs. search needs) (λ c κs. search needs) returns_2)
+pop_line_spec = tie.close (tie.spec (λ c κs. search rules) (λ c κs. search rules) returns (λ c κs. search rules) (λ c κs. search rules) returns_2)

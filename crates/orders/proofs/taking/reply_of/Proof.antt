@@ -1,5 +1,5 @@
 -- `taking::reply_of` meets its contract: by the outcome.
-use Rattle.meaning.proofs.Kit.{needs}
+use Rattle.meaning.proofs.Kit.{rules}
 use Rattle.orders.proofs.taking.reply_of.Statement.{statement}
 use Rattle.orders.proofs.taking.reply_of.Tie as tie
 
@@ -10,4 +10,4 @@ returns_2 : tie.Need-returns-2
 returns_2 c = rw c.before.outcome.given.1
 
 pub reply_of_spec : {M : Type 1} → statement M
-reply_of_spec = tie.close (tie.spec (λ c. search needs) (λ c. search needs) returns returns_2)
+reply_of_spec = tie.close (tie.spec (λ c. search rules) (λ c. search rules) returns returns_2)

@@ -1,5 +1,5 @@
 -- `taking::rule_line` meets its contract: the text has room.
-use Rattle.meaning.proofs.Kit.{sym, ap, ◌≤◌, arith, length, length-take-le, needs}
+use Rattle.meaning.proofs.Kit.{sym, ap, ◌≤◌, arith, length, length-take-le, rules}
 use Rattle.orders.proofs.Typed.{rest_within}
 use Rattle.orders.proofs.taking.rule_line.Statement.{statement}
 use Rattle.orders.proofs.taking.rule_line.Tie as tie
@@ -15,5 +15,5 @@ returns c = let t = c.before.before in rw (← t.before.before.before.rest.ensur
 
 pub rule_line_spec : {M : Type 1} → statement M
 rule_line_spec = tie.close (tie.spec
-    (λ c κs. search needs) (λ c. omega (arith, short c.before)) (λ c. sym (length-take-le _ _ (omega (arith, short c.before.before))))
-    add_typed_requires (λ c. search needs) returns)
+    (λ c κs. search rules) (λ c. omega (arith, short c.before)) (λ c. sym (length-take-le _ _ (omega (arith, short c.before.before))))
+    add_typed_requires (λ c. search rules) returns)

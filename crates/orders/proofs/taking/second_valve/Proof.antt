@@ -1,5 +1,5 @@
 -- `taking::second_valve` meets its contract: by the symbol and the number.
-use Rattle.meaning.proofs.Kit.{◌≡◌, ◌∙◌, sym, needs}
+use Rattle.meaning.proofs.Kit.{◌≡◌, ◌∙◌, sym, rules}
 use Rattle.orders.specs.Words.{word_at}
 use Rattle.orders.specs.Reading.{number_in, symbol_in}
 use Rattle.orders.proofs.Slips.{slip_does}
@@ -36,6 +36,6 @@ returns_3 c =
 
 pub second_valve_spec : {M : Type 1} → statement M
 second_valve_spec = tie.close (tie.spec
-    (λ c κs. search needs) (λ c κs. search needs) (λ c. search needs) (λ c κs. search needs) (λ c. search needs) (λ c κs. search needs)
-    (λ c κs. search needs) (λ c. search needs) (λ c κs. search needs) (λ c. search needs) (λ c κs. search needs) returns returns_2 (λ c. search needs)
+    (λ c κs. search rules) (λ c κs. search rules) (λ c. search rules) (λ c κs. search rules) (λ c. search rules) (λ c κs. search rules)
+    (λ c κs. search rules) (λ c. search rules) (λ c κs. search rules) (λ c. search rules) (λ c κs. search rules) returns returns_2 (λ c. search rules)
     returns_3)

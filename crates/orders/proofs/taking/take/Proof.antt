@@ -1,5 +1,5 @@
 -- `taking::take` meets its contract: a line that is too long is none; of another the first word decides.
-use Rattle.meaning.proofs.Kit.{arith, length, needs, lt-ltb, le-ltb}
+use Rattle.meaning.proofs.Kit.{arith, length, rules, lt-ltb, le-ltb}
 use Rattle.orders.specs.Lines.{line_of}
 use Rattle.orders.proofs.Slips.{slip_does}
 use Rattle.orders.proofs.taking.take.Statement.{statement}
@@ -25,5 +25,5 @@ returns_2 c =
 
 pub take_spec : {M : Type 1} → statement M
 take_spec = tie.close (tie.spec
-    (λ c κs. search needs) returns (λ c κs. search needs) (λ c κs. search needs) (λ c κs. search needs) (λ c. search needs) (λ c. search needs)
+    (λ c κs. search rules) returns (λ c κs. search rules) (λ c κs. search rules) (λ c κs. search rules) (λ c. search rules) (λ c. search rules)
     returns_2)

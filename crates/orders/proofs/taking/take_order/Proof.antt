@@ -1,5 +1,5 @@
 -- `taking::take_order` meets its contract: by the order.
-use Rattle.meaning.proofs.Kit.{needs}
+use Rattle.meaning.proofs.Kit.{rules}
 use Rattle.orders.proofs.Slips.{slip_does, ask_does, rest_does}
 use Rattle.orders.proofs.Asks.{asks_only}
 use Rattle.orders.proofs.taking.take_order.Statement.{statement}
@@ -46,11 +46,11 @@ returns_13 c = rw (asks_only _ _ _ _ _ c.before.match.keys13, c.simple2.ensures)
 
 pub take_order_spec : {M : Type 1} → statement M
 take_order_spec = tie.close (tie.spec
-    (λ c. search needs) (λ c κs. search needs) (λ c. search needs) (λ c κs. search needs) (λ c. search needs) (λ c κs. search needs)
-    (λ c. search needs) (λ c κs. search needs) (λ c. search needs) (λ c κs. search needs) (λ c. search needs) (λ c κs. search needs)
-    (λ c. search needs) (λ c κs. search needs) (λ c. search needs) (λ c κs. search needs) (λ c. search needs) (λ c κs. search needs)
-    (λ c. search needs) (λ c κs. search needs) (λ c. search needs) (λ c κs. search needs) (λ c. search needs) (λ c κs. search needs)
-    (λ c κs. search needs) (λ c. search needs) (λ c. search needs) returns (λ c. search needs) (λ c. search needs) returns_2 (λ c. search needs)
-    (λ c. search needs) returns_3 (λ c. search needs) (λ c. search needs) returns_4 (λ c. search needs) (λ c. search needs) returns_5
-    (λ c. search needs) (λ c. search needs) returns_6 (λ c. search needs) (λ c. search needs) returns_7 (λ c. search needs) (λ c. search needs)
-    returns_8 (λ c. search needs) (λ c. search needs) returns_9 (λ c. search needs) (λ c. search needs) returns_10 returns_11 returns_12 returns_13)
+    (λ c. search rules) (λ c κs. search rules) (λ c. search rules) (λ c κs. search rules) (λ c. search rules) (λ c κs. search rules)
+    (λ c. search rules) (λ c κs. search rules) (λ c. search rules) (λ c κs. search rules) (λ c. search rules) (λ c κs. search rules)
+    (λ c. search rules) (λ c κs. search rules) (λ c. search rules) (λ c κs. search rules) (λ c. search rules) (λ c κs. search rules)
+    (λ c. search rules) (λ c κs. search rules) (λ c. search rules) (λ c κs. search rules) (λ c. search rules) (λ c κs. search rules)
+    (λ c κs. search rules) (λ c. search rules) (λ c. search rules) returns (λ c. search rules) (λ c. search rules) returns_2 (λ c. search rules)
+    (λ c. search rules) returns_3 (λ c. search rules) (λ c. search rules) returns_4 (λ c. search rules) (λ c. search rules) returns_5
+    (λ c. search rules) (λ c. search rules) returns_6 (λ c. search rules) (λ c. search rules) returns_7 (λ c. search rules) (λ c. search rules)
+    returns_8 (λ c. search rules) (λ c. search rules) returns_9 (λ c. search rules) (λ c. search rules) returns_10 returns_11 returns_12 returns_13)

@@ -1,5 +1,5 @@
 -- `taking::valve_line` meets its contract: by the symbol and the number, and that nothing follows them.
-use Rattle.meaning.proofs.Kit.{◌≡◌, ◌∙◌, sym, needs, not-false, not-true}
+use Rattle.meaning.proofs.Kit.{◌≡◌, ◌∙◌, sym, rules, not-false, not-true}
 use Rattle.orders.specs.Words.{word_at}
 use Rattle.orders.specs.Reading.{number_in, symbol_in}
 use Rattle.orders.proofs.Slips.{slip_does}
@@ -54,6 +54,6 @@ returns_4 c =
 
 pub valve_line_spec : {M : Type 1} → statement M
 valve_line_spec = tie.close (tie.spec
-    (λ c κs. search needs) (λ c κs. search needs) (λ c. search needs) (λ c κs. search needs) (λ c. search needs) (λ c κs. search needs)
-    (λ c κs. search needs) (λ c. search needs) (λ c κs. search needs) (λ c. search needs) (λ c κs. search needs) (λ c κs. search needs) returns
-    (λ c κs. search needs) (λ c κs. search needs) returns_2 returns_3 (λ c. search needs) returns_4)
+    (λ c κs. search rules) (λ c κs. search rules) (λ c. search rules) (λ c κs. search rules) (λ c. search rules) (λ c κs. search rules)
+    (λ c κs. search rules) (λ c. search rules) (λ c κs. search rules) (λ c. search rules) (λ c κs. search rules) (λ c κs. search rules) returns
+    (λ c κs. search rules) (λ c κs. search rules) returns_2 returns_3 (λ c. search rules) returns_4)

@@ -1,5 +1,5 @@
 -- `taking::work` meets its contract: by the furnace's number.
-use Rattle.meaning.proofs.Kit.{◌∙◌, needs, ne_eqb}
+use Rattle.meaning.proofs.Kit.{◌∙◌, rules, ne_eqb}
 use Rattle.board.specs.Furnaces.{is_furnace}
 use Rattle.orders.proofs.taking.work.Statement.{statement}
 use Rattle.orders.proofs.taking.work.Tie as tie
@@ -17,4 +17,4 @@ unfolding is_furnace
 returns_3 c = c.simple3.ensures ∙ rw (ne_eqb _ 1 c.before.before.if1.false, ne_eqb _ 2 c.before.if2.false)
 
 pub work_spec : {M : Type 1} → statement M
-work_spec = tie.close (tie.spec (λ c κs. search needs) returns (λ c κs. search needs) returns_2 (λ c κs. search needs) returns_3)
+work_spec = tie.close (tie.spec (λ c κs. search rules) returns (λ c κs. search rules) returns_2 (λ c κs. search rules) returns_3)

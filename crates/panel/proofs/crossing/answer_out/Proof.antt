@@ -1,5 +1,5 @@
 -- `crossing::answer_out` meets its contract: one line a standing, and the refusal's number.
-use Rattle.meaning.proofs.Kit.{needs}
+use Rattle.meaning.proofs.Kit.{rules}
 use Rattle.panel.proofs.crossing.answer_out.Statement.{statement}
 use Rattle.panel.proofs.crossing.answer_out.Tie as tie
 
@@ -20,5 +20,5 @@ returns_5 c = rw (c.before.before.answer.given.1, c.number.ensures)
 
 pub answer_out_spec : {M : Type 1} → statement M
 answer_out_spec = tie.close (tie.spec
-    (λ c. search needs) (λ c κs. search needs) (λ c. search needs) (λ c κs. search needs) (λ c. search needs) (λ c κs. search needs)
-    (λ c. search needs) (λ c κs. search needs) (λ c. search needs) (λ c κs. search needs) returns returns_2 returns_3 returns_4 returns_5)
+    (λ c. search rules) (λ c κs. search rules) (λ c. search rules) (λ c κs. search rules) (λ c. search rules) (λ c κs. search rules)
+    (λ c. search rules) (λ c κs. search rules) (λ c. search rules) (λ c κs. search rules) returns returns_2 returns_3 returns_4 returns_5)

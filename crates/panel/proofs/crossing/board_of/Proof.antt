@@ -52,5 +52,5 @@ board_of_spec = tie.close (tie.spec
       made_none flag_of _ (length-replicate 400 false ∙ sym c.requires.0),
       made_none flag_of _ (length-replicate 400 false ∙ sym c.requires.1),
     ))
-    (λ c. omega (arith, (start c.before.before).pre.0)) (λ c. omega arith)
-    (λ c. omega (arith, (start c.before.before.before).pre.1)) (λ c. omega arith) (λ c. omega arith) (λ c. omega arith) loop_again returns)
+    (λ c. omega (arith, (start c.before.before).requires.0)) (λ c. omega arith)
+    (λ c. omega (arith, (start c.before.before.before).requires.1)) (λ c. omega arith) (λ c. omega arith) (λ c. omega arith) loop_again returns)

@@ -1,5 +1,5 @@
 -- `crossing::panel_of` meets its contract. The invariant: the three numbers are those given, and of both sets the first k bytes those of the flags.
-use Rattle.meaning.proofs.Kit.{◌≡◌, ◌∙◌, sym, refl, true, false, Bool, ℕ, ◌-◌, arith, get_or, length-replicate, needs}
+use Rattle.meaning.proofs.Kit.{◌≡◌, ◌∙◌, sym, refl, true, false, Bool, ℕ, ◌-◌, arith, get_or, length-replicate, rules}
 use mir.Val.{bool_byte}
 use Rattle.board.specs.Grounds.{byte_of}
 use Rattle.panel.proofs.Flags.{Made, made_none, made_more, made_all}
@@ -57,6 +57,6 @@ panel_of_spec = tie.close (tie.spec
       made_none byte_of _ (length-replicate {A = ℕ} 400 0 ∙ sym c.requires.0),
       made_none byte_of _ (length-replicate {A = ℕ} 400 0 ∙ sym c.requires.1),
     ))
-    (λ c. omega (arith, (start c.before.before).pre.0)) (λ c. search needs) (λ c. omega arith)
-    (λ c. omega (arith, (start c.before.before.before).pre.1)) (λ c. search needs) (λ c. omega arith) (λ c. omega arith) (λ c. omega arith)
+    (λ c. omega (arith, (start c.before.before).requires.0)) (λ c. search rules) (λ c. omega arith)
+    (λ c. omega (arith, (start c.before.before.before).requires.1)) (λ c. search rules) (λ c. omega arith) (λ c. omega arith) (λ c. omega arith)
     loop_again returns)

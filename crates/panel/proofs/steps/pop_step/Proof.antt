@@ -1,5 +1,5 @@
 -- `steps::pop_step` meets its contract: it is the stack's `pop`, whose board is as narrow as the given one.
-use Rattle.meaning.proofs.Kit.{arith, needs}
+use Rattle.meaning.proofs.Kit.{arith, rules}
 use Rattle.panel.proofs.Narrow.{narrow_popped}
 use Rattle.panel.proofs.steps.pop_step.Statement.{statement}
 use Rattle.panel.proofs.steps.pop_step.Tie as tie
@@ -13,4 +13,4 @@ returns : tie.Need-returns
 returns c = rw (← c.before.before.board-in.ensures, ← c.before.pop.ensures) c.step-out.ensures
 
 pub pop_step_spec : {M : Type 1} → statement M
-pop_step_spec = tie.close (tie.spec (λ c κs. search needs) (λ c κs. search needs) step_out_requires returns)
+pop_step_spec = tie.close (tie.spec (λ c κs. search rules) (λ c κs. search rules) step_out_requires returns)

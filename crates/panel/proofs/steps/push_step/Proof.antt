@@ -1,5 +1,5 @@
 -- `steps::push_step` meets its contract: it is the stack's `push`, whose board is as narrow as the given one.
-use Rattle.meaning.proofs.Kit.{arith, to_z-of_z, needs}
+use Rattle.meaning.proofs.Kit.{arith, to_z-of_z, rules}
 use Rattle.panel.proofs.Narrow.{narrow_pushed}
 use Rattle.panel.proofs.steps.push_step.Statement.{statement}
 use Rattle.panel.proofs.steps.push_step.Tie as tie
@@ -15,4 +15,4 @@ returns c =
     rw (← b.board-in.ensures, ← to_z-of_z b.before.ranges.l, ← c.before.push.ensures) c.step-out.ensures
 
 pub push_step_spec : {M : Type 1} → statement M
-push_step_spec = tie.close (tie.spec (λ c κs. search needs) (λ c κs. search needs) step_out_requires returns)
+push_step_spec = tie.close (tie.spec (λ c κs. search rules) (λ c κs. search rules) step_out_requires returns)

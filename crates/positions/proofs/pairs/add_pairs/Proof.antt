@@ -1,5 +1,5 @@
 -- `pairs::add_pairs` meets its contract.
-use Rattle.meaning.proofs.Kit.{◌≡◌, ◌∙◌, sym, true, needs, not-false, not-true}
+use Rattle.meaning.proofs.Kit.{◌≡◌, ◌∙◌, sym, true, rules, not-false, not-true}
 use Rattle.positions.specs.Positions.{Entry}
 use Rattle.board.specs.Faults.{good_board}
 use Rattle.board.proofs.Goodness.{good_is}
@@ -41,6 +41,6 @@ enter_requires c κs =
 
 pub add_pairs_spec : {M : Type 1} → statement M
 add_pairs_spec = tie.close (tie.spec
-    (λ c κs. search needs) (λ c κs. search needs) (λ c. search needs) returns
-    (λ c κs. (let a = c.before.before.before.args in (good_is a.table.now a.board (good c)).sound.symbols)) (λ c. search needs)
-    (λ c κs. search needs) (λ c. search needs) enter_requires (λ c. search needs) returns_2 (λ c. search needs) (λ c. search needs))
+    (λ c κs. search rules) (λ c κs. search rules) (λ c. search rules) returns
+    (λ c κs. (let a = c.before.before.before.args in (good_is a.table.now a.board (good c)).sound.symbols)) (λ c. search rules)
+    (λ c κs. search rules) (λ c. search rules) enter_requires (λ c. search rules) returns_2 (λ c. search rules) (λ c. search rules))

@@ -1,5 +1,5 @@
 -- `pairs::append_both` meets its contract: the second side's rows join the first's.
-use Rattle.meaning.proofs.Kit.{◌∙◌, arith, needs}
+use Rattle.meaning.proofs.Kit.{◌∙◌, arith, rules}
 use Rattle.positions.specs.Positions.{PairTable}
 use Rattle.positions.specs.Entering.{pair_table}
 use Rattle.positions.proofs.PairTables.{both_written}
@@ -41,5 +41,5 @@ returns c =
 
 pub append_both_spec : {M : Type 1} → statement M
 append_both_spec = tie.close (tie.spec
-    (λ c κs. search needs) append_side_requires (λ c. omega arith) (λ c. omega arith) (λ c κs. search needs) append_side_requires_2
-    (λ c. search needs) returns)
+    (λ c κs. search rules) append_side_requires (λ c. omega arith) (λ c. omega arith) (λ c κs. search rules) append_side_requires_2
+    (λ c. search rules) returns)

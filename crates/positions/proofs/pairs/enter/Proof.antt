@@ -1,5 +1,5 @@
 -- `pairs::enter` meets its contract: there are as many rows, and as many rules, as both variables have positions.
-use Rattle.meaning.proofs.Kit.{◌≡◌, ◌∙◌, sym, ap, ap₂, true, false, ◌&&◌, and-false, ◌≤◌, ℕ, ◌+◌, suc, arith, leb, needs, le-leb, lt-leb}
+use Rattle.meaning.proofs.Kit.{◌≡◌, ◌∙◌, sym, ap, ap₂, true, false, ◌&&◌, and-false, ◌≤◌, ℕ, ◌+◌, suc, arith, leb, rules, le-leb, lt-leb}
 use Rattle.positions.specs.Positions.{PairTable, pairs}
 use Rattle.positions.proofs.PositionRules.{suits_pairs}
 use Rattle.literals.specs.Row.{most_rules, rows_lent}
@@ -51,7 +51,7 @@ returns_2 c =
     let few = lt-leb (b.rules + clauses s) most_rules (omega (arith, c.before.if2.true, (good s).few)) in
     let full : fits_wholly b.symbols b.rows b.rules (lent s) (pairs (it s)) ≡ false =
     fits_is s ∙ rw few (and-false (leb (b.rows + clauses s) (lent s))) in
-    let all = told_full s.args.table.now b (pairs (it s)) s.pre.0 s.pre.1 full in
+    let all = told_full s.args.table.now b (pairs (it s)) s.requires.0 s.requires.1 full in
     (c.refused2.ensures ∙ all.answer_is, all.table_is)
 
 -- both are left
@@ -67,7 +67,7 @@ append_both_requires : tie.Need-append-both-requires
 append_both_requires c κs =
     let e = c.before in
     let s = start e.before.before in
-    let f = suits_pairs s.args.board.symbols (it s) s.pre.1 in
+    let f = suits_pairs s.args.board.symbols (it s) s.requires.1 in
     let top = (good s).sound.symbols in (
       (f.0.0, f.1.0, f.0.3, f.1.3, omega (arith, f.0.1, top), omega (arith, f.1.1, top)),
       (rules_left e, omega (arith, rows_left e)),
@@ -84,16 +84,16 @@ returns_3 c =
     let S = b.symbols in
     let room : fits_wholly S b.rows b.rules (lent s) (pairs (it s)) ≡ true =
     fits_is s ∙ rw (le-leb (b.rows + clauses s) (lent s) (rows_left e), le-leb (b.rules + clauses s) most_rules (rules_left e)) in
-    let all = told_done s.args.table.now b (pairs (it s)) s.pre.0 s.pre.1 room in (
-      c.done.ensures ∙ rw (table_rows S (it s) s.pre.1, table_formulae S (it s) s.pre.1) at all.answer_is,
+    let all = told_done s.args.table.now b (pairs (it s)) s.requires.0 s.requires.1 room in (
+      c.done.ensures ∙ rw (table_rows S (it s) s.requires.1, table_formulae S (it s) s.requires.1) at all.answer_is,
       c.before.before.append-both.ensures
-          ∙ ap (appended s.args.table.now b.rows) (sym (table_rules S (it s) s.pre.1 (suc b.rules))) ∙ all.table_is,
+          ∙ ap (appended s.args.table.now b.rows) (sym (table_rules S (it s) s.requires.1 (suc b.rules))) ∙ all.table_is,
     )
 
 pub enter_spec : {M : Type 1} → statement M
 enter_spec = tie.close (tie.spec
-    (λ c. (let f = suits_pairs c.args.board.symbols (it c) c.requires.1 in omega (arith, f.0.3, f.1.3))) (λ c κs. search needs)
-    (λ c. (let l = c.before in omega (arith, l.rows-lent.ensures, (good l.before.before).lent))) (λ c κs. search needs) (λ c. search needs)
-    returns (λ c. omega (arith, (good (start c.before)).few)) (λ c κs. search needs) (λ c. search needs)
+    (λ c. (let f = suits_pairs c.args.board.symbols (it c) c.requires.1 in omega (arith, f.0.3, f.1.3))) (λ c κs. search rules)
+    (λ c. (let l = c.before in omega (arith, l.rows-lent.ensures, (good l.before.before).lent))) (λ c κs. search rules) (λ c. search rules)
+    returns (λ c. omega (arith, (good (start c.before)).few)) (λ c κs. search rules) (λ c. search rules)
     returns_2 append_both_requires (λ c κs. (let e = c.before.before.before in (omega (arith, rows_left e), rules_left e)))
-    (λ c. search needs) returns_3)
+    (λ c. search rules) returns_3)

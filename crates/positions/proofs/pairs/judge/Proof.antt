@@ -1,5 +1,5 @@
 -- `pairs::judge` meets its contract: what it tests are 2, 19 and 8, in their order.
-use Rattle.meaning.proofs.Kit.{◌≡◌, ◌∙◌, sym, true, false, not, [], ◌∷◌, arith, needs, not-false, not-true}
+use Rattle.meaning.proofs.Kit.{◌≡◌, ◌∙◌, sym, true, false, not, [], ◌∷◌, arith, rules, not-false, not-true}
 use Rattle.positions.specs.Positions.{Variable, on_board, counted, share, symbols_fit, well_formed, possible}
 use Rattle.literals.specs.declared.refusal.Refusal.TheVariants.{NoAssignment}
 use Rattle.board.specs.Faults.{first_fault}
@@ -68,7 +68,7 @@ fit_two c = fits_of _ _ (on_two (second c)) (count_two c)
 overlap_requires : tie.Need-overlap-requires
 overlap_requires c κs =
     let s = start (second c) in
-    (omega (arith, (fit_one c).1, s.pre), omega (arith, (fit_two c).1, s.pre), (fit_one c).2, (fit_two c).2)
+    (omega (arith, (fit_one c).1, s.requires), omega (arith, (fit_two c).1, s.requires), (fit_one c).2, (fit_two c).2)
 
 returns_5 : tie.Need-returns-5
 unfolding symbols_fit well_formed
@@ -101,6 +101,6 @@ last c =
 
 pub judge_spec : {M : Type 1} → statement M
 judge_spec = tie.close (tie.spec
-    (λ c κs. search needs) returns (λ c κs. search needs) returns_2 (λ c κs. search needs) returns_3 (λ c κs. search needs) returns_4 overlap_requires
-    returns_5 (λ c κs. search needs) allows_some_requires
+    (λ c κs. search rules) returns (λ c κs. search rules) returns_2 (λ c κs. search rules) returns_3 (λ c κs. search rules) returns_4 overlap_requires
+    returns_5 (λ c κs. search rules) allows_some_requires
     (λ c. sym (last c.before ∙ rw c.if6.true)) (λ c. sym (last c.before ∙ rw c.if6.false)))

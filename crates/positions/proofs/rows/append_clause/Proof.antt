@@ -1,5 +1,5 @@
 -- `rows::append_clause` meets its contract.
-use Rattle.meaning.proofs.Kit.{◌∙◌, arith, needs}
+use Rattle.meaning.proofs.Kit.{◌∙◌, arith, rules}
 use Rattle.positions.proofs.SideRows.{clause_small}
 use Rattle.positions.proofs.rows.append_clause.Statement.{statement}
 use Rattle.positions.proofs.rows.append_clause.Tie as tie
@@ -24,4 +24,4 @@ returns c = c.before.append-row.ensures ∙ rw (put c.before).put-clause.ensures
 
 pub append_clause_spec : {M : Type 1} → statement M
 append_clause_spec = tie.close (tie.spec
-    (λ c. search needs) put_clause_requires (λ c. search needs) append_row_requires (λ c. search needs) returns)
+    (λ c. search rules) put_clause_requires (λ c. search rules) append_row_requires (λ c. search rules) returns)

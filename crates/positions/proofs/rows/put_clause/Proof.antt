@@ -1,5 +1,5 @@
 -- `rows::put_clause` meets its contract: the position's own literal goes first where its variable does, and else last.
-use Rattle.meaning.proofs.Kit.{◌∙◌, sym, arith, length-set, needs}
+use Rattle.meaning.proofs.Kit.{◌∙◌, sym, arith, length-set, rules}
 use Rattle.positions.specs.Writing.{side_of}
 use Rattle.positions.proofs.Partners.{own_first, own_last}
 use Rattle.positions.proofs.rows.put_clause.Statement.{statement}
@@ -20,8 +20,8 @@ returns c =
     let p = f.put-partners in
     let e = p.ensures in (
       e.0,
-      omega (arith, e.1, s.pre.0.few.1),
-      own_first (side_of a.v) a.i a.row.now t.if1.true s.pre.2 p.new.0 p.result e.2,
+      omega (arith, e.1, s.requires.0.few.1),
+      own_first (side_of a.v) a.i a.row.now t.if1.true s.requires.2 p.new.0 p.result e.2,
     )
 
 returns_2 : tie.Need-returns-2
@@ -33,15 +33,15 @@ returns_2 c =
     let p = f.put-partners2 in
     let e = p.ensures in (
       simp length-set e.0,
-      omega (arith, e.1, s.pre.0.few.1),
+      omega (arith, e.1, s.requires.0.few.1),
       own_last (side_of a.v) a.i a.row.now (omega (arith, t.if1.false)) p.new.0 p.result (omega arith) e.2,
     )
 
 pub put_clause_spec : {M : Type 1} → statement M
 put_clause_spec = tie.close (tie.spec
     (λ c. omega arith) (λ c. omega arith) (λ c. omega arith) (λ c. omega arith) (λ c. omega arith)
-    (λ c κs. (let s = start c.before in (s.pre.0, s.pre.1, omega arith, simp length-set s.pre.2)))
+    (λ c κs. (let s = start c.before in (s.requires.0, s.requires.1, omega arith, simp length-set s.requires.2)))
     (λ c. (let p = c.before.before in p.put-partners.ensures.0 ∙ sym (start p.before.before).requires.2)) returns
-    (λ c κs. (let s = else_start c.before in (s.pre.0, s.pre.1, omega arith, s.pre.2))) (λ c. search needs) (λ c. omega arith)
+    (λ c κs. (let s = else_start c.before in (s.requires.0, s.requires.1, omega arith, s.requires.2))) (λ c. search rules) (λ c. omega arith)
     (λ c. omega arith)
     (λ c. (let p = c.before.before in simp length-set (p.put-partners2.ensures.0 ∙ sym (else_start p.before.before).requires.2))) returns_2)

@@ -22,9 +22,9 @@ loop_again c =
     let a = (start l).args in
     ⊎_elim
     (λ w. subst₂ (λ row n. Gathered (side_of a.v) a.i a.at a.row.now row n (l.loop.j + 1)) (sym w.2) (sym w.3)
-    (gathered_one _ _ _ _ _ _ _ l.loop.invariant t.if1.true (sym m.may.ensures ∙ w.0.taken) (omega arith)))
+    (gathered_one _ _ _ _ _ _ _ l.loop.invariant t.if1.true (sym m.may.ensures ∙ w.0.true) (omega arith)))
     (λ w. subst₂ (λ row n. Gathered (side_of a.v) a.i a.at a.row.now row n (l.loop.j + 1)) (sym w.1) (sym w.2)
-    (gathered_passed _ _ _ _ _ _ _ l.loop.invariant t.if1.true (sym m.may.ensures ∙ w.0.left)))
+    (gathered_passed _ _ _ _ _ _ _ l.loop.invariant t.if1.true (sym m.may.ensures ∙ w.0.false)))
     c.if2.branch
 
 returns : tie.Need-returns invariant_loop decreases_loop
@@ -38,4 +38,4 @@ put_partners_spec = tie.close (tie.spec
     (λ c. gathered_none (side_of c.before.args.v) c.before.args.i c.before.args.at c.before.args.row.now c.before.requires.3)
     (λ c κs. (omega arith, omega arith)) (λ c. omega arith) (λ c. omega arith) (λ c. omega arith) (λ c. omega arith) (λ c. omega arith)
     (λ c. omega arith) (λ c. omega arith) (λ c. omega arith) loop_again
-    (λ c. (let l = c.before.before in l.loop.invariant.long ∙ sym (start l).pre.3)) returns)
+    (λ c. (let l = c.before.before in l.loop.invariant.long ∙ sym (start l).requires.3)) returns)

@@ -1,5 +1,5 @@
 -- `testing::on_board` meets its contract: the last symbol is first + count - 1, and the sum is not taken, since the count may be any number.
-use Rattle.meaning.proofs.Kit.{◌≡◌, ◌≤◌, ℕ, ◌-◌, ◌+◌, suc, arith, leb, needs, le-leb, leb-true, lt-leb}
+use Rattle.meaning.proofs.Kit.{◌≡◌, ◌≤◌, ℕ, ◌-◌, ◌+◌, suc, arith, leb, rules, le-leb, leb-true, lt-leb}
 use Rattle.meaning.proofs.Tests.{same_test}
 use Rattle.positions.proofs.testing.on_board.Statement.{statement}
 use Rattle.positions.proofs.testing.on_board.Tie as tie
@@ -25,4 +25,4 @@ returns_3 c =
     (room a.first a.count a.symbols (omega (arith, c.if2.false)))
 
 pub on_board_spec : {M : Type 1} → statement M
-on_board_spec = tie.close (tie.spec returns returns_2 (λ c. search needs) (λ c. search needs) returns_3)
+on_board_spec = tie.close (tie.spec returns returns_2 (λ c. search rules) (λ c. search rules) returns_3)

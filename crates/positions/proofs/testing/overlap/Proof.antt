@@ -1,5 +1,5 @@
 -- `testing::overlap` meets its contract.
-use Rattle.meaning.proofs.Kit.{sym, inl, arith, needs}
+use Rattle.meaning.proofs.Kit.{sym, inl, arith, rules}
 use Rattle.positions.specs.Positions.{Variable}
 use Rattle.positions.proofs.Sharing.{apart_share, sharing}
 use Rattle.positions.proofs.testing.overlap.Statement.{statement}
@@ -18,4 +18,4 @@ returns_2 : tie.Need-returns-2
 returns_2 c = let s = c.before in sharing (one s) (two s) s.requires.2 s.requires.3 (omega (arith, c.if1.false))
 
 pub overlap_spec : {M : Type 1} → statement M
-overlap_spec = tie.close (tie.spec (λ c. search needs) returns (λ c. search needs) returns_2)
+overlap_spec = tie.close (tie.spec (λ c. search rules) returns (λ c. search rules) returns_2)

@@ -1,5 +1,5 @@
 -- `variables::add_positions` meets its contract: what it tests are the first cases of `entry_faults`, in their order.
-use Rattle.meaning.proofs.Kit.{◌≡◌, ◌∙◌, sym, true, needs, not-false, not-true}
+use Rattle.meaning.proofs.Kit.{◌≡◌, ◌∙◌, sym, true, rules, not-false, not-true}
 use Rattle.positions.specs.Positions.{on_board, symbols_fit, well_formed, possible}
 use Rattle.literals.specs.declared.refusal.Refusal.TheVariants.{BadLiteral, BadPositions}
 use Rattle.board.specs.Faults.{good_board}
@@ -61,7 +61,7 @@ enter_requires c κs =
 
 pub add_positions_spec : {M : Type 1} → statement M
 add_positions_spec = tie.close (tie.spec
-    (λ c κs. search needs) (λ c κs. search needs) (λ c. search needs) returns
-    (λ c κs. (good_is _ _ (good c)).sound.symbols) (λ c κs. search needs)
-    (λ c. search needs) returns_2 (λ c κs. search needs) (λ c κs. search needs) (λ c. search needs) returns_3 enter_requires (λ c. search needs)
-    (λ c. search needs))
+    (λ c κs. search rules) (λ c κs. search rules) (λ c. search rules) returns
+    (λ c κs. (good_is _ _ (good c)).sound.symbols) (λ c κs. search rules)
+    (λ c. search rules) returns_2 (λ c κs. search rules) (λ c κs. search rules) (λ c. search rules) returns_3 enter_requires (λ c. search rules)
+    (λ c. search rules))

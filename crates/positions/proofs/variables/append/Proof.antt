@@ -1,6 +1,6 @@
 -- `variables::append` meets its contract: the symbols and the truth table come back at the fronts of their arrays.
 use Rattle.meaning.proofs.Kit.{◌≡◌, ◌∙◌, sym, ap, true, false, List, ◌++◌, ◌≤◌, ℕ, ◌*◌, ◌^◌, ◌%◌, arith, leb, pow_mono, length, drop, take, replicate}
-use Rattle.meaning.proofs.Kit.{length-append, length-replicate, length-take-le, take_at, needs, le-leb}
+use Rattle.meaning.proofs.Kit.{length-append, length-replicate, length-take-le, take_at, rules, le-leb}
 use Rattle.meaning.specs.Tests.{all, from}
 use Rattle.meaning.proofs.BySize.{length_from}
 use Rattle.meaning.proofs.Tests.{all_of, from_in}
@@ -77,7 +77,7 @@ mark_single_requires : tie.Need-mark-single-requires
 mark_single_requires c κs = (c.before.requires.2, falses c.before ∙ ap (λ (n : ℕ). replicate n false) (values_is c.before))
 
 list_symbols_requires : tie.Need-list-symbols-requires
-list_symbols_requires c κs = let s = start c in omega (arith, names s, s.pre.1)
+list_symbols_requires c κs = let s = start c in omega (arith, names s, s.requires.1)
 
 array_share_prefix_names : tie.Need-array-share-prefix-names
 array_share_prefix_names c =
@@ -131,6 +131,6 @@ returns c =
 
 pub append_spec : {M : Type 1} → statement M
 append_spec = tie.close (tie.spec
-    (λ c. search needs) (λ c. room c) slice_aggregate_mark_single mark_single_requires (λ c. search needs)
-    (λ c. sym (names (start c))) list_symbols_requires (λ c κs. search needs) array_share_prefix_names
-    slice_aggregate_append_rule array_share_prefix_truth slice_aggregate_append_rule_2 append_rule_requires (λ c. search needs) returns)
+    (λ c. search rules) (λ c. room c) slice_aggregate_mark_single mark_single_requires (λ c. search rules)
+    (λ c. sym (names (start c))) list_symbols_requires (λ c κs. search rules) array_share_prefix_names
+    slice_aggregate_append_rule array_share_prefix_truth slice_aggregate_append_rule_2 append_rule_requires (λ c. search rules) returns)

@@ -1,5 +1,5 @@
 -- `variables::enter` meets its contract: what appending tells is whether the rule fits, since a variable's rule is satisfiable.
-use Rattle.meaning.proofs.Kit.{◌≡◌, ◌∙◌, sym, ap, append-nil, ℕ, ◌-◌, suc, arith, length, needs}
+use Rattle.meaning.proofs.Kit.{◌≡◌, ◌∙◌, sym, ap, append-nil, ℕ, ◌-◌, suc, arith, length, rules}
 use Rattle.meaning.specs.Formulae.{Rule, rule_of}
 use Rattle.meaning.specs.Clauses.{rows_of}
 use Rattle.positions.specs.Positions.{Variable, exactly_one, positions, formulae_of}
@@ -104,5 +104,5 @@ returns_3 c =
 
 pub enter_spec : {M : Type 1} → statement M
 enter_spec = tie.close (tie.spec
-    append_requires (λ c. search needs) (λ c κs. search needs) (λ c. search needs) (λ c κs. search needs) (λ c. search needs) done_requires
-    (λ c. search needs) returns (λ c. search needs) returns_2 (λ c. search needs) returns_3)
+    append_requires (λ c. search rules) (λ c κs. search rules) (λ c. search rules) (λ c κs. search rules) (λ c. search rules) done_requires
+    (λ c. search rules) returns (λ c. search rules) returns_2 (λ c. search rules) returns_3)

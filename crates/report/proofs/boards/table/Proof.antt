@@ -1,5 +1,5 @@
 -- `table` is safe and ends: it writes no further than the table goes.
-use Rattle.meaning.proofs.Kit.{◌≡◌, ◌≤◌, ◌-◌, length, needs}
+use Rattle.meaning.proofs.Kit.{◌≡◌, ◌≤◌, ◌-◌, length, rules}
 use Rattle.report.proofs.boards.table.Statement.{statement}
 use Rattle.report.proofs.boards.table.Tie as tie
 
@@ -11,5 +11,5 @@ decreases_loop front t₀ k₀ t k = length front - k
 
 pub table_spec : {M : Type 1} → statement M
 table_spec = tie.close (tie.spec
-    invariant_loop decreases_loop (λ c. search needs) (λ c. search needs) (λ c. search needs) (λ c. search needs) (λ c. search needs) (λ c. search needs)
-    (λ c. search needs) (λ c. search needs) (λ c. search needs))
+    invariant_loop decreases_loop (λ c. search rules) (λ c. search rules) (λ c. search rules) (λ c. search rules) (λ c. search rules) (λ c. search rules)
+    (λ c. search rules) (λ c. search rules) (λ c. search rules))

@@ -1,5 +1,5 @@
 -- `three_rows` is safe and ends: it writes the nine numbers of each row.
-use Rattle.meaning.proofs.Kit.{◌≡◌, ◌≤◌, ◌-◌, length, needs}
+use Rattle.meaning.proofs.Kit.{◌≡◌, ◌≤◌, ◌-◌, length, rules}
 use Rattle.report.proofs.boards.three_rows.Statement.{statement}
 use Rattle.report.proofs.boards.three_rows.Tie as tie
 
@@ -11,6 +11,6 @@ decreases_loop first second third t₀ k₀ t k = 9 - k
 
 pub three_rows_spec : {M : Type 1} → statement M
 three_rows_spec = tie.close (tie.spec
-    invariant_loop decreases_loop (λ c. search needs) (λ c. search needs) (λ c. search needs) (λ c. search needs) (λ c. search needs) (λ c. search needs)
-    (λ c. search needs) (λ c. search needs) (λ c. search needs) (λ c. search needs) (λ c. search needs) (λ c. search needs) (λ c. search needs)
-    (λ c. search needs) (λ c. search needs) (λ c. search needs) (λ c. search needs) (λ c. (search needs, search needs)) (λ c. search needs))
+    invariant_loop decreases_loop (λ c. search rules) (λ c. search rules) (λ c. search rules) (λ c. search rules) (λ c. search rules) (λ c. search rules)
+    (λ c. search rules) (λ c. search rules) (λ c. search rules) (λ c. search rules) (λ c. search rules) (λ c. search rules) (λ c. search rules)
+    (λ c. search rules) (λ c. search rules) (λ c. search rules) (λ c. search rules) (λ c. (search rules, search rules)) (λ c. search rules))

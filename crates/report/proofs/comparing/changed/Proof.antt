@@ -1,5 +1,5 @@
 -- `changed` is safe and ends: it counts no more places than it has passed.
-use Rattle.meaning.proofs.Kit.{⊎_elim, ◌≤◌, ◌-◌, arith, length, needs}
+use Rattle.meaning.proofs.Kit.{⊎_elim, ◌≤◌, ◌-◌, arith, length, rules}
 use Rattle.report.proofs.comparing.changed.Statement.{statement}
 use Rattle.report.proofs.comparing.changed.Tie as tie
 
@@ -14,5 +14,5 @@ loop_again c = ⊎_elim (λ w. omega arith) (⊎_elim (λ w. omega arith) (λ w.
 
 pub changed_spec : {M : Type 1} → statement M
 changed_spec = tie.close (tie.spec
-    invariant_loop decreases_loop (λ c. search needs) (λ c. search needs) (λ c. search needs) (λ c. search needs) (λ c. search needs) (λ c. search needs)
-    (λ c. search needs) (λ c. search needs) loop_again (λ c. search needs))
+    invariant_loop decreases_loop (λ c. search rules) (λ c. search rules) (λ c. search rules) (λ c. search rules) (λ c. search rules) (λ c. search rules)
+    (λ c. search rules) (λ c. search rules) loop_again (λ c. search rules))

@@ -1,5 +1,5 @@
 -- `same_flags` is safe and ends: it reads the flags of both lists.
-use Rattle.meaning.proofs.Kit.{◌≤◌, ◌-◌, length, needs}
+use Rattle.meaning.proofs.Kit.{◌≤◌, ◌-◌, length, rules}
 use Rattle.report.proofs.comparing.same_flags.Statement.{statement}
 use Rattle.report.proofs.comparing.same_flags.Tie as tie
 
@@ -11,5 +11,5 @@ decreases_loop a b k₀ k = length a - k
 
 pub same_flags_spec : {M : Type 1} → statement M
 same_flags_spec = tie.close (tie.spec
-    invariant_loop decreases_loop (λ c. search needs) (λ c. search needs) (λ c. search needs) (λ c. search needs) (λ c. search needs) (λ c. search needs)
-    (λ c. search needs) (λ c. search needs))
+    invariant_loop decreases_loop (λ c. search rules) (λ c. search rules) (λ c. search rules) (λ c. search rules) (λ c. search rules) (λ c. search rules)
+    (λ c. search rules) (λ c. search rules))

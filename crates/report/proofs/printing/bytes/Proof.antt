@@ -1,5 +1,5 @@
 -- `bytes` is safe and ends: it reads the bytes of the list.
-use Rattle.meaning.proofs.Kit.{◌≤◌, ◌-◌, length, needs}
+use Rattle.meaning.proofs.Kit.{◌≤◌, ◌-◌, length, rules}
 use Rattle.report.proofs.printing.bytes.Statement.{statement}
 use Rattle.report.proofs.printing.bytes.Tie as tie
 
@@ -11,5 +11,5 @@ decreases_loop list n k₀ k = length list - k
 
 pub bytes_spec : {M : Type 1} → statement M
 bytes_spec = tie.close (tie.spec
-    invariant_loop decreases_loop (λ c. search needs) (λ c. search needs) (λ c κs. search needs) (λ c. search needs) (λ c. search needs) (λ c. search needs)
-    (λ c. search needs))
+    invariant_loop decreases_loop (λ c. search rules) (λ c. search rules) (λ c κs. search rules) (λ c. search rules) (λ c. search rules) (λ c. search rules)
+    (λ c. search rules))

@@ -1,5 +1,5 @@
 -- `numbers` is safe and ends: it reads the numbers of the row.
-use Rattle.meaning.proofs.Kit.{◌≤◌, ◌-◌, length, needs}
+use Rattle.meaning.proofs.Kit.{◌≤◌, ◌-◌, length, rules}
 use Rattle.report.proofs.printing.numbers.Statement.{statement}
 use Rattle.report.proofs.printing.numbers.Tie as tie
 
@@ -11,5 +11,5 @@ decreases_loop row k₀ t4 k = length row - k
 
 pub numbers_spec : {M : Type 1} → statement M
 numbers_spec = tie.close (tie.spec
-    invariant_loop decreases_loop (λ c. search needs) (λ c κs. search needs) (λ c. search needs) (λ c. search needs) (λ c. search needs) (λ c κs. search needs)
-    (λ c. search needs) (λ c. search needs) (λ c. search needs) (λ c. search needs) (λ c κs. search needs) (λ c. search needs))
+    invariant_loop decreases_loop (λ c. search rules) (λ c κs. search rules) (λ c. search rules) (λ c. search rules) (λ c. search rules) (λ c κs. search rules)
+    (λ c. search rules) (λ c. search rules) (λ c. search rules) (λ c. search rules) (λ c κs. search rules) (λ c. search rules))

@@ -1,5 +1,5 @@
 -- `premises` is safe and ends: it reads the flags of the premises.
-use Rattle.meaning.proofs.Kit.{◌≤◌, ◌-◌, length, needs}
+use Rattle.meaning.proofs.Kit.{◌≤◌, ◌-◌, length, rules}
 use Rattle.report.proofs.printing.premises.Statement.{statement}
 use Rattle.report.proofs.printing.premises.Tie as tie
 
@@ -11,5 +11,5 @@ decreases_loop held k₀ t4 k = length held - k
 
 pub premises_spec : {M : Type 1} → statement M
 premises_spec = tie.close (tie.spec
-    invariant_loop decreases_loop (λ c. search needs) (λ c κs. search needs) (λ c. search needs) (λ c. search needs) (λ c. search needs) (λ c κs. search needs)
-    (λ c. search needs) (λ c. search needs) (λ c. search needs) (λ c. search needs) (λ c κs. search needs) (λ c. search needs))
+    invariant_loop decreases_loop (λ c. search rules) (λ c κs. search rules) (λ c. search rules) (λ c. search rules) (λ c. search rules) (λ c κs. search rules)
+    (λ c. search rules) (λ c. search rules) (λ c. search rules) (λ c. search rules) (λ c κs. search rules) (λ c. search rules))

@@ -1,6 +1,6 @@
 -- `rounds::marks::mark_all` meets its contract. The loop's invariant: the row's literals that were passed are marked, and in the queue.
 -- The measure is what is left of the eight numbers.
-use Rattle.meaning.proofs.Kit.{◌≡◌, ◌∙◌, refl, ◌≤◌, ◌-◌, arith, length, needs}
+use Rattle.meaning.proofs.Kit.{◌≡◌, ◌∙◌, refl, ◌≤◌, ◌-◌, arith, length, rules}
 use Rattle.literals.specs.Row.{most_literals, numbers_at, decode}
 use Rattle.findings.specs.Queue.{Room, Queued}
 use Rattle.findings.proofs.Queueing.{queued_none, queued_more, room_after}
@@ -30,7 +30,7 @@ at c = c.before.before.before.before
 -- the number that the loop reads, and the literal that it is
 here : (c : tie.After-l invariant_loop decreases_loop)
     → let l = c.before.before in let a = (start l).args in Here (length a.ranks.now) a.table.now a.row l.loop.j
-here c = record { fit = (start c.before.before).pre.0; inside = c.before.loop-test.true; fits = record { sfits = c.l.given } }
+here c = record { fit = (start c.before.before).requires.0; inside = c.before.loop-test.true; fits = record { sfits = c.l.given } }
 
 read : (p : tie.After-place invariant_loop decreases_loop)
     → let a = (start (at p)).args in Literal (length a.ranks.now) a.table.now a.row (at p).loop.j p.place.result
@@ -42,24 +42,24 @@ room l = let i = l.loop.invariant in room_after (start l).requires.1.1 i.4 i.1 i
 loop_holds : tie.Need-loop-init invariant_loop decreases_loop
 loop_holds c =
     let a = c.before.before in
-    (search needs, refl, refl, rw (left_all a.args.table.now a.args.row) (passed_none a.requires.1.0), queued_none a.requires.1.1.count)
+    (search rules, refl, refl, rw (left_all a.args.table.now a.args.row) (passed_none a.requires.1.0), queued_none a.requires.1.1.count)
 
 mark_place_requires : tie.Need-mark-place-requires invariant_loop decreases_loop
 mark_place_requires c κs =
     let p = c.before.before in
-    (omega (arith, (read p).inside, (at p).loop.invariant.1), ((start (at p)).pre.1.0, room (at p)))
+    (omega (arith, (read p).inside, (at p).loop.invariant.1), ((start (at p)).requires.1.0, room (at p)))
 
 loop_again : tie.Need-loop-preserved invariant_loop decreases_loop
 loop_again c =
     let m = marked c in
     let p = m.before.before.before in
     let l = at p in
-    let i = l.loop.inv in
+    let i = l.loop.invariant in
     let e = m.mark-place.ensures in (
       omega arith,
       m.mark-place.kept.1.0 ∙ i.1,
       m.mark-place.kept.1.1.1.0 ∙ i.2,
-      passed_more (start l).pre.1.0 (rw (read p).first at i.3) e.0,
+      passed_more (start l).requires.1.0 (rw (read p).first at i.3) e.0,
       queued_more i.1 i.4 e.1,
     )
 

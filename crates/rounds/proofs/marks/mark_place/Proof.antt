@@ -1,5 +1,5 @@
 -- `rounds::marks::mark_place` meets its contract.
-use Rattle.meaning.proofs.Kit.{◌≡◌, ap, true, false, not, ◌<◌, arith, length, get_or, needs, ne_eqb, eq-eqb}
+use Rattle.meaning.proofs.Kit.{◌≡◌, ap, true, false, not, ◌<◌, arith, length, get_or, rules, ne_eqb, eq-eqb}
 use Rattle.meaning.specs.Tests.{none}
 use Rattle.findings.proofs.Queueing.{queued_none, queued_one, queued_free}
 use Rattle.rounds.specs.Queue.{ranked}
@@ -26,5 +26,5 @@ returns_2 c =
 
 pub mark_place_spec : {M : Type 1} → statement M
 mark_place_spec = tie.close (tie.spec
-    (λ c. search needs) (λ c. search needs) returns (λ c. search needs) (λ c. search needs) (λ c. search needs) (λ c. omega (arith, free c)) free
-    (λ c. omega (arith, free c)) (λ c. search needs) (λ c. search needs) returns_2)
+    (λ c. search rules) (λ c. search rules) returns (λ c. search rules) (λ c. search rules) (λ c. search rules) (λ c. omega (arith, free c)) free
+    (λ c. omega (arith, free c)) (λ c. search rules) (λ c. search rules) returns_2)

@@ -1,5 +1,5 @@
 -- `rounds::marks::mark_row` meets its contract: which literals a row gives follows from which are open.
-use Rattle.meaning.proofs.Kit.{◌∙◌, sym, needs}
+use Rattle.meaning.proofs.Kit.{◌∙◌, sym, rules}
 use Rattle.literals.proofs.Scanning.{row_in}
 use Rattle.findings.proofs.Queueing.{queued_none}
 use Rattle.rounds.proofs.OpenLiterals.{gives_all, gives_one, gives_nothing, one_in}
@@ -23,7 +23,7 @@ mark_place_requires c κs =
     let o = k.before.before.before in
     let a = start o in
     let is = sym k.before.p.given.1 ∙ o.open_in.ensures in
-    (row_in _ _ _ a.pre.0 (one_in _ _ _ is), (a.pre.1.0, a.pre.1.1))
+    (row_in _ _ _ a.requires.0 (one_in _ _ _ is), (a.requires.1.0, a.requires.1.1))
 
 returns : tie.Need-returns
 returns c =
@@ -51,5 +51,5 @@ returns_3 c =
 
 pub mark_row_spec : {M : Type 1} → statement M
 mark_row_spec = tie.close (tie.spec
-    (λ c κs. search needs) (λ c. search needs) (λ c κs. search needs) (λ c. search needs) mark_place_requires (λ c. search needs) (λ c. search needs)
-    (λ c. search needs) returns (λ c. search needs) (λ c. search needs) returns_2 (λ c. search needs) returns_3)
+    (λ c κs. search rules) (λ c. search rules) (λ c κs. search rules) (λ c. search rules) mark_place_requires (λ c. search rules) (λ c. search rules)
+    (λ c. search rules) returns (λ c. search rules) (λ c. search rules) returns_2 (λ c. search rules) returns_3)

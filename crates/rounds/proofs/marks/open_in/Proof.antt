@@ -1,6 +1,6 @@
 -- `rounds::marks::open_in` meets its contract. The loop's invariant: the open literals of the row are the one that was found and those
 -- of what is left of the row. The measure is what is left of the eight numbers.
-use Rattle.meaning.proofs.Kit.{◌≡◌, refl, ⊎_elim, inl, inr, [], ◌≤◌, ◌<◌, ◌-◌, arith, length, needs, not-false, not-true, eqb-true, eqb-false}
+use Rattle.meaning.proofs.Kit.{◌≡◌, refl, ⊎_elim, inl, inr, [], ◌≤◌, ◌<◌, ◌-◌, arith, length, rules, not-false, not-true, eqb-true, eqb-false}
 use Rattle.meaning.specs.Literals.{opp}
 use Rattle.literals.specs.Literal.{place_of}
 use Rattle.literals.specs.Row.{most_literals, numbers_at, decode}
@@ -31,7 +31,7 @@ at c = c.before.before.before
 -- the number that the loop reads, and the literal that it is
 here : (c : tie.After-l invariant_loop decreases_loop)
     → let l = c.before.before in let a = (start l).args in Here (length a.ranks.now) a.table.now a.row l.loop.j
-here c = record { fit = (start c.before.before).pre; inside = c.before.loop-test.true; fits = record { sfits = c.l.given } }
+here c = record { fit = (start c.before.before).requires; inside = c.before.loop-test.true; fits = record { sfits = c.l.given } }
 
 read : (e : tie.Else1 invariant_loop decreases_loop) → let j = (at e).loop.j in let a = (start (at e)).args in
     Literal (length a.ranks.now) a.table.now a.row j (place_of (back (number_at a.table.now a.row j)))
@@ -51,13 +51,13 @@ at_end : (c : tie.Left-loop invariant_loop decreases_loop) → let l = c.before 
 at_end c =
     let l = c.before in
     let none =
-    ⊎_elim (λ w. left_last _ (start l).requires l.loop.j w.left)
-    (λ w. left_end (here (record { before = record { before = l; loop-test = w.0 }; l = w.1 })) w.2.taken)
+    ⊎_elim (λ w. left_last _ (start l).requires l.loop.j w.false)
+    (λ w. left_end (here (record { before = record { before = l; loop-test = w.0 }; l = w.1 })) w.2.true)
     c.loop-test.branch in
     rw none at l.loop.invariant.1
 
 loop_holds : tie.Need-loop-init invariant_loop decreases_loop
-loop_holds c = let a = c.before.args in (search needs, rw (left_all a.table.now a.row) found_none)
+loop_holds c = let a = c.before.args in (search rules, rw (left_all a.table.now a.row) found_none)
 
 returns : tie.Need-returns invariant_loop decreases_loop
 returns c =
@@ -66,7 +66,7 @@ returns c =
     let a = (start (at e)).args in
     let l = read e in
     let no = known_no a.ranks.now a.k l (other o) c.before.before.if2.true in
-    found_two (rw l.first at (at e).loop.inv.1) l no c.before.if3.true (eqb-false _ _ (not-true _ c.if4.true))
+    found_two (rw l.first at (at e).loop.invariant.1) l no c.before.if3.true (eqb-false _ _ (not-true _ c.if4.true))
 
 loop_again : tie.Need-loop-preserved invariant_loop decreases_loop
 loop_again c =
@@ -78,9 +78,9 @@ loop_again c =
       omega arith,
       ⊎_elim
           (λ y. rw y.2
-          (found_one w l (known_no a.ranks.now a.k l (other o) y.0.taken)
-          (⊎_elim (λ x. inr (eqb-true _ _ (not-false _ x.1.left))) (λ x. inl x.left) y.1.came)))
-          (λ y. rw y.1 (found_known w (known_yes a.ranks.now a.k l (other o) y.0.left)))
+          (found_one w l (known_no a.ranks.now a.k l (other o) y.0.true)
+          (⊎_elim (λ x. inr (eqb-true _ _ (not-false _ x.1.false))) (λ x. inl x.false) y.1.branch)))
+          (λ y. rw y.1 (found_known w (known_yes a.ranks.now a.k l (other o) y.0.false)))
           c.if2.branch,
     )
 

@@ -1,5 +1,5 @@
 -- `rounds::propagation::propagate` meets its contract: without rows only the premises have a rank, and nothing has a support.
-use Rattle.meaning.proofs.Kit.{◌∙◌, arith, length, needs}
+use Rattle.meaning.proofs.Kit.{◌∙◌, arith, length, rules}
 use Rattle.literals.specs.Row.{rows_in}
 use Rattle.literals.proofs.Scanning.{few_places}
 use Rattle.findings.proofs.Final.{no_supports}
@@ -27,8 +27,8 @@ returns c =
     let s = start t in
     let a = s.args in
     let places = length a.ranks.now in
-    rw t.if1.taken (
-      r.start-ranks.ensures ∙ no_rows places a.held.now (omega (arith, few_places s.pre.0)),
+    rw t.if1.true (
+      r.start-ranks.ensures ∙ no_rows places a.held.now (omega (arith, few_places s.requires.0)),
       e.clear.ensures ∙ no_supports places a.held.now (length a.supports.now) a.from,
     )
 
@@ -37,5 +37,5 @@ propagate_all_requires c κs = let p = (entry c).requires in record { fit = p.0;
 
 pub propagate_spec : {M : Type 1} → statement M
 propagate_spec = tie.close (tie.spec
-    (λ c κs. (start c.before).requires.1.0) (λ c κs. search needs) (λ c. search needs) (λ c. search needs) returns
-    (λ c. search needs) (λ c. search needs) propagate_all_requires (λ c. search needs) (λ c. search needs) (λ c. search needs))
+    (λ c κs. (start c.before).requires.1.0) (λ c κs. search rules) (λ c. search rules) (λ c. search rules) returns
+    (λ c. search rules) (λ c. search rules) propagate_all_requires (λ c. search rules) (λ c. search rules) (λ c. search rules))

@@ -1,5 +1,5 @@
 -- `rounds::propagation::propagate_all` meets its contract: where the rows are not few, what it lends has room for any rows.
-use Rattle.meaning.proofs.Kit.{◌≡◌, sym, ℕ, ◌*◌, arith, length, take, replicate, needs}
+use Rattle.meaning.proofs.Kit.{◌≡◌, sym, ℕ, ◌*◌, arith, length, take, replicate, rules}
 use Rattle.meaning.specs.Tests.{none}
 use Rattle.literals.specs.Row.{most_literals}
 use Rattle.literals.proofs.Scanning.{few_places}
@@ -20,13 +20,13 @@ counts s = part_long _ 2048 0 s.requires.fit.2.rows
 propagate_in_requires : tie.Need-propagate-in-requires
 propagate_in_requires c κs =
     let s = start c.before.before.before in
-    let few = few_places s.pre.fit in
-    (s.pre, (part_same _ 400 none few, (links s, omega (arith, part_long {A = ℕ} (length s.args.ranks.now) 400 0 few), counts s)))
+    let few = few_places s.requires.fit in
+    (s.requires, (part_same _ 400 none few, (links s, omega (arith, part_long {A = ℕ} (length s.args.ranks.now) 400 0 few), counts s)))
 
 pub propagate_all_spec : {M : Type 1} → statement M
 propagate_all_spec = tie.close (tie.spec
-    (λ c κs. search needs) (λ c. search needs) (λ c. search needs) (λ c. search needs) (λ c. search needs) (λ c. search needs) (λ c. search needs)
-    (λ c. sym (part_long _ 400 none (few_places (start c).requires.fit))) (λ c. search needs) (λ c. sym (links (start c.before))) (λ c. search needs)
-    (λ c. sym (part_long _ 400 0 (few_places (start c.before.before).requires.fit))) (λ c. search needs)
-    (λ c. sym (counts (start c.before.before.before))) propagate_in_requires (λ c. search needs) (λ c. search needs) (λ c. search needs)
-    (λ c. search needs))
+    (λ c κs. search rules) (λ c. search rules) (λ c. search rules) (λ c. search rules) (λ c. search rules) (λ c. search rules) (λ c. search rules)
+    (λ c. sym (part_long _ 400 none (few_places (start c).requires.fit))) (λ c. search rules) (λ c. sym (links (start c.before))) (λ c. search rules)
+    (λ c. sym (part_long _ 400 0 (few_places (start c.before.before).requires.fit))) (λ c. search rules)
+    (λ c. sym (counts (start c.before.before.before))) propagate_in_requires (λ c. search rules) (λ c. search rules) (λ c. search rules)
+    (λ c. search rules))

@@ -1,5 +1,5 @@
 -- `rounds::propagation::propagate_few` meets its contract: what it lends has room for so few rows.
-use Rattle.meaning.proofs.Kit.{◌≡◌, sym, ℕ, ◌*◌, arith, length, take, replicate, needs}
+use Rattle.meaning.proofs.Kit.{◌≡◌, sym, ℕ, ◌*◌, arith, length, take, replicate, rules}
 use Rattle.meaning.specs.Tests.{none}
 use Rattle.literals.specs.Row.{most_literals}
 use Rattle.literals.proofs.Scanning.{few_places}
@@ -20,12 +20,12 @@ counts s = part_long _ 64 0 s.requires.1
 propagate_in_requires : tie.Need-propagate-in-requires
 propagate_in_requires c κs =
     let s = start c.before.before.before in
-    let few = few_places s.pre.0.fit in
-    (s.pre.0, (part_same _ 400 none few, (links s, omega (arith, part_long {A = ℕ} (length s.args.ranks.now) 400 0 few), counts s)))
+    let few = few_places s.requires.0.fit in
+    (s.requires.0, (part_same _ 400 none few, (links s, omega (arith, part_long {A = ℕ} (length s.args.ranks.now) 400 0 few), counts s)))
 
 pub propagate_few_spec : {M : Type 1} → statement M
 propagate_few_spec = tie.close (tie.spec
-    (λ c. search needs) (λ c. search needs) (λ c. sym (part_long _ 400 none (few_places (start c).requires.0.fit))) (λ c. search needs)
-    (λ c. sym (links (start c.before))) (λ c. search needs) (λ c. sym (part_long _ 400 0 (few_places (start c.before.before).requires.0.fit)))
-    (λ c. search needs) (λ c. sym (counts (start c.before.before.before))) propagate_in_requires (λ c. search needs) (λ c. search needs)
-    (λ c. search needs) (λ c. search needs))
+    (λ c. search rules) (λ c. search rules) (λ c. sym (part_long _ 400 none (few_places (start c).requires.0.fit))) (λ c. search rules)
+    (λ c. sym (links (start c.before))) (λ c. search rules) (λ c. sym (part_long _ 400 0 (few_places (start c.before.before).requires.0.fit)))
+    (λ c. search rules) (λ c. sym (counts (start c.before.before.before))) propagate_in_requires (λ c. search rules) (λ c. search rules)
+    (λ c. search rules) (λ c. search rules))

@@ -1,5 +1,5 @@
 -- `rounds::propagation::propagate_in` meets its contract: the index is filled, the ranks are written by it, and the supports and marks from both.
-use Rattle.meaning.proofs.Kit.{◌≡◌, ◌∙◌, sym, ap, ⊎_elim, arith, length, length-replicate, needs}
+use Rattle.meaning.proofs.Kit.{◌≡◌, ◌∙◌, sym, ap, ⊎_elim, arith, length, length-replicate, rules}
 use Rattle.literals.specs.Row.{rows_in, Fit}
 use Rattle.literals.proofs.Scanning.{few_places}
 use Rattle.index.specs.Index.{heads_of, Index}
@@ -58,13 +58,13 @@ marked c = c.before.before.before.before.before.before
 fill_requires : tie.Need-fill-requires
 fill_requires c κs =
     let s = entry c in
-    let fit : Fit (length s.args.heads.now) s.args.rows s.args.table.now = rw (long s) s.pre.0.fit in
-    (fit, ((s.pre.1.1.0, s.pre.1.1.2), rw (long s) s.pre.1.0))
+    let fit : Fit (length s.args.heads.now) s.args.rows s.args.table.now = rw (long s) s.requires.0.fit in
+    (fit, ((s.requires.1.1.0, s.requires.1.1.2), rw (long s) s.requires.1.0))
 
 rank_all_requires : tie.Need-rank-all-requires
 rank_all_requires c κs =
     let f = indexed c in
-    let p = (start f).pre in
+    let p = (start f).requires in
     (p.0.fit, (index f, ((p.0.flags, p.1.1.1), f.fill.ensures.1.1)))
 
 reach_asked_requires : tie.Need-reach-asked-requires
@@ -74,19 +74,19 @@ reach_asked_requires c κs =
     let f = filling r in
     let s = start f in
     let a = s.args in
-    let l : length a.marks.now ≡ length a.ranks.now = t.if1.taken ∙ same r in
-    let fit : Fit (length a.marks.now) a.rows a.table.now = rw l s.pre.0.fit in
-    (fit, (rw l (index f), (omega (arith, l, s.pre.0.flags), (rw l r.rank-all.ensures.0, rw l (s.pre.0.unset l)))))
+    let l : length a.marks.now ≡ length a.ranks.now = t.if1.true ∙ same r in
+    let fit : Fit (length a.marks.now) a.rows a.table.now = rw l s.requires.0.fit in
+    (fit, (rw l (index f), (omega (arith, l, s.requires.0.flags), (rw l r.rank-all.ensures.0, rw l (s.requires.0.unset l)))))
 
 write_supports_requires : tie.Need-write-supports-requires
 write_supports_requires c κs =
     let r = ranked c in
     let f = filling r in
     let s = start f in
-    let fit : Fit (length r.rank-all.last.1.1.1.1.1.0) s.args.rows s.args.table.now = rw (same r) s.pre.0.fit in
+    let fit : Fit (length r.rank-all.last.1.1.1.1.1.0) s.args.rows s.args.table.now = rw (same r) s.requires.0.fit in
     let all = r.rank-all.ensures.1 in
     let queue = r.rank-all.kept.1.1.1.1.1.1.0 in
-    (fit, (rw (same r) (index f), (omega (arith, s.pre.0.inside, same r), (all, omega (arith, all.few, same r, s.pre.1.1.1, queue)))))
+    (fit, (rw (same r) (index f), (omega (arith, s.requires.0.inside, same r), (all, omega (arith, all.few, same r, s.requires.1.1.1, queue)))))
 
 same_length_3 : tie.Need-same-length-3
 same_length_3 c = ⊎_elim (λ y. ap length y.8 ∙ y.5.kept.1.1.1.1.1.1.1.0) (λ n. ap length n.1) (marked c.before.before).if1.branch
@@ -100,18 +100,18 @@ returns c =
     let places = length a.ranks.now in
     let rows = rows_in a.rows a.table.now in
     let ranks = r.rank-all.ensures.0 in
-    let small = few_places s.pre.0.fit in
+    let small = few_places s.requires.0.fit in
     record {
       ranks_are = ranks;
       supports_are = w.write-supports.ensures
-          ∙ supports_are places rows a.held.now (omega (arith, small)) ranks (length a.supports.now) a.from s.pre.0.inside;
+          ∙ supports_are places rows a.held.now (omega (arith, small)) ranks (length a.supports.now) a.from s.requires.0.inside;
       marks_are = λ all. ⊎_elim
           (λ y. y.8 ∙ y.5.ensures ∙ ap (λ n. reached_asked n rows a.held.now a.p) all)
-          (λ n. absurd (n.0.left (all ∙ sym (same r))))
+          (λ n. absurd (n.0.false (all ∙ sym (same r))))
           (marked w).if1.branch;
     }
 
 pub propagate_in_spec : {M : Type 1} → statement M
 propagate_in_spec = tie.close (tie.spec
-    fill_requires rank_all_requires reach_asked_requires write_supports_requires (λ c. search needs) (λ c. search needs) same_length_3
-    (λ c. search needs) (λ c. search needs) (λ c. search needs) (λ c. search needs) returns)
+    fill_requires rank_all_requires reach_asked_requires write_supports_requires (λ c. search rules) (λ c. search rules) same_length_3
+    (λ c. search rules) (λ c. search rules) (λ c. search rules) (λ c. search rules) returns)

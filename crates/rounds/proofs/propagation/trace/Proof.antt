@@ -1,5 +1,5 @@
 -- `rounds::propagation::trace` meets its contract.
-use Rattle.meaning.proofs.Kit.{arith, needs}
+use Rattle.meaning.proofs.Kit.{arith, rules}
 use Rattle.rounds.proofs.propagation.trace.Statement.{statement}
 use Rattle.rounds.proofs.propagation.trace.Tie as tie
 
@@ -19,4 +19,4 @@ returns c =
 
 pub trace_spec : {M : Type 1} → statement M
 trace_spec = tie.close (tie.spec
-    (λ c. search needs) (λ c. search needs) propagate_all_requires (λ c. search needs) (λ c. search needs) returns)
+    (λ c. search rules) (λ c. search rules) propagate_all_requires (λ c. search rules) (λ c. search rules) returns)

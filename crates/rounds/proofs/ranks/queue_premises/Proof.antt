@@ -17,11 +17,11 @@ start l = l.before.before.before
 
 -- the places are few
 small : (n : tie.In-loop invariant_loop decreases_loop) → n.before.loop.p < none
-small n = omega (arith, n.loop-test.true, (start n.before).pre.2)
+small n = omega (arith, n.loop-test.true, (start n.before).requires.2)
 
 -- there is a place in the queue for the premise in hand
 free : (n : tie.In-loop invariant_loop decreases_loop) → n.before.loop.end < length n.before.loop.queue
-free n = let i = n.before.loop.invariant in omega (arith, n.loop-test.true, i.1, premises_few i.2, (start n.before).pre.1)
+free n = let i = n.before.loop.invariant in omega (arith, n.loop-test.true, i.1, premises_few i.2, (start n.before).requires.1)
 
 loop_again : tie.Need-loop-preserved invariant_loop decreases_loop
 loop_again c =
@@ -43,9 +43,9 @@ loop_again_2 c =
     (λ y. (
       omega (arith, n.loop-test.true),
       rw y.1 (length-set l.loop.queue l.loop.end p ∙ i.1),
-      rw (y.1, y.2) (premises_held i.2 y.0.taken room),
+      rw (y.1, y.2) (premises_held i.2 y.0.true room),
     ))
-    (λ y. (omega (arith, n.loop-test.true), rw y.1 i.1, rw (y.1, y.2) (premises_not i.2 y.0.left)))
+    (λ y. (omega (arith, n.loop-test.true), rw y.1 i.1, rw (y.1, y.2) (premises_not i.2 y.0.false)))
     c.if3.branch
 
 returns : tie.Need-returns invariant_loop decreases_loop

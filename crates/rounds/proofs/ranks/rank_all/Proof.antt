@@ -92,7 +92,7 @@ queue_premises_requires c κs =
     let b = c.before.before.before in
     let s = enter b in
     let kept = b.start-ranks.auto.1.0 in
-    (omega (arith, kept, s.pre.1.1.0.0), omega (arith, kept, s.pre.1.1.0.1), omega (arith, kept, few_places s.pre.0))
+    (omega (arith, kept, s.requires.1.1.0.0), omega (arith, kept, s.requires.1.1.0.1), omega (arith, kept, few_places s.requires.0))
 
 loop_holds : tie.Need-loop-init invariant_loop decreases_loop
 loop_holds c =
@@ -111,13 +111,13 @@ loop_holds c =
       is ∙ start_ranks_is (length ranks) (rows_in a.rows a.table.now) a.held.now,
       record {
         count = first.0;
-        long = omega (arith, kept, q.queue-premises.auto.1.1.0, s.pre.1.1.0.1);
-        few = omega (arith, kept, few_places s.pre.0);
+        long = omega (arith, kept, q.queue-premises.auto.1.1.0, s.requires.1.1.0.1);
+        few = omega (arith, kept, few_places s.requires.0);
       },
       first.1,
       refl,
-      counts_start a.rows a.table.now s.pre.1.1.1,
-      λ z. s.pre.1.1.1,
+      counts_start a.rows a.table.now s.requires.1.1.1,
+      λ z. s.requires.1.1.1,
     )
 
 round_requires : tie.Need-round-requires invariant_loop decreases_loop
@@ -127,10 +127,10 @@ round_requires c κs =
     let s = start l in
     let a = s.args in
     let few : l.loop.k + 1 < none = omega (arith, early l, small l) in
-    let fit : Fit (length l.loop.ranks) a.rows a.table.now = rw (same l) s.pre.0 in
-    let index : Index (length l.loop.ranks) a.rows a.table.now a.heads.now a.links.now = rw (same l) s.pre.1.0 in
+    let fit : Fit (length l.loop.ranks) a.rows a.table.now = rw (same l) s.requires.0 in
+    let index : Index (length l.loop.ranks) a.rows a.table.now a.heads.now a.links.now = rw (same l) s.requires.1.0 in
     let counted : length l.loop.counts ≡ a.rows =
-    i.7 ∙ counts_long a.rows a.table.now s.pre.1.1.1 in
+    i.7 ∙ counts_long a.rows a.table.now s.requires.1.1.1 in
     let next : Turn (places l) (rows l) (held l) l.loop.k l.loop.ranks (ranks_after (l.loop.k + 1) (rows l) l.loop.ranks) =
     record { small = omega (arith, few); before = is_by l; step = refl } in
     (fit, (index, ((few, i.0, counted), (i.5, (i.6, (round_settled _ _ _ next, (i.8, i.9)))))))
@@ -156,7 +156,7 @@ loop_again : tie.Need-loop-preserved invariant_loop decreases_loop
 loop_again c =
     let r = on c in
     let l = at r in
-    let i = l.loop.inv in
+    let i = l.loop.invariant in
     let e = r.round.ensures in
     let q = e.1.0 in
     let kept = r.round.kept.1.1.1.1 in (
@@ -176,10 +176,10 @@ same_length_2 : tie.Need-same-length-2 invariant_loop decreases_loop
 same_length_2 c =
     let r = last c in
     let l = at r in
-    r.round.kept.1.1.1.1.1.1.0 ∙ l.loop.inv.3 ∙ (put l).queue-premises.kept.1.1.0
+    r.round.kept.1.1.1.1.1.1.0 ∙ l.loop.invariant.3 ∙ (put l).queue-premises.kept.1.1.0
 
 same_length_3 : tie.Need-same-length-3 invariant_loop decreases_loop
-same_length_3 c = let r = last c in r.round.kept.1.1.1.1.1.1.1.1.1.0 ∙ (at r).loop.inv.7
+same_length_3 c = let r = last c in r.round.kept.1.1.1.1.1.1.1.1.1.0 ∙ (at r).loop.invariant.7
 
 -- a round that puts nothing into the queue leaves the ranks
 no_more : (r : tie.After-round invariant_loop decreases_loop) → r.round.result ≡ (at r).loop.to → r.round.new.1.1.1.1.0 ≡ (at r).loop.ranks
@@ -190,7 +190,7 @@ returns c =
     let r = last c in
     let l = at r in
     let still = no_more r c.if1.true in
-    let i = l.loop.inv in
+    let i = l.loop.invariant in
     let queue = r.round.last.1.1.1.1.1.1.0 in
     let all : AllQueued l.loop.ranks queue l.loop.to =
     frontier_all i.0 (omega (arith, most l, same l)) (frontier_kept i.0 r.round.ensures.1.0.kept i.6)
@@ -201,6 +201,6 @@ returns c =
 
 pub rank_all_spec : {M : Type 1} → statement M
 rank_all_spec = tie.close (tie.spec
-    invariant_loop decreases_loop (λ c κs. let s = entry c in s.pre.1.1.0.0) queue_premises_requires loop_holds round_requires
+    invariant_loop decreases_loop (λ c κs. let s = entry c in s.requires.1.1.0.0) queue_premises_requires loop_holds round_requires
     (λ c. let l = at (on c) in omega (arith, early l, small l)) loop_less loop_again
     (λ c. let r = last c in r.round.kept.1.1.1.1.0 ∙ same (at r)) same_length_2 same_length_3 returns)

@@ -1,6 +1,6 @@
 -- `rounds::ranks::round` meets its contract: only a row that contains the opposite of a place of rank k, or in round 1 a row that counts one
 -- literal or none, can give something new.
-use Rattle.meaning.proofs.Kit.{◌∙◌, ⊎_elim, ◌≤◌, arith, length, needs}
+use Rattle.meaning.proofs.Kit.{◌∙◌, ⊎_elim, ◌≤◌, arith, length, rules}
 use Rattle.literals.specs.Row.{Fit}
 use Rattle.index.specs.Index.{Index}
 use Rattle.findings.proofs.Queueing.{queued_more, room_after, counted_le}
@@ -32,25 +32,25 @@ begun : (j : tie.Joined1)
     Begun a.k a.rows a.table.now a.counts.now a.ranks.now j.if1.ranks a.queue.now a.to j.if1.queue j.if1.end
 begun j =
     ⊎_elim
-    (λ y. (let u = y.4 in begun_first y.0.taken y.9 y.10 y.11 u.kept.1.1.0 u.kept.1.1.1.0 u.ensures.0 u.ensures.1))
-    (λ y. begun_later y.0.left y.1 y.2 y.3 (start j).requires.1.1.1.0.count)
+    (λ y. (let u = y.4 in begun_first y.0.true y.9 y.10 y.11 u.kept.1.1.0 u.kept.1.1.1.0 u.ensures.0 u.ensures.1))
+    (λ y. begun_later y.0.false y.1 y.2 y.3 (start j).requires.1.1.1.0.count)
     j.if1.branch
 
 visit_units_requires : tie.Need-visit-units-requires
 visit_units_requires c κs =
     let t = c.before.before.before in
     let s = first t in
-    (s.pre.0, (s.pre.1.1.1.1.1.1.1 t.if1.true, s.pre.1.1.1.0))
+    (s.requires.0, (s.requires.1.1.1.1.1.1.1 t.if1.true, s.requires.1.1.1.0))
 
 visit_rows_requires : tie.Need-visit-rows-requires
 visit_rows_requires c κs =
     let j = c.before.before.before in
     let s = start j in
     let a = s.args in
-    let p = s.pre.1.1 in
+    let p = s.requires.1.1 in
     let b = begun j in
-    let fit : Fit (length j.if1.ranks) a.rows a.table.now = rw b.long s.pre.0 in
-    let index : Index (length j.if1.ranks) a.rows a.table.now a.heads.now a.links.now = rw b.long s.pre.1.0 in
+    let fit : Fit (length j.if1.ranks) a.rows a.table.now = rw b.long s.requires.0 in
+    let index : Index (length j.if1.ranks) a.rows a.table.now a.heads.now a.links.now = rw b.long s.requires.1.0 in
     let room = room_after p.1.0 b.queued b.long b.room in
     let front = begun_front b p.0.1 p.1.1.0 in
     let counts =
@@ -65,10 +65,10 @@ returns c =
     let v = visited c in
     let j = joined v in
     let s = start j in
-    let p = s.pre.1.1 in
+    let p = s.requires.1.1 in
     let b = begun j in
     let e = v.visit-rows.ensures in (
-      begun_whole b p.0.1 p.1.1.0 p.0.0 s.pre.0 (in_queue s) p.1.1.1.0 e.0 e.1.1.0 e.1.1.1,
+      begun_whole b p.0.1 p.1.1.0 p.0.0 s.requires.0 (in_queue s) p.1.1.1.0 e.0 e.1.1.0 e.1.1.1,
       (
         queued_more b.long b.queued e.1.0,
         counts_kept (omega (arith, b.room, in_queue s)) v.visit-rows.kept.1.1.1.1.1.1.0
@@ -78,5 +78,5 @@ returns c =
 
 pub round_spec : {M : Type 1} → statement M
 round_spec = tie.close (tie.spec
-    visit_units_requires (λ c. search needs) visit_rows_requires
-    (λ c. let v = visited c in v.visit-rows.kept.1.1.1.1.0 ∙ (begun (joined v)).long) same_length_2 (λ c. search needs) returns)
+    visit_units_requires (λ c. search rules) visit_rows_requires
+    (λ c. let v = visited c in v.visit-rows.kept.1.1.1.1.0 ∙ (begun (joined v)).long) same_length_2 (λ c. search rules) returns)

@@ -1,5 +1,5 @@
 -- `rounds::ranks::start_ranks` meets its contract. The loop's invariant: the places passed have their first rank. The measure is the places left.
-use Rattle.meaning.proofs.Kit.{◌∙◌, sym, ap, refl, ⊎_elim, cond, ◌≤◌, ◌-◌, arith, length, needs}
+use Rattle.meaning.proofs.Kit.{◌∙◌, sym, ap, refl, ⊎_elim, cond, ◌≤◌, ◌-◌, arith, length, rules}
 use Rattle.meaning.specs.Tests.{none}
 use Rattle.meaning.specs.Literals.{has}
 use Rattle.findings.proofs.Filling.{Filled, filled_none, filled_put, filled_all}
@@ -18,7 +18,7 @@ loop_again c =
     let l = c.before.before.before in (
       omega arith,
       filled_put l.loop.invariant.1 c.if1.rank (omega arith)
-          (⊎_elim (λ y. y.1 ∙ sym (ap (λ b. cond b 0 none) y.0.taken)) (λ n. n.1 ∙ sym (ap (λ b. cond b 0 none) n.0.left)) c.if1.branch),
+          (⊎_elim (λ y. y.1 ∙ sym (ap (λ b. cond b 0 none) y.0.true)) (λ n. n.1 ∙ sym (ap (λ b. cond b 0 none) n.0.false)) c.if1.branch),
     )
 
 returns : tie.Need-returns invariant_loop decreases_loop
@@ -27,5 +27,5 @@ returns c = let l = c.before in filled_all l.loop.invariant.1 _ refl (omega arit
 
 pub start_ranks_spec : {M : Type 1} → statement M
 start_ranks_spec = tie.close (tie.spec
-    invariant_loop decreases_loop (λ c. (search needs, filled_none)) (λ c. omega arith) (λ c. omega arith) (λ c. omega arith) (λ c. omega arith) (λ c. omega arith)
-    loop_again (λ c. search needs) returns)
+    invariant_loop decreases_loop (λ c. (search rules, filled_none)) (λ c. omega arith) (λ c. omega arith) (λ c. omega arith) (λ c. omega arith) (λ c. omega arith)
+    loop_again (λ c. search rules) returns)

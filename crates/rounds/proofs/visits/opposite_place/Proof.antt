@@ -1,5 +1,5 @@
 -- `rounds::visits::opposite_place` meets its contract.
-use Rattle.meaning.proofs.Kit.{◌%◌, needs, ne_eqb, eq-eqb}
+use Rattle.meaning.proofs.Kit.{◌%◌, rules, ne_eqb, eq-eqb}
 use Rattle.meaning.specs.Literals.{opp}
 use Rattle.rounds.proofs.visits.opposite_place.Statement.{statement}
 use Rattle.rounds.proofs.visits.opposite_place.Tie as tie
@@ -13,4 +13,4 @@ unfolding opp
 returns_2 c = rw (ne_eqb (c.before.args.p % 2) 0 c.if1.false)
 
 pub opposite_place_spec : {M : Type 1} → statement M
-opposite_place_spec = tie.close (tie.spec (λ c. search needs) (λ c. search needs) returns returns_2)
+opposite_place_spec = tie.close (tie.spec (λ c. search rules) (λ c. search rules) returns returns_2)

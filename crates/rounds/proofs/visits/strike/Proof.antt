@@ -1,5 +1,5 @@
 -- `rounds::visits::strike` meets its contract.
-use Rattle.meaning.proofs.Kit.{get_or, needs, lt-ltb, le-ltb}
+use Rattle.meaning.proofs.Kit.{get_or, rules, lt-ltb, le-ltb}
 use Rattle.findings.proofs.Queueing.{queued_none}
 use Rattle.rounds.proofs.Striking.{struck_more, struck_few}
 use Rattle.rounds.proofs.visits.strike.Statement.{statement}
@@ -15,7 +15,7 @@ returns : tie.Need-returns
 returns c =
     let s = start c.before in
     let left = get_or s.args.counts.now s.args.row 0 in
-    (rw (lt-ltb 2 left c.if1.true), (queued_none s.pre.1.1.count, rw (struck_more left c.if1.true)))
+    (rw (lt-ltb 2 left c.if1.true), (queued_none s.requires.1.1.count, rw (struck_more left c.if1.true)))
 
 returns_2 : tie.Need-returns-2
 returns_2 c =
@@ -23,9 +23,9 @@ returns_2 c =
     let e = m.before.before.before in
     let s = start e.before in
     let left = get_or s.args.counts.now s.args.row 0 in
-    (rw (le-ltb 2 left e.if1.left) m.mark-row.ensures.0, (m.mark-row.ensures.1, rw (struck_few left e.if1.left)))
+    (rw (le-ltb 2 left e.if1.false) m.mark-row.ensures.0, (m.mark-row.ensures.1, rw (struck_few left e.if1.false)))
 
 pub strike_spec : {M : Type 1} → statement M
 strike_spec = tie.close (tie.spec
-    (λ c. search needs) (λ c. search needs) (λ c. search needs) (λ c. search needs) returns (λ c. search needs) (λ c κs. search needs)
-    (λ c. search needs) (λ c. search needs) (λ c. search needs) returns_2)
+    (λ c. search rules) (λ c. search rules) (λ c. search rules) (λ c. search rules) returns (λ c. search rules) (λ c κs. search rules)
+    (λ c. search rules) (λ c. search rules) (λ c. search rules) returns_2)

@@ -32,12 +32,12 @@ abbrev inside : tie.After-strike invariant_loop decreases_loop → tie.In-loop i
 inside c = c.before.before.before.before
 
 shared_slice_read_cell : tie.Need-shared-slice-read-cell invariant_loop decreases_loop
-shared_slice_read_cell c = let s = head c.before in omega (arith, heads_long s.pre.1.0, s.pre.1.1.0.0)
+shared_slice_read_cell c = let s = head c.before in omega (arith, heads_long s.requires.1.0, s.requires.1.1.0.0)
 
 loop_holds : tie.Need-loop-init invariant_loop decreases_loop
 loop_holds c =
     let s = head c.before in
-    (refl, refl, refl, visited_none s.pre.0 s.pre.1.0 s.pre.1.1.0.0, queued_none s.pre.1.1.1.count)
+    (refl, refl, refl, visited_none s.requires.0 s.requires.1.0 s.requires.1.1.0.0, queued_none s.requires.1.1.1.count)
 
 strike_requires : tie.Need-strike-requires invariant_loop decreases_loop
 strike_requires c κs =
@@ -46,15 +46,15 @@ strike_requires c κs =
     let i = l.loop.invariant in
     let s = start l in
     let fit : Fit (length l.loop.ranks) (l.loop.cell / 8 + 1) s.args.table.now =
-    rw i.0 (fit_row _ s.args.rows _ s.pre.0 (l.loop.cell / 8) (omega (arith, n.loop-test.true))) in
-    let below : l.loop.cell / 8 < length l.loop.counts = omega (arith, n.loop-test.true, i.2, s.pre.1.1.0.2) in
-    (fit, ((s.pre.1.1.0.1, below), room_after s.pre.1.1.1 i.4 i.0 i.1))
+    rw i.0 (fit_row _ s.args.rows _ s.requires.0 (l.loop.cell / 8) (omega (arith, n.loop-test.true))) in
+    let below : l.loop.cell / 8 < length l.loop.counts = omega (arith, n.loop-test.true, i.2, s.requires.1.1.0.2) in
+    (fit, ((s.requires.1.1.0.1, below), room_after s.requires.1.1.1 i.4 i.0 i.1))
 
 shared_slice_read_cell_2 : tie.Need-shared-slice-read-cell-2 invariant_loop decreases_loop
 shared_slice_read_cell_2 c =
     let n = inside (at c.before) in
     let s = start n.before in
-    visited_linked s.pre.0 s.pre.1.0 n.before.loop.inv.3 n.loop-test.taken
+    visited_linked s.requires.0 s.requires.1.0 n.before.loop.invariant.3 n.loop-test.true
 
 cast_cell_2 : tie.Need-overflow-cast-cell-2 invariant_loop decreases_loop
 cast_cell_2 c = omega (arith, c.shared-slice-known4.given (inside (at c.before)).before.loop.cell)
@@ -63,19 +63,19 @@ loop_less : tie.Need-loop-smaller invariant_loop decreases_loop
 loop_less c =
     let n = inside (at c.before) in
     let s = start n.before in
-    omega (arith, n.loop-test.taken, visited_rises s.pre.0 s.pre.1.0 n.before.loop.inv.3 n.loop-test.taken)
+    omega (arith, n.loop-test.true, visited_rises s.requires.0 s.requires.1.0 n.before.loop.invariant.3 n.loop-test.true)
 
 loop_again : tie.Need-loop-preserved invariant_loop decreases_loop
 loop_again c =
     let v = at c.before in
     let n = inside v in
-    let i = n.before.loop.inv in
+    let i = n.before.loop.invariant in
     let s = start n.before in
     let e = v.strike.ensures in (
       v.strike.kept.1.1.0 ∙ i.0,
       v.strike.kept.1.1.1.1.0 ∙ i.1,
       v.strike.kept.1.1.1.1.1.1.0 ∙ i.2,
-      visited_more s.pre.0 s.pre.1.0 i.3 n.loop-test.taken (i.2 ∙ s.pre.1.1.0.2) e.1.1 s.pre.1.1.0.1 e.0,
+      visited_more s.requires.0 s.requires.1.0 i.3 n.loop-test.true (i.2 ∙ s.requires.1.1.0.2) e.1.1 s.requires.1.1.0.1 e.0,
       queued_more i.0 i.4 e.1.0,
     )
 
@@ -85,7 +85,7 @@ returns c =
     let i = l.loop.invariant in
     let s = start l in
     let past = c.loop-test.false in
-    (visited_looked s.pre.0 s.pre.1.0 i.3 past, (i.4, visited_struck s.pre.0 s.pre.1.0 i.3 past))
+    (visited_looked s.requires.0 s.requires.1.0 i.3 past, (i.4, visited_struck s.requires.0 s.requires.1.0 i.3 past))
 
 pub visit_spec : {M : Type 1} → statement M
 visit_spec = tie.close (tie.spec

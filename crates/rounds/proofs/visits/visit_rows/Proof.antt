@@ -42,8 +42,8 @@ start c = c.before.before.before.before.before.before
 in_queue : (n : tie.In-loop invariant_loop decreases_loop) → n.before.loop.at < length (start n.before).args.queue.now
 in_queue n =
     let s = start n.before in
-    let room = s.pre.1.1.1.0 in
-    omega (arith, n.loop-test.true, s.pre.1.1.0.2, room.count, room.long, counted_le ranked s.args.ranks.now)
+    let room = s.requires.1.1.1.0 in
+    omega (arith, n.loop-test.true, s.requires.1.1.0.2, room.count, room.long, counted_le ranked s.args.ranks.now)
 
 as_first : (n : tie.In-loop invariant_loop decreases_loop)
     → let l = n.before in get_or l.loop.queue l.loop.at 0 ≡ get_or (start l).args.queue.now l.loop.at 0
@@ -56,18 +56,18 @@ loop_holds : tie.Need-loop-init invariant_loop decreases_loop
 loop_holds c =
     let s = entry c in (
       omega arith,
-      s.pre.1.1.0.1,
+      s.requires.1.1.0.1,
       refl,
       refl,
       refl,
       looked_none (λ r h d. omega (arith, d.0.1, d.0.2)),
-      queued_none s.pre.1.1.1.0.count,
-      s.pre.1.1.1.1.1,
+      queued_none s.requires.1.1.1.0.count,
+      s.requires.1.1.1.1.1,
       λ r. inl refl,
     )
 
 opposite_place_requires : tie.Need-opposite-place-requires invariant_loop decreases_loop
-opposite_place_requires c κs = let n = c.before in omega (arith, low n, few_places (start n.before).pre.0)
+opposite_place_requires c κs = let n = c.before in omega (arith, low n, few_places (start n.before).requires.0)
 
 visit_requires : tie.Need-visit-requires invariant_loop decreases_loop
 visit_requires c κs =
@@ -77,11 +77,11 @@ visit_requires c κs =
     let i = l.loop.invariant in
     let s = start l in
     let a = s.args in
-    let other = opp_in (get_or l.loop.queue l.loop.at 0) (length a.ranks.now) (omega (arith, s.pre.0.1)) (low n) in
-    let fit : Fit (length l.loop.ranks) a.rows a.table.now = rw i.2 s.pre.0 in
-    let index : Index (length l.loop.ranks) a.rows a.table.now a.heads.now a.links.now = rw i.2 s.pre.1.0 in
-    let room = room_after s.pre.1.1.1.0 i.6 i.2 i.3 in
-    (fit, (index, ((omega (arith, other, o.opposite-place.ensures, i.2), s.pre.1.1.0.0, i.4 ∙ s.pre.1.1.0.3), room)))
+    let other = opp_in (get_or l.loop.queue l.loop.at 0) (length a.ranks.now) (omega (arith, s.requires.0.1)) (low n) in
+    let fit : Fit (length l.loop.ranks) a.rows a.table.now = rw i.2 s.requires.0 in
+    let index : Index (length l.loop.ranks) a.rows a.table.now a.heads.now a.links.now = rw i.2 s.requires.1.0 in
+    let room = room_after s.requires.1.1.1.0 i.6 i.2 i.3 in
+    (fit, (index, ((omega (arith, other, o.opposite-place.ensures, i.2), s.requires.1.1.0.0, i.4 ∙ s.requires.1.1.0.3), room)))
 
 loop_again : tie.Need-loop-preserved invariant_loop decreases_loop
 loop_again c =
@@ -89,20 +89,20 @@ loop_again c =
     let o = opposed v in
     let n = o.before.before in
     let l = n.before in
-    let i = l.loop.inv in
+    let i = l.loop.invariant in
     let s = start l in
     let a = s.args in
     let e = v.visit.ensures in
     let kept = v.visit.kept.1.1.1.1.1 in
     let is : o.opposite-place.result ≡ opp (get_or a.queue.now l.loop.at 0) = o.opposite-place.ensures ∙ ap opp (as_first n) in (
       omega (arith, i.0),
-      omega (arith, n.loop-test.taken),
+      omega (arith, n.loop-test.true),
       kept.0 ∙ i.2,
       kept.1.1.0 ∙ i.3,
       kept.1.1.1.1.0 ∙ i.4,
-      looked_more s.pre.1.1.0.0 i.5 e.0 (λ r h d. touched_split a.queue.now l.loop.at is e.1.1 r d),
+      looked_more s.requires.1.1.0.0 i.5 e.0 (λ r h d. touched_split a.queue.now l.loop.at is e.1.1 r d),
       queued_more i.2 i.6 e.1.0,
-      counts_next a.queue.now l.loop.at is e.1.1 s.pre.0 (in_queue n) i.7,
+      counts_next a.queue.now l.loop.at is e.1.1 s.requires.0 (in_queue n) i.7,
       touched_next a.queue.now l.loop.at is e.1.1 a.counts.now i.0 i.8,
     )
 

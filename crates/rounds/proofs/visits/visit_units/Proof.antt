@@ -35,17 +35,17 @@ shared_slice_read_if1 : tie.Need-shared-slice-read-if1 invariant_loop decreases_
 shared_slice_read_if1 c =
     let n = c.before in
     let s = start n.before in
-    omega (arith, n.loop-test.true, counts_long s.args.rows s.args.table.now s.pre.1.0)
+    omega (arith, n.loop-test.true, counts_long s.args.rows s.args.table.now s.requires.1.0)
 
 mark_all_requires : tie.Need-mark-all-requires invariant_loop decreases_loop
 mark_all_requires c κs =
     let n = turn c in
     let l = n.before in
-    let i = l.loop.inv in
+    let i = l.loop.invariant in
     let s = start l in
     let fit : Fit (length l.loop.ranks) (l.loop.row + 1) s.args.table.now =
-    rw i.1 (fit_row _ s.args.rows _ s.pre.0 l.loop.row (omega (arith, n.loop-test.taken))) in
-    (fit, (omega arith, room_after s.pre.1.1 i.4 i.1 i.2))
+    rw i.1 (fit_row _ s.args.rows _ s.requires.0 l.loop.row (omega (arith, n.loop-test.true))) in
+    (fit, (omega arith, room_after s.requires.1.1 i.4 i.1 i.2))
 
 loop_again : tie.Need-loop-preserved invariant_loop decreases_loop
 loop_again c =
@@ -55,13 +55,13 @@ loop_again c =
     let row = l.loop.row in
     let s = start l in
     let counts = s.args.counts.now in
-    let is = counts_at s.args.rows s.args.table.now s.pre.1.0 row n.loop-test.true in
+    let is = counts_at s.args.rows s.args.table.now s.requires.1.0 row n.loop-test.true in
     ⊎_elim
     (λ y. (
       omega (arith, n.loop-test.true),
       rw y.8 (y.3.kept.1.1.0 ∙ i.1),
       rw y.9 (y.3.kept.1.1.1.1.0 ∙ i.2),
-      rw y.8 (looked_more (omega arith) i.3 (looked_lone row n.loop-test.true (omega (arith, is, y.0.taken)) y.3.ensures.0)
+      rw y.8 (looked_more (omega arith) i.3 (looked_lone row n.loop-test.true (omega (arith, is, y.0.true)) y.3.ensures.0)
           (λ r h d. ⊎_elim (λ z. inr z) (λ z. inl (omega (arith, d.0, z), d.1)) (same_or_not r row))),
       rw (y.8, y.9, y.10) (queued_more i.1 i.4 y.3.ensures.1),
     ))
@@ -71,7 +71,7 @@ loop_again c =
       rw y.2 i.2,
       rw y.1 (looked_less i.3
           (λ r h d. ⊎_elim
-          (λ z. absurd (omega (arith, y.0.left, subst (λ x. get_or counts x 0 ≤ 1) z d.1)))
+          (λ z. absurd (omega (arith, y.0.false, subst (λ x. get_or counts x 0 ≤ 1) z d.1)))
           (λ z. (omega (arith, d.0, z), d.1))
           (same_or_not r row))),
       rw (y.1, y.2, y.3) i.4,

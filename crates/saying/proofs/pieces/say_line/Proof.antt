@@ -1,5 +1,5 @@
 -- `pieces::say_line` is safe and ends: as many bytes are put as there is room for.
-use Rattle.meaning.proofs.Kit.{◌≡◌, sym, ◌≤◌, ℕ, ◌<◌, ◌-◌, arith, length, length-set, length-replicate, length-take-le, needs, ltb-true}
+use Rattle.meaning.proofs.Kit.{◌≡◌, sym, ◌≤◌, ℕ, ◌<◌, ◌-◌, arith, length, length-set, length-replicate, length-take-le, rules, ltb-true}
 use Rattle.saying.proofs.pieces.say_line.Statement.{statement}
 use Rattle.saying.proofs.pieces.say_line.Tie as tie
 
@@ -17,7 +17,7 @@ loop_again c = let t = c.before.before in (omega (arith, below t), simp length-s
 
 pub say_line_spec : {M : Type 1} → statement M
 say_line_spec = tie.close (tie.spec
-    invariant_loop decreases_loop (λ c. (omega arith, length-replicate {A = ℕ} 500 0)) (λ c. search needs) (λ c κs. search needs)
+    invariant_loop decreases_loop (λ c. (omega arith, length-replicate {A = ℕ} 500 0)) (λ c. search rules) (λ c κs. search rules)
     (λ c. omega (arith, below c.before.before)) (λ c. omega (arith, below c.before.before)) (λ c. omega (arith, below c.before.before))
     loop_again (λ c. omega (arith, c.before.loop.invariant)) (λ c. sym (length-take-le _ _ (omega (arith, c.before.before.loop.invariant))))
-    (λ c κs. search needs) (λ c. search needs) (λ c κs. search needs) (λ c. search needs))
+    (λ c κs. search rules) (λ c. search rules) (λ c κs. search rules) (λ c. search rules))

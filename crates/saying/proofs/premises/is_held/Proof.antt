@@ -1,5 +1,5 @@
 -- `premises::is_held` is safe: a literal in range has its place among the 400.
-use Rattle.meaning.proofs.Kit.{◌≡◌, ◌∙◌, sym, true, ◌<◌, arith, needs, not-false}
+use Rattle.meaning.proofs.Kit.{◌≡◌, ◌∙◌, sym, true, ◌<◌, arith, rules, not-false}
 use Rattle.literals.specs.Literal.{in_range}
 use Rattle.literals.proofs.Signed.{back}
 use Rattle.literals.proofs.Arguments.{range_facts, place_fits}
@@ -15,6 +15,6 @@ place c = omega (arith, c.place.ensures, place_fits 200 (back c.before.before.be
 
 pub is_held_spec : {M : Type 1} → statement M
 is_held_spec = tie.close (tie.spec
-    (λ c κs. search needs) (λ c. search needs) (λ c κs. range_facts 200 (back c.before.before.args.l) (within c))
-    (λ c. omega (arith, place c.before.before.before)) (λ c. search needs) (λ c. omega (arith, place c.before.before.before))
-    (λ c. search needs))
+    (λ c κs. search rules) (λ c. search rules) (λ c κs. range_facts 200 (back c.before.before.args.l) (within c))
+    (λ c. omega (arith, place c.before.before.before)) (λ c. search rules) (λ c. omega (arith, place c.before.before.before))
+    (λ c. search rules))

@@ -1,5 +1,5 @@
 -- `premises::is_tried` is safe and ends: it looks at no more than the 400 places.
-use Rattle.meaning.proofs.Kit.{◌≤◌, ◌<◌, ◌-◌, arith, needs, ltb-true}
+use Rattle.meaning.proofs.Kit.{◌≤◌, ◌<◌, ◌-◌, arith, rules, ltb-true}
 use Rattle.saying.proofs.premises.is_tried.Statement.{statement}
 use Rattle.saying.proofs.premises.is_tried.Tie as tie
 
@@ -14,6 +14,6 @@ below c = ltb-true _ _ c.if1.true
 
 pub is_tried_spec : {M : Type 1} → statement M
 is_tried_spec = tie.close (tie.spec
-    invariant_loop decreases_loop (λ c κs. search needs) (λ c. search needs) (λ c. omega arith) (λ c. omega (arith, below c)) (λ c. omega (arith, below c))
-    (λ c. search needs) (λ c. omega (arith, below c.before.before)) (λ c. omega (arith, below c.before.before))
-    (λ c. omega (arith, below c.before.before)) (λ c. search needs) (λ c. search needs))
+    invariant_loop decreases_loop (λ c κs. search rules) (λ c. search rules) (λ c. omega arith) (λ c. omega (arith, below c)) (λ c. omega (arith, below c))
+    (λ c. search rules) (λ c. omega (arith, below c.before.before)) (λ c. omega (arith, below c.before.before))
+    (λ c. omega (arith, below c.before.before)) (λ c. search rules) (λ c. search rules))

@@ -1,5 +1,5 @@
 -- `showing::bad_number` is safe and ends: a run lies within the text, and each round goes on by a byte or a run.
-use Rattle.meaning.proofs.Kit.{ap, ◌≤◌, ◌-◌, ◌+◌, arith, length, needs}
+use Rattle.meaning.proofs.Kit.{ap, ◌≤◌, ◌-◌, ◌+◌, arith, length, rules}
 use Rattle.formula.proofs.Parts.{onward_drop}
 use Rattle.names.specs.Names.{run}
 use Rattle.names.proofs.Replaced.{run_inside}
@@ -23,9 +23,9 @@ inside c =
 
 pub bad_number_spec : {M : Type 1} → statement M
 bad_number_spec = tie.close (tie.spec
-    invariant_loop decreases_loop (λ c. omega arith) (λ c. omega arith) (λ c. omega arith) (λ c. omega arith) (λ c κs. search needs) (λ c. omega arith)
+    invariant_loop decreases_loop (λ c. omega arith) (λ c. omega arith) (λ c. omega arith) (λ c. omega arith) (λ c κs. search rules) (λ c. omega arith)
     (λ c. omega arith) (λ c. omega arith) (λ c. omega (arith, inside c.before)) (λ c. omega arith) (λ c. omega arith)
-    (λ c. omega (arith, inside c.before)) (λ c κs. search needs) (λ c. search needs)
+    (λ c. omega (arith, inside c.before)) (λ c κs. search rules) (λ c. search rules)
     (λ c. let r = c.before in omega (arith, inside r.before.before.before))
     (λ c. let r = c.before in omega (arith, inside r.before.before.before))
-    (λ c. let r = c.before in omega (arith, inside r.before.before.before)) (λ c. search needs))
+    (λ c. let r = c.before in omega (arith, inside r.before.before.before)) (λ c. search rules))

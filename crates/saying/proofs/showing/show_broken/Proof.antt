@@ -1,5 +1,5 @@
 -- `showing::show_broken` is safe: the text of a rule has room, and keeps its length where names are replaced.
-use Rattle.meaning.proofs.Kit.{◌≡◌, ◌∙◌, sym, ap, List, ◌++◌, ◌≤◌, ℕ, arith, length, drop, replicate, length-replicate, length-take-le, needs}
+use Rattle.meaning.proofs.Kit.{◌≡◌, ◌∙◌, sym, ap, List, ◌++◌, ◌≤◌, ℕ, arith, length, drop, replicate, length-replicate, length-take-le, rules}
 use lib.Seq.{length_front}
 use Rattle.orders.proofs.Typed.{rest_within}
 use Rattle.saying.proofs.showing.show_broken.Statement.{statement}
@@ -48,7 +48,7 @@ tested c = c.before.before.before.before.before.before.before
 
 pub show_broken_spec : {M : Type 1} → statement M
 show_broken_spec = tie.close (tie.spec
-    (λ c κs. search needs) (λ c. omega (arith, fits c)) (λ c. sym (length-take-le _ _ (omega (arith, fits c.before)))) (λ c κs. search needs)
+    (λ c κs. search rules) (λ c. omega (arith, fits c)) (λ c. sym (length-take-le _ _ (omega (arith, fits c.before)))) (λ c κs. search rules)
     typed_room (λ c. sym (length-take-le _ _ (typed_room c.before))) (λ c κs. omega arith) (λ c. omega (arith, short (tested c)))
-    (λ c. omega (arith, short (tested c), (tested c).before.before.before.requires.1)) (λ c κs. search needs) (λ c. read_room c.before.before)
-    (λ c. sym (length-take-le _ _ (read_room c.before.before.before))) (λ c κs. search needs) (λ c. search needs))
+    (λ c. omega (arith, short (tested c), (tested c).before.before.before.requires.1)) (λ c κs. search rules) (λ c. read_room c.before.before)
+    (λ c. sym (length-take-le _ _ (read_room c.before.before.before))) (λ c κs. search rules) (λ c. search rules))

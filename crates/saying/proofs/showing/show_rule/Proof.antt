@@ -1,5 +1,5 @@
 -- `showing::show_rule` is safe: a word's place lies within the line.
-use Rattle.meaning.proofs.Kit.{◌≤◌, arith, length, needs}
+use Rattle.meaning.proofs.Kit.{◌≤◌, arith, length, rules}
 use Rattle.saying.proofs.showing.show_rule.Statement.{statement}
 use Rattle.saying.proofs.showing.show_rule.Tie as tie
 
@@ -14,6 +14,6 @@ add_point_at c = let w = c.before.before in omega (arith, within w, c.bad-number
 
 pub show_rule_spec : {M : Type 1} → statement M
 show_rule_spec = tie.close (tie.spec
-    (λ c. search needs) (λ c κs. search needs) (λ c. search needs) (λ c κs. search needs) (λ c. omega (arith, within c))
-    (λ c. omega (arith, within c)) (λ c. omega (arith, within c)) (λ c κs. search needs) add_point_at (λ c κs. search needs) (λ c κs. search needs)
-    (λ c κs. search needs) (λ c. search needs) (λ c. search needs) (λ c. search needs))
+    (λ c. search rules) (λ c κs. search rules) (λ c. search rules) (λ c κs. search rules) (λ c. omega (arith, within c))
+    (λ c. omega (arith, within c)) (λ c. omega (arith, within c)) (λ c κs. search rules) add_point_at (λ c κs. search rules) (λ c κs. search rules)
+    (λ c κs. search rules) (λ c. search rules) (λ c. search rules) (λ c. search rules))

@@ -1,6 +1,6 @@
 -- `list` meets its contract: there is room for the notes of all sets of twelve candidates.
 use Rattle.meaning.proofs.Kit.{◌≡◌, ◌∙◌, sym, ap, List, ◌≤◌, ℕ, ◌^◌, arith, pow_mono, length, take, replicate, length-replicate, length-take-le}
-use Rattle.meaning.proofs.Kit.{to_z-of_z, needs}
+use Rattle.meaning.proofs.Kit.{to_z-of_z, rules}
 use Rattle.literals.specs.Literal.{in_range}
 use Rattle.smallest.specs.Listing.{smallest_at}
 use Rattle.smallest.proofs.Answers.{told_as, by_room}
@@ -24,8 +24,8 @@ list_noted_requires : tie.Need-list-noted-requires
 list_noted_requires c κs =
     let p = c.before.before in
     let s = start p in (
-      (s.pre.0.0, ap (in_range s.args.board.symbols) (to_z-of_z s.fits.l) ∙ s.pre.0.1),
-      (s.pre.1.0, s.pre.1.1, part p ∙ p.power.ensures),
+      (s.requires.0.0, ap (in_range s.args.board.symbols) (to_z-of_z s.fits.l) ∙ s.requires.0.1),
+      (s.requires.1.0, s.requires.1.1, part p ∙ p.power.ensures),
     )
 
 returns : tie.Need-returns
@@ -40,4 +40,4 @@ returns c =
 
 pub list_spec : {M : Type 1} → statement M
 list_spec = tie.close (tie.spec
-    (λ c κs. c.before.before.requires.1.0) room (λ c. sym (part c.before)) list_noted_requires (λ c. search needs) returns)
+    (λ c κs. c.before.before.requires.1.0) room (λ c. sym (part c.before)) list_noted_requires (λ c. search rules) returns)

@@ -1,6 +1,6 @@
 -- `list_given` meets its contract: there is room for the places of twelve candidates.
 use Rattle.meaning.proofs.Kit.{◌≡◌, ◌∙◌, sym, ap, false, List, ◌∷◌, ℕ, arith, ℤ, length, take, replicate, length-replicate, length-take-le, to_z-of_z}
-use Rattle.meaning.proofs.Kit.{needs}
+use Rattle.meaning.proofs.Kit.{rules}
 use Rattle.meaning.specs.Tests.{all}
 use Rattle.literals.specs.Literal.{in_range}
 use Rattle.literals.specs.declared.refusal.Refusal.TheVariants.{BadCandidates}
@@ -33,8 +33,8 @@ list_placed_requires c κs =
     let e = c.before.before in
     let s = start e in
     let a = s.args in
-    let given = ap (λ (z : ℤ). all (in_range a.board.symbols) (z ∷ a.candidates.now)) (to_z-of_z s.fits.l) ∙ s.pre.1 in
-    ((s.pre.0, given), (omega arith, part e))
+    let given = ap (λ (z : ℤ). all (in_range a.board.symbols) (z ∷ a.candidates.now)) (to_z-of_z s.fits.l) ∙ s.requires.1 in
+    ((s.requires.0, given), (omega arith, part e))
 
 returns_2 : tie.Need-returns-2
 returns_2 c =
@@ -51,4 +51,4 @@ returns_2 c =
 
 pub list_given_spec : {M : Type 1} → statement M
 list_given_spec = tie.close (tie.spec
-    (λ c κs. search needs) returns (λ c. omega arith) (λ c. sym (part c.before)) list_placed_requires (λ c. search needs) returns_2)
+    (λ c κs. search rules) returns (λ c. omega arith) (λ c. sym (part c.before)) list_placed_requires (λ c. search rules) returns_2)

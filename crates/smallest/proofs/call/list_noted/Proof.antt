@@ -1,5 +1,5 @@
 -- `list_noted` meets its contract: what the notes list is counted, and written where it fits.
-use Rattle.meaning.proofs.Kit.{◌≡◌, ◌∙◌, ap, List, ◌≤◌, ℕ, suc, ◌*◌, arith, ℤ, length, sets, to_z-of_z, needs}
+use Rattle.meaning.proofs.Kit.{◌≡◌, ◌∙◌, ap, List, ◌≤◌, ℕ, suc, ◌*◌, arith, ℤ, length, sets, to_z-of_z, rules}
 use Rattle.literals.specs.Literal.{in_range, place_of}
 use Rattle.board.specs.Ranking.{rows_on}
 use Rattle.board.specs.declared.Outcome.TheVariants.{Done}
@@ -45,7 +45,7 @@ written c = let a = (start c).args in the_list a.table.now a.board a.places.now 
 note_sets_requires : tie.Need-note-sets-requires
 note_sets_requires c κs =
     let s = begun c in
-    ((s.pre.0.0, ap (in_range s.args.board.symbols) (to_z-of_z s.fits.l) ∙ s.pre.0.1), s.pre.1)
+    ((s.requires.0.0, ap (in_range s.args.board.symbols) (to_z-of_z s.fits.l) ∙ s.requires.0.1), s.requires.1)
 
 returns : tie.Need-returns
 returns c =
@@ -61,7 +61,7 @@ write_listed_requires c κs =
     let e = c.before.before in
     let n = noting e.before in
     let s = start n in
-    ((s.pre.1.0, n.note-sets.kept.1.1.1.1.0 ∙ s.pre.1.2), omega (arith, fits e, ap length (written n)))
+    ((s.requires.1.0, n.note-sets.kept.1.1.1.1.0 ∙ s.requires.1.2), omega (arith, fits e, ap length (written n)))
 
 returns_2 : tie.Need-returns-2
 returns_2 c =
@@ -76,5 +76,5 @@ returns_2 c =
 
 pub list_noted_spec : {M : Type 1} → statement M
 list_noted_spec = tie.close (tie.spec
-    note_sets_requires (λ c κs. search needs) (λ c κs. search needs) (λ c. search needs) returns write_listed_requires (λ c. search needs)
-    (λ c. search needs) returns_2)
+    note_sets_requires (λ c κs. search rules) (λ c κs. search rules) (λ c. search rules) returns write_listed_requires (λ c. search rules)
+    (λ c. search rules) returns_2)

@@ -1,5 +1,5 @@
 -- `list_placed` meets its contract: the places of the candidates tell whether one is repeated, and what is listed.
-use Rattle.meaning.proofs.Kit.{◌≡◌, ◌∙◌, sym, ap, ap₂, true, List, ℕ, ◌*◌, arith, ltb, length, length-map, to_z-of_z, needs}
+use Rattle.meaning.proofs.Kit.{◌≡◌, ◌∙◌, sym, ap, ap₂, true, List, ℕ, ◌*◌, arith, ltb, length, length-map, to_z-of_z, rules}
 use Rattle.meaning.specs.Tests.{all}
 use Rattle.meaning.proofs.Tests.{both_true}
 use Rattle.literals.specs.Literal.{in_range, place_of}
@@ -53,9 +53,9 @@ list_requires c κs =
     let w = placing c.before.before.before in
     let s = start w in
     let a = s.args in (
-      (s.pre.0.0, ap (in_range a.board.symbols) (to_z-of_z s.fits.l) ∙ (ranges s).0),
+      (s.requires.0.0, ap (in_range a.board.symbols) (to_z-of_z s.fits.l) ∙ (ranges s).0),
       (
-        omega (arith, ap length (placed w), length-map a.candidates.now place_of, s.pre.1.0),
+        omega (arith, ap length (placed w), length-map a.candidates.now place_of, s.requires.1.0),
         ap (all (λ p. ltb p (2 * a.board.symbols))) (placed w) ∙ places_low a.board.symbols a.candidates.now (ranges s).1,
       ),
     )
@@ -75,5 +75,5 @@ returns_2 c =
 
 pub list_placed_spec : {M : Type 1} → statement M
 list_placed_spec = tie.close (tie.spec
-    write_places_requires (λ c κs. search needs) (λ c κs. search needs) (λ c. search needs) returns list_requires (λ c. search needs)
-    (λ c. search needs) returns_2)
+    write_places_requires (λ c κs. search rules) (λ c κs. search rules) (λ c. search rules) returns list_requires (λ c. search rules)
+    (λ c. search rules) returns_2)

@@ -1,5 +1,5 @@
 -- `smallest` meets its contract: its tests are the faults of `smallest_faults`, in their order.
-use Rattle.meaning.proofs.Kit.{◌≡◌, ◌∙◌, sym, ap, true, false, Bool, ◌&&◌, ◌∷◌, ℤ, length, to_z-of_z, needs, not-false, not-true}
+use Rattle.meaning.proofs.Kit.{◌≡◌, ◌∙◌, sym, ap, true, false, Bool, ◌&&◌, ◌∷◌, ℤ, length, to_z-of_z, rules, not-false, not-true}
 use Rattle.meaning.specs.Tests.{all}
 use Rattle.literals.specs.Literal.{in_range}
 use Rattle.literals.specs.declared.refusal.Refusal.TheVariants.{BadBoard, BadLiteral}
@@ -96,5 +96,5 @@ returns_4 c =
 
 pub smallest_spec : {M : Type 1} → statement M
 smallest_spec = tie.close (tie.spec
-    (λ c κs. search needs) (λ c κs. search needs) returns (λ c κs. search needs) (λ c κs. search needs) returns_2 (λ c κs. search needs)
-    (λ c κs. search needs) returns_3 list_given_requires (λ c. search needs) returns_4)
+    (λ c κs. search rules) (λ c κs. search rules) returns (λ c κs. search rules) (λ c κs. search rules) returns_2 (λ c κs. search rules)
+    (λ c κs. search rules) returns_3 list_given_requires (λ c. search rules) returns_4)

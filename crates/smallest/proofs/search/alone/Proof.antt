@@ -22,7 +22,7 @@ loop_again c =
       omega arith,
       ⊎_elim (λ w. ap length w.2 ∙ simp length-set l.loop.invariant.1) (λ w. ap length w.1 ∙ l.loop.invariant.1) c.if1.branch,
       marked_turn l.before.args.places.now l.loop.i l.loop.rest holding true (λ h p ps. refl) (omega arith) l.loop.invariant.2
-          (⊎_elim (λ w. inl (w.0.taken, w.2)) (λ w. inr (w.0.left, w.1)) c.if1.branch),
+          (⊎_elim (λ w. inl (w.0.true, w.2)) (λ w. inr (w.0.false, w.1)) c.if1.branch),
     )
 
 returns : tie.Need-returns invariant_loop decreases_loop

@@ -1,5 +1,5 @@
 -- `note` meets its contract: it stops by a set with one candidate fewer, or tells how the literal stands with the set held alone.
-use Rattle.meaning.proofs.Kit.{◌≡◌, ◌∙◌, sym, ap, true, false, Bool, cond, ℕ, length, to_z-of_z, needs}
+use Rattle.meaning.proofs.Kit.{◌≡◌, ◌∙◌, sym, ap, true, false, Bool, cond, ℕ, length, to_z-of_z, rules}
 use Rattle.literals.proofs.Signed.{back}
 use Rattle.board.specs.Asking.{asked_whole}
 use Rattle.board.specs.declared.Board.{Board}
@@ -31,8 +31,8 @@ told c =
 
 pub note_spec : {M : Type 1} → statement M
 note_spec = tie.close (tie.spec
-    (λ c κs. search needs) (λ c. halted _ _ (sym c.before.stops-fewer.ensures ∙ c.if1.true))
-    (λ c κs. search needs) (λ c κs. search needs) (λ c. search needs) (λ c. search needs) (λ c. search needs) (λ c. search needs) (λ c. search needs)
+    (λ c κs. search rules) (λ c. halted _ _ (sym c.before.stops-fewer.ensures ∙ c.if1.true))
+    (λ c κs. search rules) (λ c κs. search rules) (λ c. search rules) (λ c. search rules) (λ c. search rules) (λ c. search rules) (λ c. search rules)
     (λ c. sym (ap standing_note c.enum_told.given.1) ∙ told c.before.before)
     (λ c. sym (ap standing_note c.enum-told2.given.1) ∙ told c.before.before)
     (λ c. sym (ap standing_note c.enum-told3.given.1) ∙ told c.before.before)

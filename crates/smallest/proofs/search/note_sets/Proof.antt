@@ -40,12 +40,12 @@ loop_again c =
     let rows = rows_on a.table.now a.board in
     let m = l.loop.set in
     let p = place_of (back a.l) in
-    let range = ap (in_range a.board.symbols) (to_z-of_z s.fits.l) ∙ s.pre.0.1 in
-    let stood = asked_alone a.table.now a.board a.places.now m s.pre.1.1 s.pre.0.0 (back a.l) range in
+    let range = ap (in_range a.board.symbols) (to_z-of_z s.fits.l) ∙ s.requires.0.1 in
+    let stood = asked_alone a.table.now a.board a.places.now m s.requires.1.1 s.requires.0.0 (back a.l) range in
     let noted : c.note.result ≡ note_of (2 * a.board.symbols) rows a.places.now p m =
     c.note.ensures
     ∙ ap (λ (k : ℕ). cond (stops_fewer l.loop.notes (length a.places.now) m) 1 k) (ap standing_note stood)
-    ∙ note_is (2 * a.board.symbols) rows a.places.now p l.loop.notes m (omega (arith, s.pre.1.2)) l.loop.invariant.2 in (
+    ∙ note_is (2 * a.board.symbols) rows a.places.now p l.loop.notes m (omega (arith, s.requires.1.2)) l.loop.invariant.2 in (
       omega arith,
       simp length-set l.loop.invariant.1,
       filled_more 0 (note_of (2 * a.board.symbols) rows a.places.now p) l.loop.notes m _ (omega (arith, l.loop.invariant.1)) l.loop.invariant.2
@@ -60,7 +60,7 @@ returns c =
     let a = s.args in
     let rows = rows_on a.table.now a.board in
     tabulate_ext 0 (2 ^ length a.places.now) (note_of (2 * a.board.symbols) rows a.places.now (place_of (back a.l))) l.loop.notes
-    (l.loop.invariant.1 ∙ s.pre.1.2) (λ m h. l.loop.invariant.2 m (omega (arith, s.pre.1.2)))
+    (l.loop.invariant.1 ∙ s.requires.1.2) (λ m h. l.loop.invariant.2 m (omega (arith, s.requires.1.2)))
     ∙ ap (λ (z : ℤ). notes_of (2 * a.board.symbols) rows a.places.now (place_of z)) (to_z-of_z s.fits.l)
 
 pub note_sets_spec : {M : Type 1} → statement M

@@ -48,7 +48,7 @@ returns c =
     let l = at p in
     let a = (start l).args in
     let note = ap (λ (k : ℕ). get_or a.notes.now (a.set - k) 0) p.power.ensures in
-    below_found _ a.n _ l.loop.inv (omega arith) (seen _ _ (has_it p.before) (λ e. c.if2.true (note ∙ e)))
+    below_found _ a.n _ l.loop.invariant (omega arith) (seen _ _ (has_it p.before) (λ e. c.if2.true (note ∙ e)))
 
 loop_again : tie.Need-loop-preserved invariant_loop decreases_loop
 loop_again c =
@@ -57,8 +57,8 @@ loop_again c =
     let a = (start l).args in
     below_on _ a.n _ l.loop.invariant (omega arith)
     (⊎_elim
-    (λ w. unseen (bit l.loop.i a.set) _ (ap (λ (k : ℕ). get_or a.notes.now (a.set - k) 0) (sym w.1.ensures) ∙ w.3.left))
-    (λ w. missing (bit l.loop.i a.set) (get_or a.notes.now (a.set - 2 ^ l.loop.i) 0) (sym h.has.ensures ∙ w.left)) c.if1.branch)
+    (λ w. unseen (bit l.loop.i a.set) _ (ap (λ (k : ℕ). get_or a.notes.now (a.set - k) 0) (sym w.1.ensures) ∙ w.3.false))
+    (λ w. missing (bit l.loop.i a.set) (get_or a.notes.now (a.set - 2 ^ l.loop.i) 0) (sym h.has.ensures ∙ w.false)) c.if1.branch)
 
 returns_2 : tie.Need-returns-2 invariant_loop decreases_loop
 unfolding stops_fewer

@@ -20,8 +20,8 @@ loop_again c =
     let notes = l.before.args.notes.now in
     let turn = count_next notes (length notes) l.loop.set (omega arith) in
     ⊎_elim
-    (λ w. let one = ap tally (eq-eqb _ 2 w.0.taken) in (omega arith, omega arith, omega (arith, turn, one, w.1, l.loop.invariant.2)))
-    (λ w. let none = ap tally (ne_eqb _ 2 w.0.left) in (omega arith, omega arith, omega (arith, turn, none, w.1, l.loop.invariant.2)))
+    (λ w. let one = ap tally (eq-eqb _ 2 w.0.true) in (omega arith, omega arith, omega (arith, turn, one, w.1, l.loop.invariant.2)))
+    (λ w. let none = ap tally (ne_eqb _ 2 w.0.false) in (omega arith, omega arith, omega (arith, turn, none, w.1, l.loop.invariant.2)))
     c.if1.branch
 
 returns : tie.Need-returns invariant_loop decreases_loop

@@ -1,5 +1,5 @@
 -- `listed_of_size` meets its contract.
-use Rattle.meaning.proofs.Kit.{◌∙◌, sym, ap, Bool, ◌&&◌, and-false, and-true, ℕ, eqb, needs, ne_eqb, eq-eqb}
+use Rattle.meaning.proofs.Kit.{◌∙◌, sym, ap, Bool, ◌&&◌, and-false, and-true, ℕ, eqb, rules, ne_eqb, eq-eqb}
 use Rattle.candidates.specs.Sets.{size}
 use Rattle.smallest.proofs.writing.listed_of_size.Statement.{statement}
 use Rattle.smallest.proofs.writing.listed_of_size.Tie as tie
@@ -20,4 +20,4 @@ returns_2 c =
     ∙ and-true (eqb (size a.n a.set) a.k))
 
 pub listed_of_size_spec : {M : Type 1} → statement M
-listed_of_size_spec = tie.close (tie.spec (λ c. search needs) returns (λ c κs. search needs) returns_2)
+listed_of_size_spec = tie.close (tie.spec (λ c. search rules) returns (λ c κs. search rules) returns_2)

@@ -22,10 +22,10 @@ write_size_requires c κs =
     let s = start l in
     let a = s.args in
     let k = l.loop.k in (
-      s.pre.0,
+      s.requires.0,
       omega (
         arith,
-        s.pre.1,
+        s.requires.1,
         l.loop.invariant.1.ends,
         stands_long l.loop.invariant.1,
         length-append (listed_below a.notes.now a.n k) (listed_of_size a.notes.now a.n k),

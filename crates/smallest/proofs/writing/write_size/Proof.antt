@@ -24,7 +24,7 @@ found l = let a = (start l).args in of_size (size a.n) (listed_in a.notes.now) (
 
 next : (l : tie.At-loop invariant_loop decreases_loop) → l.loop.set < length (start l).args.notes.now → let a = (start l).args in
     up_to a.notes.now a.n a.k (l.loop.set + 1) ≡ up_to a.notes.now a.n a.k l.loop.set ++ found l
-next l h = let s = start l in up_to_next s.args.notes.now s.args.n s.args.k l.loop.set (omega (arith, s.pre.0.1))
+next l h = let s = start l in up_to_next s.args.notes.now s.args.n s.args.k l.loop.set (omega (arith, s.requires.0.1))
 
 -- there is room for one more where it is listed
 room : (c : tie.Then1 invariant_loop decreases_loop) → let l = c.before.before.before in l.loop.next < length l.loop.out
@@ -39,7 +39,7 @@ room c =
       more,
       length-append (up_to a.notes.now a.n a.k l.loop.set) (l.loop.set ∷ []),
       of_size_le (size a.n) (listed_in a.notes.now) (sets_of a.n) a.k (l.loop.set + 1),
-      s.pre.1,
+      s.requires.1,
       l.loop.invariant.1.ends,
       stands_long l.loop.invariant.1,
     )
@@ -48,8 +48,8 @@ cast_out : tie.Need-overflow-cast-out invariant_loop decreases_loop
 cast_out c =
     let l = c.before.before.before in
     let s = start l in
-    let few : 2 ^ s.args.n ≤ 4096 = pow_mono s.pre.0.0 in
-    omega (arith, few, s.pre.0.1)
+    let few : 2 ^ s.args.n ≤ 4096 = pow_mono s.requires.0.0 in
+    omega (arith, few, s.requires.0.1)
 
 none_yet : (c : tie.After-slice-known invariant_loop decreases_loop) → let a = c.before.before.args in
     Stands a.out.now a.at (up_to a.notes.now a.n a.k 0) a.out.now a.at
@@ -66,13 +66,13 @@ loop_again c =
     (λ w. (
       omega arith,
       stands_more l.loop.invariant.1 (next l (omega arith))
-          (rw (one_in (size a.n) (listed_in a.notes.now) a.k m (sym t.listed-of-size.ensures ∙ w.0.taken), w.1, w.2)
+          (rw (one_in (size a.n) (listed_in a.notes.now) a.k m (sym t.listed-of-size.ensures ∙ w.0.true), w.1, w.2)
           (stands_one l.loop.out l.loop.next m)),
     ))
     (λ w. (
       omega arith,
       stands_more l.loop.invariant.1 (next l (omega arith))
-          (rw (one_out (size a.n) (listed_in a.notes.now) a.k m (sym t.listed-of-size.ensures ∙ w.0.left), w.1, w.2)
+          (rw (one_out (size a.n) (listed_in a.notes.now) a.k m (sym t.listed-of-size.ensures ∙ w.0.false), w.1, w.2)
           (stands_none l.loop.out l.loop.next)),
     ))
     c.if1.branch
@@ -82,13 +82,13 @@ returns c =
     let l = c.before in
     let s = start l in
     let a = s.args in
-    let all = take_all l.loop.set (sets_of a.n) (omega (arith, length_from 0 (2 ^ a.n), s.pre.0.1)) in
+    let all = take_all l.loop.set (sets_of a.n) (omega (arith, length_from 0 (2 ^ a.n), s.requires.0.1)) in
     let w = stands_same l.loop.invariant.1 (ap (λ (ms : List ℕ). of_size (size a.n) (listed_in a.notes.now) ms a.k) all) in
     (w.written, w.ends)
 
 pub write_size_spec : {M : Type 1} → statement M
 write_size_spec = tie.close (tie.spec
-    invariant_loop decreases_loop (λ c. (omega arith, none_yet c)) (λ c κs. ((start c.before).pre.0.0, omega arith)) cast_out
+    invariant_loop decreases_loop (λ c. (omega arith, none_yet c)) (λ c κs. ((start c.before).requires.0.0, omega arith)) cast_out
     (λ c. omega (arith, room c, stands_long c.before.before.before.loop.invariant.1)) room
     (λ c. omega (arith, room c, stands_long c.before.before.before.loop.invariant.1)) (λ c. omega arith) (λ c. omega arith) loop_again
     (λ c. stands_long c.before.loop.invariant.1) returns)

@@ -1,5 +1,5 @@
 -- `answering::too_many_open` meets its contract, by what the reader answers.
-use Rattle.meaning.proofs.Kit.{◌∙◌, sym, ap, ltb, needs}
+use Rattle.meaning.proofs.Kit.{◌∙◌, sym, ap, ltb, rules}
 use Rattle.chains.proofs.Words.{extent, Answer}
 use Rattle.spell.proofs.answering.too_many_open.Statement.{statement}
 use Rattle.spell.proofs.answering.too_many_open.Tie as tie
@@ -18,4 +18,4 @@ returns_2 c =
 
 pub too_many_open_spec : {M : Type 1} → statement M
 too_many_open_spec = tie.close (tie.spec
-    (λ c. search needs) (λ c κs. search needs) (λ c. search needs) (λ c. search needs) returns returns_2)
+    (λ c. search rules) (λ c κs. search rules) (λ c. search rules) (λ c. search rules) returns returns_2)

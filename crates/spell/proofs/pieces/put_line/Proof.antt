@@ -1,5 +1,5 @@
 -- `pieces::put_line` meets its contract. The invariant: the first k bytes of the line are put.
-use Rattle.meaning.proofs.Kit.{◌≡◌, refl, map, ◌≤◌, ◌-◌, ◌+◌, add-zero, arith, length, take, length-set, take_all, needs}
+use Rattle.meaning.proofs.Kit.{◌≡◌, refl, map, ◌≤◌, ◌-◌, ◌+◌, add-zero, arith, length, take, length-set, take_all, rules}
 use Rattle.spelling.specs.Text.{Put}
 use Rattle.spelling.proofs.Pieces.{put_none}
 use Rattle.spell.specs.Shown.{shown_byte}
@@ -30,5 +30,5 @@ returns c =
 
 pub put_line_spec : {M : Type 1} → statement M
 put_line_spec = tie.close (tie.spec
-    invariant_loop decreases_loop (λ c. (omega arith, refl, rw add-zero (put_none _ _))) (λ c. omega arith) (λ c κs. search needs) (λ c. omega arith)
+    invariant_loop decreases_loop (λ c. (omega arith, refl, rw add-zero (put_none _ _))) (λ c. omega arith) (λ c κs. search rules) (λ c. omega arith)
     (λ c. omega arith) (λ c. omega arith) (λ c. omega arith) loop_again (λ c. omega arith) (λ c. omega arith) returns)

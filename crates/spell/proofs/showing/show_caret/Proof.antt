@@ -1,5 +1,5 @@
 -- `showing::show_caret` is safe: the page has room for the blanks, the caret and the line feed.
-use Rattle.meaning.proofs.Kit.{sym, arith, length-take-le, needs}
+use Rattle.meaning.proofs.Kit.{sym, arith, length-take-le, rules}
 use Rattle.spelling.proofs.Pieces.{put_length}
 use Rattle.spell.proofs.showing.show_caret.Statement.{statement}
 use Rattle.spell.proofs.showing.show_caret.Tie as tie
@@ -19,5 +19,5 @@ slice_aggregate_write_all c =
 
 pub show_caret_spec : {M : Type 1} → statement M
 show_caret_spec = tie.close (tie.spec
-    (λ c κs. search needs) (λ c. search needs) (λ c κs. search needs) (λ c. search needs) slice_aggregate_write_all (λ c κs. search needs)
-    (λ c. search needs) (λ c. search needs))
+    (λ c κs. search rules) (λ c. search rules) (λ c κs. search rules) (λ c. search rules) slice_aggregate_write_all (λ c κs. search rules)
+    (λ c. search rules) (λ c. search rules))

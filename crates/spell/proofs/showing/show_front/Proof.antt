@@ -1,5 +1,5 @@
 -- `showing::show_front` is safe: the first bytes take no more room than all.
-use Rattle.meaning.proofs.Kit.{◌≡◌, sym, arith, length, take, length-take-le, needs}
+use Rattle.meaning.proofs.Kit.{◌≡◌, sym, arith, length, take, length-take-le, rules}
 use Rattle.spell.proofs.showing.show_front.Statement.{statement}
 use Rattle.spell.proofs.showing.show_front.Tie as tie
 
@@ -12,5 +12,5 @@ show_bytes_requires_2 c κs = let e = c.before.before.before in omega (arith, fr
 
 pub show_front_spec : {M : Type 1} → statement M
 show_front_spec = tie.close (tie.spec
-    (λ c. search needs) (λ c κs. search needs) (λ c. search needs) (λ c. search needs) (λ c. sym (front c.before.before))
-    (λ c. search needs) show_bytes_requires_2 (λ c. search needs) (λ c. search needs))
+    (λ c. search rules) (λ c κs. search rules) (λ c. search rules) (λ c. search rules) (λ c. sym (front c.before.before))
+    (λ c. search rules) show_bytes_requires_2 (λ c. search rules) (λ c. search rules))

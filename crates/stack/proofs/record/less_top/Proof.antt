@@ -1,5 +1,5 @@
 -- `record::less_top` meets its contract: it changes the furnace's stack and puts it back.
-use Rattle.meaning.proofs.Kit.{◌≤◌, arith, needs}
+use Rattle.meaning.proofs.Kit.{◌≤◌, arith, rules}
 use Rattle.stack.proofs.record.less_top.Statement.{statement}
 use Rattle.stack.proofs.record.less_top.Tie as tie
 
@@ -11,5 +11,5 @@ returns c = rw (← c.before.stack_of.ensures) c.with-stack.ensures
 
 pub less_top_spec : {M : Type 1} → statement M
 less_top_spec = tie.close (tie.spec
-    (λ c κs. search needs) (λ c. search needs) (λ c. (some c).0) (λ c. search needs) (λ c. omega (arith, (some c).0, (some c).1)) (λ c. (some c).0)
-    (λ c κs. search needs) returns)
+    (λ c κs. search rules) (λ c. search rules) (λ c. (some c).0) (λ c. search rules) (λ c. omega (arith, (some c).0, (some c).1)) (λ c. (some c).0)
+    (λ c κs. search rules) returns)

@@ -1,5 +1,5 @@
 -- `record::on_top` meets its contract: it changes the furnace's stack and puts it back.
-use Rattle.meaning.proofs.Kit.{◌∙◌, ap, ◌<◌, ◌+◌, add-one, arith, set, to_z-of_z, needs}
+use Rattle.meaning.proofs.Kit.{◌∙◌, ap, ◌<◌, ◌+◌, add-one, arith, set, to_z-of_z, rules}
 use Rattle.stack.specs.Stacking.{with_stack}
 use Rattle.stack.proofs.record.on_top.Statement.{statement}
 use Rattle.stack.proofs.record.on_top.Tie as tie
@@ -18,4 +18,4 @@ returns c =
 
 pub on_top_spec : {M : Type 1} → statement M
 on_top_spec = tie.close (tie.spec
-    (λ c κs. search needs) (λ c. search needs) (λ c. search needs) room (λ c. omega (arith, room c)) (λ c κs. search needs) returns)
+    (λ c κs. search rules) (λ c. search rules) (λ c. search rules) room (λ c. omega (arith, room c)) (λ c κs. search rules) returns)

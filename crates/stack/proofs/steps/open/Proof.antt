@@ -1,5 +1,5 @@
 -- `steps::open` meets its contract: what the stacks come to is told by the board's open.
-use Rattle.meaning.proofs.Kit.{needs}
+use Rattle.meaning.proofs.Kit.{rules}
 use Rattle.stack.specs.Steps.{opened_with}
 use Rattle.stack.proofs.steps.open.Statement.{statement}
 use Rattle.stack.proofs.steps.open.Tie as tie
@@ -13,4 +13,4 @@ unfolding opened_with
 returns_2 c = rw (← c.before.before.«open».ensures, c.enum-told2.given.1)
 
 pub open_spec : {M : Type 1} → statement M
-open_spec = tie.close (tie.spec (λ c κs. search needs) (λ c. search needs) (λ c κs. search needs) (λ c. search needs) returns returns_2)
+open_spec = tie.close (tie.spec (λ c κs. search rules) (λ c. search rules) (λ c κs. search rules) (λ c. search rules) returns returns_2)

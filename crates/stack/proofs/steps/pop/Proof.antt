@@ -1,5 +1,5 @@
 -- `steps::pop` meets its contract: its tests are the faults of `pop_faults`, in their order.
-use Rattle.meaning.proofs.Kit.{◌≡◌, ◌∙◌, sym, ap, true, ◌≤◌, arith, length, to_z-of_z, needs, ne_eqb, eq-eqb, not-false, not-true}
+use Rattle.meaning.proofs.Kit.{◌≡◌, ◌∙◌, sym, ap, true, ◌≤◌, arith, length, to_z-of_z, rules, ne_eqb, eq-eqb, not-false, not-true}
 use Rattle.literals.specs.Literal.{in_range, place_of}
 use Rattle.literals.proofs.Signed.{back, small_abs}
 use Rattle.literals.proofs.Arguments.{range_facts, range_more, place_fits}
@@ -34,7 +34,7 @@ furnace : (c : tie.Else3) → is_furnace (start c).args.furnace ≡ true
 furnace c = sym c.before.is_furnace.ensures ∙ not-false _ c.if3.false
 
 long : (s : tie.Start) → (length s.args.stacks.first.literals ≡ 400) × (length s.args.stacks.second.literals ≡ 400)
-long s = (search needs, search needs)
+long s = (search rules, search rules)
 
 stack : (c : tie.Else3) → let a = (start c).args in Known a.board a.stacks a.furnace
 stack c = known _ _ _ _ (good (first (second c))) (board (second c)) (furnace c) (long (start c)).0 (long (start c)).1
@@ -116,6 +116,6 @@ returns_5 c =
 
 pub pop_spec : {M : Type 1} → statement M
 pop_spec = tie.close (tie.spec
-    (λ c κs. search needs) (λ c κs. search needs) returns (λ c κs. search needs) (λ c κs. search needs) returns_2 (λ c κs. search needs)
-    (λ c κs. search needs) returns_3 (λ c κs. search needs) (λ c κs. search needs) returns_4 top_of_requires place_requires with_flag_requires
+    (λ c κs. search rules) (λ c κs. search rules) returns (λ c κs. search rules) (λ c κs. search rules) returns_2 (λ c κs. search rules)
+    (λ c κs. search rules) returns_3 (λ c κs. search rules) (λ c κs. search rules) returns_4 top_of_requires place_requires with_flag_requires
     less_top_requires returns_5)

@@ -1,5 +1,5 @@
 -- `steps::push` meets its contract: it is the board's hold, and on a stack of premises there is room for a literal that was none.
-use Rattle.meaning.proofs.Kit.{◌≡◌, ◌∙◌, sym, ap, true, arith, length, to_z-of_z, needs, not-false, not-true}
+use Rattle.meaning.proofs.Kit.{◌≡◌, ◌∙◌, sym, ap, true, arith, length, to_z-of_z, rules, not-false, not-true}
 use Rattle.literals.specs.declared.refusal.Refusal.TheVariants.{AlreadyHeld}
 use Rattle.board.specs.Changes.{flag_changed, hold_answer}
 use Rattle.stack.specs.Stacking.{good_stacks}
@@ -17,7 +17,7 @@ good : (c : tie.Else1) → let s = c.before.before in good_stacks s.args.board s
 good c = sym c.before.good-stacks.ensures ∙ not-false _ c.if1.false
 
 long : (s : tie.Start) → (length s.args.stacks.first.literals ≡ 400) × (length s.args.stacks.second.literals ≡ 400)
-long s = (search needs, search needs)
+long s = (search rules, search rules)
 
 -- the change is the board's
 same : (c : tie.After-hold) → let a = (start c).args in c.hold.result ≡ hold_answer a.table.now a.board a.furnace a.l
@@ -55,5 +55,5 @@ returns_3 c =
 
 pub push_spec : {M : Type 1} → statement M
 push_spec = tie.close (tie.spec
-    (λ c κs. search needs) (λ c κs. search needs) returns (λ c κs. search needs) (λ c. search needs) (λ c κs. search needs) (λ c. search needs)
+    (λ c κs. search rules) (λ c κs. search rules) returns (λ c κs. search rules) (λ c. search rules) (λ c κs. search rules) (λ c. search rules)
     on_top_requires returns_2 returns_3)

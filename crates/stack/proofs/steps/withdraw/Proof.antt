@@ -1,5 +1,5 @@
 -- `steps::withdraw` meets its contract: it is the board's withdraw, but for a literal that is stacked.
-use Rattle.meaning.proofs.Kit.{◌≡◌, ◌∙◌, sym, ap, true, false, ◌&&◌, length, to_z-of_z, needs, not-false, not-true}
+use Rattle.meaning.proofs.Kit.{◌≡◌, ◌∙◌, sym, ap, true, false, ◌&&◌, length, to_z-of_z, rules, not-false, not-true}
 use Rattle.board.specs.Furnaces.{held_by}
 use Rattle.meaning.proofs.Tests.{both_true, all_imp}
 use Rattle.meaning.specs.Literals.{has}
@@ -22,7 +22,7 @@ good : (c : tie.Else1) → let s = c.before.before in good_stacks s.args.board s
 good c = sym c.before.good-stacks.ensures ∙ not-false _ c.if1.false
 
 long : (s : tie.Start) → (length s.args.stacks.first.literals ≡ 400) × (length s.args.stacks.second.literals ≡ 400)
-long s = (search needs, search needs)
+long s = (search rules, search rules)
 
 -- the change is the board's
 same : (c : tie.After-withdraw) → let a = (start c).args in c.withdraw.result ≡ withdraw_answer a.table.now a.board a.furnace a.l
@@ -86,5 +86,5 @@ returns_4 c =
 
 pub withdraw_spec : {M : Type 1} → statement M
 withdraw_spec = tie.close (tie.spec
-    (λ c κs. search needs) (λ c κs. search needs) returns (λ c κs. search needs) (λ c. search needs) (λ c κs. search needs) (λ c. search needs)
-    (λ c κs. search needs) is_stacked_requires (λ c κs. search needs) returns_2 returns_3 returns_4)
+    (λ c κs. search rules) (λ c κs. search rules) returns (λ c κs. search rules) (λ c. search rules) (λ c κs. search rules) (λ c. search rules)
+    (λ c κs. search rules) is_stacked_requires (λ c κs. search rules) returns_2 returns_3 returns_4)

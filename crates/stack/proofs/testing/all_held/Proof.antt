@@ -1,6 +1,6 @@
 -- `testing::all_held` meets its contract. The invariant: the literals from k on, of the flags that are left, tell what all of them tell.
 use Rattle.meaning.proofs.Kit.{◌≡◌, ◌∙◌, sym, ap, refl, true, false, Bool, ◌&&◌, ◌≤◌, ◌-◌, ◌+◌, arith, ℤ, pos, length, get_or, drop, set, length-set}
-use Rattle.meaning.proofs.Kit.{drop_of_length-le, w16, SFits, to_z-of_z, needs, not-false, not-true}
+use Rattle.meaning.proofs.Kit.{drop_of_length-le, w16, SFits, to_z-of_z, rules, not-false, not-true}
 use Rattle.meaning.specs.Literals.{has}
 use Rattle.literals.specs.Literal.{in_range, place_of}
 use Rattle.literals.proofs.Signed.{back}
@@ -30,22 +30,22 @@ at c = c.before.before.before.before
 
 -- what the literals after it tell, with its flag struck off
 abbrev rest : tie.At-loop invariant_loop decreases_loop → Bool
-rest l = let a = l.before.args in all_struck a.symbols (set l.loop.left (place_of (here l)) false) (drop (l.loop.k + 1) a.on.now)
+rest l = let a = l.before.args in all_struck a.symbols (set l.loop.false (place_of (here l)) false) (drop (l.loop.k + 1) a.on.now)
 
 next : (c : tie.After-is-flagged invariant_loop decreases_loop) → let a = (at c).before.args in
     all_struck a.symbols a.held a.on.now ≡ (c.is-flagged.result && rest (at c))
 next c =
     let l = at c in
     let a = l.before.args in
-    let test : ℤ → Bool = λ m. in_range a.symbols m && has l.loop.left (place_of m) in
-    sym l.loop.inv.2 ∙ struck_drop a.symbols l.loop.left a.on.now l.loop.k (omega arith)
+    let test : ℤ → Bool = λ m. in_range a.symbols m && has l.loop.false (place_of m) in
+    sym l.loop.invariant.2 ∙ struck_drop a.symbols l.loop.false a.on.now l.loop.k (omega arith)
     ∙ ap (λ (b : Bool). b && rest l) (sym (c.is-flagged.ensures ∙ ap test (to_z-of_z (fits c.before.before))))
 
 within : (c : tie.Else1 invariant_loop decreases_loop) → in_range 200 (back (here (at c.before))) ≡ true
 within c =
     let f = c.before in
     let l = at f in
-    flag_within l.before.args.symbols 200 l.loop.left (back (here l)) l.loop.inv.1
+    flag_within l.before.args.symbols 200 l.loop.false (back (here l)) l.loop.invariant.1
     (sym f.is-flagged.ensures ∙ not-false _ c.if1.false)
 
 returns : tie.Need-returns invariant_loop decreases_loop
@@ -60,8 +60,8 @@ loop_again c =
     let l = at f in
     let a = l.before.args in (
       omega arith,
-      simp length-set l.loop.inv.1,
-      ap (λ p. all_struck a.symbols (set l.loop.left p false) (drop (l.loop.k + 1) a.on.now))
+      simp length-set l.loop.invariant.1,
+      ap (λ p. all_struck a.symbols (set l.loop.false p false) (drop (l.loop.k + 1) a.on.now))
           (c.place.ensures ∙ ap place_of (to_z-of_z (fits f.before.before)))
           ∙ sym (next f ∙ ap (λ (b : Bool). b && rest l) (not-false f.is-flagged.result c.before.if1.false)),
     )
@@ -70,9 +70,9 @@ returns_2 : tie.Need-returns-2 invariant_loop decreases_loop
 returns_2 c =
     let l = c.before in
     let a = l.before.args in
-    sym (ap (all_struck a.symbols l.loop.left) (drop_of_length-le a.on.now {i = l.loop.k} (omega arith))) ∙ l.loop.invariant.2
+    sym (ap (all_struck a.symbols l.loop.false) (drop_of_length-le a.on.now {i = l.loop.k} (omega arith))) ∙ l.loop.invariant.2
 
 pub all_held_spec : {M : Type 1} → statement M
 all_held_spec = tie.close (tie.spec
-    invariant_loop decreases_loop (λ c. (omega arith, search needs, refl)) (λ c. omega arith) (λ c. omega arith) (λ c. search needs) (λ c κs. search needs) returns
+    invariant_loop decreases_loop (λ c. (omega arith, search rules, refl)) (λ c. omega arith) (λ c. omega arith) (λ c. search rules) (λ c κs. search rules) returns
     (λ c κs. range_facts 200 (back (here (at c.before))) (within c)) array_write_left (λ c. omega arith) (λ c. omega arith) loop_again returns_2)

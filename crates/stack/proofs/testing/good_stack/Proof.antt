@@ -1,5 +1,5 @@
 -- `testing::good_stack` meets its contract: the count is tested by halves, and of a count beyond the places all of them are looked at.
-use Rattle.meaning.proofs.Kit.{◌≡◌, ◌∙◌, sym, ap, ⊎_elim, ◌≤◌, ℕ, ◌*◌, arith, length, take, length-take-le, take_all, needs, lt-leb}
+use Rattle.meaning.proofs.Kit.{◌≡◌, ◌∙◌, sym, ap, ⊎_elim, ◌≤◌, ℕ, ◌*◌, arith, length, take, length-take-le, take_all, rules, lt-leb}
 use Rattle.stack.specs.Stacking.{on_stack, good_stack}
 use Rattle.stack.specs.Striking.{all_struck}
 use Rattle.stack.proofs.Struck.{good_struck}
@@ -10,10 +10,10 @@ abbrev start : tie.Joined2 → tie.Start
 start c = c.before.before.before
 
 long : (c : tie.Joined2) → length (start c).args.stack.literals ≡ 400
-long c = search needs
+long c = search rules
 
 short : (c : tie.Joined2) → c.if2.on ≤ 400
-short c = ⊎_elim (λ t. omega (arith, t.0.taken, t.1)) (λ t. omega (arith, t.1)) c.if2.branch
+short c = ⊎_elim (λ t. omega (arith, t.0.true, t.1)) (λ t. omega (arith, t.1)) c.if2.branch
 
 -- the literals that are looked at are those on the stack
 same : (c : tie.Joined2) → take c.if2.on (start c).args.stack.literals ≡ on_stack (start c).args.stack
@@ -22,7 +22,7 @@ same c =
     let whole : (n : ℕ) → 400 ≤ n → take n s.literals ≡ s.literals = λ n h. take_all n s.literals (omega (arith, long c, h)) in
     ⊎_elim
     (λ t. ap (λ n. take n s.literals) t.1)
-    (λ t. whole c.if2.on (omega (arith, t.1)) ∙ sym (whole s.count t.0.left))
+    (λ t. whole c.if2.on (omega (arith, t.1)) ∙ sym (whole s.count t.0.false))
     c.if2.branch
 
 returns : tie.Need-returns
@@ -38,5 +38,5 @@ returns_2 c =
 
 pub good_stack_spec : {M : Type 1} → statement M
 good_stack_spec = tie.close (tie.spec
-    (λ c. search needs) (λ c. search needs) returns (λ c. omega (arith, short c.before, long c.before))
-    (λ c. let j = c.before.before in sym (length-take-le _ _ (omega (arith, short j, long j)))) (λ c κs. search needs) returns_2)
+    (λ c. search rules) (λ c. search rules) returns (λ c. omega (arith, short c.before, long c.before))
+    (λ c. let j = c.before.before in sym (length-take-le _ _ (omega (arith, short j, long j)))) (λ c κs. search rules) returns_2)

@@ -1,5 +1,5 @@
 -- `testing::good_stacks` meets its contract: it tests the one stack and then the other.
-use Rattle.meaning.proofs.Kit.{◌∙◌, sym, needs, not-false, not-true}
+use Rattle.meaning.proofs.Kit.{◌∙◌, sym, rules, not-false, not-true}
 use Rattle.stack.specs.Stacking.{good_stacks}
 use Rattle.stack.proofs.testing.good_stacks.Statement.{statement}
 use Rattle.stack.proofs.testing.good_stacks.Tie as tie
@@ -13,4 +13,4 @@ unfolding good_stacks
 returns_2 c = let e = c.before.before in rw (sym e.before.good-stack.ensures ∙ not-false _ e.if1.false) c.good-stack2.ensures
 
 pub good_stacks_spec : {M : Type 1} → statement M
-good_stacks_spec = tie.close (tie.spec (λ c κs. search needs) returns (λ c κs. search needs) returns_2)
+good_stacks_spec = tie.close (tie.spec (λ c κs. search rules) returns (λ c κs. search rules) returns_2)

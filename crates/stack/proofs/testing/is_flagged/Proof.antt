@@ -1,5 +1,5 @@
 -- `testing::is_flagged` meets its contract: a literal beyond the places of the flags stands among none of them.
-use Rattle.meaning.proofs.Kit.{◌≡◌, ◌∙◌, sym, true, arith, needs, not-false, not-true}
+use Rattle.meaning.proofs.Kit.{◌≡◌, ◌∙◌, sym, true, arith, rules, not-false, not-true}
 use Rattle.meaning.proofs.Tests.{false_of, clash}
 use Rattle.literals.specs.Literal.{in_range}
 use Rattle.literals.proofs.Signed.{back}
@@ -22,13 +22,13 @@ returns_2 : tie.Need-returns-2
 returns_2 c =
     let s = start c.before.before in
     let out = range_is s.fits.l 200 _ c.before.in-range2.ensures ∙ not-true _ c.if2.true in
-    sym (false_of _ (λ e. clash (flag_within s.args.symbols 200 s.args.flags.now s.args.l s.pre e) out))
+    sym (false_of _ (λ e. clash (flag_within s.args.symbols 200 s.args.flags.now s.args.l s.requires e) out))
 
 shared_slice_read_result : tie.Need-shared-slice-read-result
 shared_slice_read_result c =
     let p = c.before in
     let s = start p.before.before.before in
-    omega (arith, p.place.ensures, place_fits 200 (back s.args.l) (within p.before), s.pre)
+    omega (arith, p.place.ensures, place_fits 200 (back s.args.l) (within p.before), s.requires)
 
 returns_3 : tie.Need-returns-3
 returns_3 c =
@@ -39,5 +39,5 @@ returns_3 c =
 
 pub is_flagged_spec : {M : Type 1} → statement M
 is_flagged_spec = tie.close (tie.spec
-    (λ c κs. search needs) returns (λ c κs. search needs) returns_2 (λ c κs. range_facts 200 (back (start c.before.before).args.l) (within c))
+    (λ c κs. search rules) returns (λ c κs. search rules) returns_2 (λ c κs. range_facts 200 (back (start c.before.before).args.l) (within c))
     shared_slice_read_result returns_3)

@@ -1,5 +1,5 @@
 -- `testing::is_stacked` meets its contract: it looks for the literal among those on the stack.
-use Rattle.meaning.proofs.Kit.{◌≡◌, ◌∙◌, sym, ap, arith, length, length-take-le, to_z-of_z, needs}
+use Rattle.meaning.proofs.Kit.{◌≡◌, ◌∙◌, sym, ap, arith, length, length-take-le, to_z-of_z, rules}
 use Rattle.meaning.specs.Tests.{member}
 use Rattle.literals.specs.Literal.{in_range, place_of}
 use Rattle.candidates.specs.Given.{places_of}
@@ -11,10 +11,10 @@ abbrev start : tie.After-places → tie.Start
 start c = c.before.before
 
 long : (c : tie.After-places) → length (start c).args.stack.literals ≡ 400
-long c = search needs
+long c = search rules
 
 is_on_requires : tie.Need-is-on-requires
-is_on_requires c κs = let s = start c.before in (s.pre.1, ap (in_range 200) (to_z-of_z s.fits.l) ∙ s.pre.2)
+is_on_requires c κs = let s = start c.before in (s.requires.1, ap (in_range 200) (to_z-of_z s.fits.l) ∙ s.requires.2)
 
 returns : tie.Need-returns
 returns c =
@@ -23,5 +23,5 @@ returns c =
 
 pub is_stacked_spec : {M : Type 1} → statement M
 is_stacked_spec = tie.close (tie.spec
-    (λ c. search needs) (λ c. omega (arith, (start c).requires.0, long c))
+    (λ c. search rules) (λ c. omega (arith, (start c).requires.0, long c))
     (λ c. let p = c.before in sym (length-take-le _ _ (omega (arith, (start p).requires.0, long p)))) is_on_requires returns)

@@ -1,5 +1,5 @@
 -- `adding::add_long` meets its contract: the bytes that the buffer holds tell what all of them do.
-use Rattle.meaning.proofs.Kit.{◌≡◌, ◌∙◌, sym, ⊎_elim, ◌≤◌, min, arith, length, length-take-le, needs}
+use Rattle.meaning.proofs.Kit.{◌≡◌, ◌∙◌, sym, ⊎_elim, ◌≤◌, min, arith, length, length-take-le, rules}
 use Rattle.text.specs.Reading.{bytes_in}
 use Rattle.formula.proofs.Sizes.{enough}
 use Rattle.text.proofs.Rooms.{kept_fits, kept_held}
@@ -9,7 +9,7 @@ use Rattle.text.proofs.adding.add_long.Tie as tie
 
 -- what is kept is in the buffer, and is enough
 kept : (j : tie.Joined1) → j.if1.auto ≡ min j.before.before.emit.result enough
-kept j = ⊎_elim (λ w. omega (arith, w.1, w.0.taken)) (λ w. omega (arith, w.1, w.0.left)) j.if1.branch
+kept j = ⊎_elim (λ w. omega (arith, w.1, w.0.true)) (λ w. omega (arith, w.1, w.0.false)) j.if1.branch
 
 fits : (j : tie.Joined1) → j.if1.auto ≤ length j.before.before.emit.new.1.0
 fits j =
@@ -31,4 +31,4 @@ returns c =
 
 pub add_long_spec : {M : Type 1} → statement M
 add_long_spec = tie.close (tie.spec
-    (λ c. search needs) (λ c κs. search needs) (λ c. fits c.before) slice_aggregate_add_rule (λ c κs. search needs) (λ c. search needs) returns)
+    (λ c. search rules) (λ c κs. search rules) (λ c. fits c.before) slice_aggregate_add_rule (λ c κs. search rules) (λ c. search rules) returns)

@@ -1,5 +1,5 @@
 -- `adding::add_short` meets its contract: the buffer holds all the bytes of a short text.
-use Rattle.meaning.proofs.Kit.{◌≡◌, sym, ◌≤◌, arith, length, take, length-take-le, needs}
+use Rattle.meaning.proofs.Kit.{◌≡◌, sym, ◌≤◌, arith, length, take, length-take-le, rules}
 use Rattle.text.specs.Reading.{bytes_in}
 use Rattle.text.proofs.Rooms.{all_fit, all_held}
 use Rattle.text.proofs.adding.add_short.Statement.{statement}
@@ -22,5 +22,5 @@ returns c =
 
 pub add_short_spec : {M : Type 1} → statement M
 add_short_spec = tie.close (tie.spec
-    (λ c. search needs) (λ c κs. search needs) (λ c. fits c.before.before) slice_aggregate_add_rule (λ c κs. search needs) (λ c. search needs)
+    (λ c. search rules) (λ c κs. search rules) (λ c. fits c.before.before) slice_aggregate_add_rule (λ c κs. search rules) (λ c. search rules)
     returns)

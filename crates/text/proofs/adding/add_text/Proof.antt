@@ -1,5 +1,5 @@
 -- `adding::add_text` meets its contract: its tests are those of `ruled_text`, the board's last.
-use Rattle.meaning.proofs.Kit.{◌≡◌, ◌∙◌, sym, ap, true, needs}
+use Rattle.meaning.proofs.Kit.{◌≡◌, ◌∙◌, sym, ap, true, rules}
 use Rattle.chains.proofs.Words.{is_good, whole_text}
 use Rattle.formula.proofs.Parsing.{answer_good, answer_bad}
 use Rattle.text.proofs.RuledText.{text_bytes, text_table, text_broken, board_spoilt}
@@ -46,5 +46,5 @@ returns_3 c =
 
 pub add_text_spec : {M : Type 1} → statement M
 add_text_spec = tie.close (tie.spec
-    (λ c κs. search needs) (λ c. search needs) (λ c κs. keeps c.before) (λ c. search needs) (λ c κs. search needs) (λ c κs. search needs)
-    (λ c. search needs) returns (λ c κs. search needs) (λ c. search needs) returns_2 (λ c. search needs) returns_3)
+    (λ c κs. search rules) (λ c. search rules) (λ c κs. keeps c.before) (λ c. search rules) (λ c κs. search rules) (λ c κs. search rules)
+    (λ c. search rules) returns (λ c κs. search rules) (λ c. search rules) returns_2 (λ c. search rules) returns_3)

@@ -1,5 +1,5 @@
 -- `reading::judge_long` meets its contract: the bytes that the buffer holds tell what all of them do.
-use Rattle.meaning.proofs.Kit.{◌≡◌, ◌∙◌, sym, ap, ⊎_elim, ◌≤◌, min, arith, length, length-take-le, needs}
+use Rattle.meaning.proofs.Kit.{◌≡◌, ◌∙◌, sym, ap, ⊎_elim, ◌≤◌, min, arith, length, length-take-le, rules}
 use Rattle.text.specs.Reading.{bytes_in}
 use Rattle.formula.proofs.Sizes.{enough, front_whole}
 use Rattle.text.proofs.Rooms.{kept_fits, kept_held}
@@ -9,7 +9,7 @@ use Rattle.text.proofs.reading.judge_long.Tie as tie
 
 -- what is kept is in the buffer, and is enough
 kept : (j : tie.Joined1) → j.if1.auto ≡ min j.before.before.emit.result enough
-kept j = ⊎_elim (λ w. omega (arith, w.1, w.0.taken)) (λ w. omega (arith, w.1, w.0.left)) j.if1.branch
+kept j = ⊎_elim (λ w. omega (arith, w.1, w.0.true)) (λ w. omega (arith, w.1, w.0.false)) j.if1.branch
 
 fits : (j : tie.Joined1) → j.if1.auto ≤ length j.before.before.emit.new.1.0
 fits j =
@@ -30,4 +30,4 @@ returns c =
 
 pub judge_long_spec : {M : Type 1} → statement M
 judge_long_spec = tie.close (tie.spec
-    (λ c. search needs) (λ c κs. search needs) fits slice_aggregate_read_whole (λ c κs. search needs) returns)
+    (λ c. search rules) (λ c κs. search rules) fits slice_aggregate_read_whole (λ c κs. search rules) returns)

@@ -1,5 +1,5 @@
 -- `reading::judge_short` meets its contract: the buffer holds all the bytes of a short text.
-use Rattle.meaning.proofs.Kit.{◌∙◌, sym, ap, ◌≤◌, arith, length, length-take-le, needs}
+use Rattle.meaning.proofs.Kit.{◌∙◌, sym, ap, ◌≤◌, arith, length, length-take-le, rules}
 use Rattle.chains.proofs.Words.{whole_of, read_of}
 use Rattle.text.proofs.Rooms.{all_fit, all_held}
 use Rattle.text.proofs.reading.judge_short.Statement.{statement}
@@ -20,4 +20,4 @@ returns c =
 
 pub judge_short_spec : {M : Type 1} → statement M
 judge_short_spec = tie.close (tie.spec
-    (λ c. search needs) (λ c κs. search needs) (λ c. fits c.before) slice_aggregate_read_whole (λ c κs. search needs) returns)
+    (λ c. search rules) (λ c κs. search rules) (λ c. fits c.before) slice_aggregate_read_whole (λ c κs. search rules) returns)

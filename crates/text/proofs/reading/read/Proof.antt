@@ -1,5 +1,5 @@
 -- `reading::read` meets its contract: its tests are the faults of `read_text_faults`, in their order.
-use Rattle.meaning.proofs.Kit.{◌≡◌, ◌∙◌, sym, ap, refl, true, List, ◌≤◌, ℕ, arith, length, needs, not-false, not-true, le-leb, lt-leb}
+use Rattle.meaning.proofs.Kit.{◌≡◌, ◌∙◌, sym, ap, refl, true, List, ◌≤◌, ℕ, arith, length, rules, not-false, not-true, le-leb, lt-leb}
 use Rattle.literals.specs.declared.refusal.Refusal.TheVariants.{BadBoard, TableTooShort}
 use Rattle.chains.proofs.Words.{is_good, whole_text}
 use Rattle.formula.proofs.Parsing.{answer_good, answer_bad}
@@ -102,6 +102,6 @@ returns_5 c =
 
 pub read_spec : {M : Type 1} → statement M
 read_spec = tie.close (tie.spec
-    (λ c κs. search needs) (λ c κs. search needs) returns (λ c κs. search needs) (λ c. search needs) (λ c κs. search needs) (λ c. search needs)
-    (λ c κs. keeps c) (λ c. search needs) (λ c κs. search needs) (λ c. search needs) (λ c κs. search needs) returns_2 emit_requires returns_3
+    (λ c κs. search rules) (λ c κs. search rules) returns (λ c κs. search rules) (λ c. search rules) (λ c κs. search rules) (λ c. search rules)
+    (λ c κs. keeps c) (λ c. search rules) (λ c κs. search rules) (λ c. search rules) (λ c κs. search rules) returns_2 emit_requires returns_3
     returns_4 (λ c. put_length c.before.before.emit.ensures) returns_5)

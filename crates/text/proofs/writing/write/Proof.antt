@@ -1,5 +1,5 @@
 -- `writing::write` meets its contract: its tests are the faults of `write_text_faults`, in their order.
-use Rattle.meaning.proofs.Kit.{◌≡◌, ◌∙◌, sym, ap, refl, true, needs, not-false, not-true}
+use Rattle.meaning.proofs.Kit.{◌≡◌, ◌∙◌, sym, ap, refl, true, rules, not-false, not-true}
 use Rattle.literals.specs.declared.refusal.Refusal.TheVariants.{BadBoard}
 use Rattle.chains.proofs.Words.{whole_of, is_good}
 use Rattle.formula.proofs.Parsing.{answer_good, answer_bad}
@@ -62,5 +62,5 @@ returns_3 c =
 
 pub write_spec : {M : Type 1} → statement M
 write_spec = tie.close (tie.spec
-    (λ c κs. search needs) (λ c κs. search needs) returns (λ c κs. search needs) (λ c. search needs) (λ c κs. search needs) (λ c. search needs)
-    write_formula_requires returns_2 (λ c. search needs) returns_3)
+    (λ c κs. search rules) (λ c κs. search rules) returns (λ c κs. search rules) (λ c. search rules) (λ c κs. search rules) (λ c. search rules)
+    write_formula_requires returns_2 (λ c. search rules) returns_3)

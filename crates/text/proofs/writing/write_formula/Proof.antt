@@ -1,5 +1,5 @@
 -- `writing::write_formula` meets its contract: what an empty buffer counts is the text's length.
-use Rattle.meaning.proofs.Kit.{◌≡◌, ◌∙◌, sym, ap, refl, true, List, ℕ, arith, length, needs}
+use Rattle.meaning.proofs.Kit.{◌≡◌, ◌∙◌, sym, ap, refl, true, List, ℕ, arith, length, rules}
 use Rattle.chains.proofs.Words.{levels, parse, whole_of, is_good, formula_of, spelled}
 use Rattle.spelling.proofs.Pieces.{put_length}
 use Rattle.board.proofs.Adding.{whole_is}
@@ -28,13 +28,13 @@ returns c =
     let p = c.before.before.before in
     let s = start p in
     let bytes = s.args.bytes.now in
-    let same = ap length (spelt s.args.symbols bytes s.pre.1) in
+    let same = ap length (spelt s.args.symbols bytes s.requires.1) in
     too_short s.args.symbols bytes s.args.out.now (omega (arith, p.spell.ensures.ends, same, c.before.if1.true)) c.refused.ensures
 
 spell_requires_2 : tie.Need-spell-requires-2
 spell_requires_2 c κs =
     let s = start c.before.before.before in
-    (s.pre.0, reads s.args.symbols s.args.bytes.now s.pre.1)
+    (s.requires.0, reads s.args.symbols s.args.bytes.now s.requires.1)
 
 returns_2 : tie.Need-returns-2
 returns_2 c =
@@ -43,11 +43,11 @@ returns_2 c =
     let p = else.before.before in
     let s = start p in
     let bytes = s.args.bytes.now in
-    let same = spelt s.args.symbols bytes s.pre.1 in
+    let same = spelt s.args.symbols bytes s.requires.1 in
     fitting s.args.symbols bytes s.args.out.now (omega (arith, p.spell.ensures.ends, ap length same, else.if1.false))
     (rw same at w.spell2.ensures) refl
 
 pub write_formula_spec : {M : Type 1} → statement M
 write_formula_spec = tie.close (tie.spec
-    (λ c. search needs) (λ c. search needs) spell_requires (λ c κs. search needs) returns spell_requires_2
+    (λ c. search rules) (λ c. search rules) spell_requires (λ c κs. search rules) returns spell_requires_2
     (λ c. put_length c.before.before.spell2.ensures) returns_2)
