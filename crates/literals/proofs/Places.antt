@@ -1,5 +1,5 @@
 -- Laws of places: of a literal by its sign and its symbol's number, and of the literal at a place.
-use Rattle.meaning.proofs.Kit.{◌≡◌, ◌∙◌, sym, ap, subst, ⊎_elim, true, false, ◌≤◌, ℕ, ◌<◌, ◌-◌, ◌+◌, suc, ◌*◌, zero, ◌/◌, ◌%◌, arith, T, ℤ, pos}
+use Rattle.meaning.proofs.Kit.{◌≡◌, ◌∙◌, sym, ap, subst, ⊎_elim, true, false, ◌≤◌, ℕ, ◌<◌, ◌+◌, suc, ◌*◌, zero, ◌/◌, ◌%◌, arith, T, ℤ, pos}
 use Rattle.meaning.proofs.Kit.{nat_abs, negsuc, ◌-ℤ◌, lt_z, w16, SFits, to_z-of_z, ne_eqb, eq-eqb, le-ltb, ltb-false}
 use lib.IntN.{◌*ℤ◌, neg_ℤ-neg_ℤ}
 use mir.Syntax.{w64}

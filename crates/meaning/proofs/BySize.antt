@@ -1,5 +1,5 @@
 -- Lists in order: by size, and as each element stands to every later one.
-use Rattle.meaning.proofs.Kit.{◌≡◌, ◌∙◌, sym, ap, refl, subst, ap₂, ⊎_elim, inl, inr, ◌⊎◌, true, false, Bool, cond, ◌&&◌, and-false, List, []}
+use Rattle.meaning.proofs.Kit.{◌≡◌, ◌∙◌, sym, ap, refl, subst, ap₂, ⊎_elim, inl, inr, true, false, Bool, cond, ◌&&◌, and-false, List, []}
 use Rattle.meaning.proofs.Kit.{◌∷◌, ◌++◌, map, In, here, there, in_nil, in_of_map, in_append_left, in_append_right, in_append, ◌≤◌, ℕ}
 use Rattle.meaning.proofs.Kit.{◌<◌, ◌+◌, suc, zero, add-one, arith, eqb, ltb, length, get_or, drop, take, length-append, take-append-drop}
 use Rattle.meaning.proofs.Kit.{take-suc, ne_eqb, eq-eqb, eqb-true, ltb-true, lt-ltb, le-ltb, eqb-false, ltb-false}

@@ -1,5 +1,5 @@
 -- What the rounds over any rows derive is what `Derived` says, with no rounds; and so is a conflict.
-use Rattle.meaning.proofs.Kit.{◌≡◌, ◌↔◌, ⊎_elim, inl, inr, ◌⊎◌, true, Bool, List, ℕ, suc, zero, eqb, eqb-true, eqb-false}
+use Rattle.meaning.proofs.Kit.{◌≡◌, ◌↔◌, ⊎_elim, inl, inr, true, Bool, List, ℕ, suc, zero, eqb, eqb-true, eqb-false}
 use Rattle.meaning.specs.Literals.{opp, has, conflict}
 use Rattle.meaning.specs.Rounds.{gives, by_rows, reached, derived}
 use Rattle.meaning.specs.Promises.{Derived, premise, by_row, DerivedIs, Conflict}

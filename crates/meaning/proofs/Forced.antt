@@ -1,5 +1,5 @@
 -- What the rounds over accepted rules force is what `Forced` says, with no rounds and no clauses.
-use Rattle.meaning.proofs.Kit.{◌≡◌, sym, subst, ⊎_elim, ◌⊎◌, true, Bool, ◌&&◌, List, In, in_of_map, in_map, ℕ, ◌<◌, suc, ◌*◌, zero, leb}
+use Rattle.meaning.proofs.Kit.{◌≡◌, sym, subst, ⊎_elim, true, Bool, ◌&&◌, List, In, in_of_map, in_map, ℕ, ◌<◌, suc, ◌*◌, zero, leb}
 use Rattle.meaning.proofs.Kit.{length}
 use Rattle.meaning.specs.Tests.{all}
 use Rattle.meaning.specs.Literals.{place, has}

@@ -1,5 +1,5 @@
 -- The literals of a row: what they have to do with the clause's symbols and with assignments; and the rows of several rules.
-use Rattle.meaning.proofs.Kit.{◌≡◌, ◌∙◌, sym, ap, refl, ⊎_elim, ◌⊎◌, true, false, Bool, ◌&&◌, not, true≢false, List, [], ◌∷◌, ◌++◌, In, here}
+use Rattle.meaning.proofs.Kit.{◌≡◌, ◌∙◌, sym, ap, refl, ⊎_elim, true, false, Bool, ◌&&◌, not, true≢false, List, [], ◌∷◌, ◌++◌, In, here}
 use Rattle.meaning.proofs.Kit.{there, append_assoc, in_nil, in_cons, in_of_map, in_map, in_append_left, in_append_right, ℕ, arith}
 use Rattle.meaning.proofs.Kit.{length, subst}
 use mathlib.Core.List.Memᴰ

@@ -1,5 +1,5 @@
 -- What is promised of these definitions, each as a type. The proofs are in `proofs/`, under the same names in small letters.
-use Rattle.std.specs.Prelude.{◌≡◌, ◌↔◌, ◌≢◌, ◌⊎◌, Bool, true, false, not, ◌&&◌, ℕ, suc, ◌-◌, ◌*◌, ◌≤◌, ◌<◌, eqb, length, get_or}
+use Rattle.std.specs.Prelude.{◌≡◌, ◌↔◌, ◌≢◌, ◌⊎◌, Bool, true, false, not, ◌&&◌, ℕ, suc, ◌*◌, ◌≤◌, ◌<◌, eqb, length, get_or}
 use mathlib.Core.List.{List, [], Memᴰ as In}
 use Rattle.meaning.specs.Tests.{any, all, none}
 use Rattle.meaning.specs.Literals.{place, opp, has, Within, conflict}

@@ -1,7 +1,6 @@
 -- `literals::row_sound` meets its contract. The loop's invariant: the row is sound exactly where the numbers from place k on rise
 -- from above `last`. The measure is what is left of the row.
-use Rattle.meaning.proofs.Kit.{◌≡◌, ◌∙◌, sym, ⊎_elim, ◌≤◌, ◌<◌, ◌-◌, arith, ℤ, pos, nat_abs, get_or, drop, take, rules, not-false, not-true, ltb-true}
-use Rattle.meaning.proofs.Kit.{ltb-false}
+use Rattle.meaning.proofs.Kit.{◌≡◌, ◌∙◌, sym, ⊎_elim, ◌≤◌, ◌<◌, ◌-◌, arith, ℤ, pos, nat_abs, get_or, drop, take, rules, not-false, not-true}
 use Rattle.literals.specs.Literal.{in_range}
 use Rattle.literals.specs.Row.{most_literals, rising, row_sound}
 use Rattle.literals.proofs.Signed.{back_abs}
