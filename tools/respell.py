@@ -19,6 +19,8 @@ FIELD = re.compile(r"^\s+(?:pub )?([^\s(){};,.\"]+) :(?:\s|$)")
 ALIAS = re.compile(r"\bas ([^\s(){};,.\"]+)")
 
 
+# names that stand beside another in one declaration, and locals
+BESIDE = {"asksWhole": "asks_whole", "newHeads": "new_heads", "newLinks": "new_links", "each_aRule": "each_a_rule"}
 # our names for some of the kit's
 CHOSEN = {
     "Bool·beq": "bool_beq",
@@ -139,6 +141,7 @@ def plan(root):
     for n in fields - shared:
         if odd(n):
             wanted[n] = snake(n)
+    wanted.update(BESIDE)
     return wanted, local, kit
 
 

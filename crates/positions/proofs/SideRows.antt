@@ -7,7 +7,7 @@ use Rattle.meaning.proofs.Tests.{all_of}
 use Rattle.literals.specs.Row.{width, Ruled, of_rule}
 use Rattle.implicates.specs.Appending.{appended}
 use Rattle.implicates.proofs.Appending.{appended_more, appended_none, length_appended}
-use Rattle.positions.specs.Writing.{Sees, side_of, each_aRule, side_rows}
+use Rattle.positions.specs.Writing.{Sees, side_of, each_a_rule, side_rows}
 use Rattle.positions.specs.declared.rows.View.{View}
 use Rattle.positions.proofs.RowKinds.{pair_row_in}
 use Rattle.positions.proofs.Turns.{all_left, next_of, none_left}
@@ -25,13 +25,13 @@ clause_small v i sees h =
 module _ (s : Side) (rules row : ℕ) (old : List ℤ) where
   -- those from position i on
   abbrev left : ℕ → List Ruled
-  left i = each_aRule (suc (rules + i)) (map (pair_row s) (from i (s.own.count - i)))
+  left i = each_a_rule (suc (rules + i)) (map (pair_row s) (from i (s.own.count - i)))
 
   -- those before position i are written
   pub record Written (table : List ℤ) (i : ℕ) : Type 0 where
     pub within : i ≤ s.own.count
     pub same : length table ≡ length old
-    pub is : appended table (row + i) (left i) ≡ appended old row (each_aRule (suc rules) (side_rows s))
+    pub is : appended table (row + i) (left i) ≡ appended old row (each_a_rule (suc rules) (side_rows s))
 
   pub written_none : Written old 0
   written_none =
@@ -40,7 +40,7 @@ module _ (s : Side) (rules row : ℕ) (old : List ℤ) where
         same = refl;
         is =
             rw (add-zero, add-zero)
-            (ap (λ (is : List ℕ). appended old row (each_aRule (suc rules) (map (pair_row s) is))) (sym (all_left s.own.count)));
+            (ap (λ (is : List ℕ). appended old row (each_a_rule (suc rules) (map (pair_row s) is))) (sym (all_left s.own.count)));
       }
 
   module _ (table : List ℤ) (i : ℕ) (w : Written table i) (h : i < s.own.count) (room : width * (row + s.own.count) ≤ length old) where
@@ -60,17 +60,17 @@ module _ (s : Side) (rules row : ℕ) (old : List ℤ) where
           within = omega arith;
           same = length_appended table (row + i) one fits ∙ w.same;
           is =
-              ap₂ (λ (r n : ℕ). appended (appended table (row + i) one) r (each_aRule n later)) next number
-              ∙ appended_more table (row + i) one (each_aRule (suc (rules + i + 1)) later) fits
+              ap₂ (λ (r n : ℕ). appended (appended table (row + i) one) r (each_a_rule n later)) next number
+              ∙ appended_more table (row + i) one (each_a_rule (suc (rules + i + 1)) later) fits
               ∙ ap (appended table (row + i)) again
               ∙ w.is;
         }
       where
-        again : one ++ each_aRule (suc (rules + i + 1)) later ≡ left i
+        again : one ++ each_a_rule (suc (rules + i + 1)) later ≡ left i
         again = rw (next_of i s.own.count h, add-one)
 
-  pub written_all : (table : List ℤ) (i : ℕ) → Written table i → s.own.count ≤ i → table ≡ appended old row (each_aRule (suc rules) (side_rows s))
+  pub written_all : (table : List ℤ) (i : ℕ) → Written table i → s.own.count ≤ i → table ≡ appended old row (each_a_rule (suc rules) (side_rows s))
   written_all table i w h =
       sym (appended_none table (row + i))
-      ∙ ap (λ (is : List ℕ). appended table (row + i) (each_aRule (suc (rules + i)) (map (pair_row s) is))) (sym (none_left i s.own.count h))
+      ∙ ap (λ (is : List ℕ). appended table (row + i) (each_a_rule (suc (rules + i)) (map (pair_row s) is))) (sym (none_left i s.own.count h))
       ∙ w.is

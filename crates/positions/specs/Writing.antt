@@ -28,9 +28,9 @@ pub record Sees (v : View) : Type 0 where
   pub within : (v.own + v.positions ≤ 201) × (v.partner + v.choices ≤ 201)
 
 -- rows that are each all that a rule has, of which the first has this number
-abbrev pub each_aRule : (rule : ℕ) → List (List ℕ) → List Ruled
-each_aRule rule [] = []
-each_aRule rule (row ∷ rows) = record { rule = rule; row = row } ∷ each_aRule (suc rule) rows
+abbrev pub each_a_rule : (rule : ℕ) → List (List ℕ) → List Ruled
+each_a_rule rule [] = []
+each_a_rule rule (row ∷ rows) = record { rule = rule; row = row } ∷ each_a_rule (suc rule) rows
 
 -- the rows of a side, and of both
 abbrev pub side_rows : Side → List (List ℕ)

@@ -6,7 +6,7 @@ ghost use Rattle.literals.specs.Row.{most_rules, width};
 ghost use Rattle.implicates.specs.Appending.{appended};
 ghost use Rattle.board.specs.Faults.{good_board, first_fault};
 ghost use Rattle.positions.specs.Entering.{pair_table, pairs_of, own_faults, entered, entered_table};
-ghost use Rattle.positions.specs.Writing.{each_aRule, both_rows};
+ghost use Rattle.positions.specs.Writing.{each_a_rule, both_rows};
 
 use crate::answering::done;
 use crate::rows::{allows_some, append_side, seen_from};
@@ -65,7 +65,7 @@ fn append_both(
     requires le_first { (1 ≤ first) × (1 ≤ other) × (count ≤ 7) × (others ≤ 7) × (first + count ≤ 201) × (other + others ≤ 201) }
     requires others_bound { (rules + (count + others) ≤ most_rules) × (width * (rows + (count + others)) ≤ length table.old) }
     ensures { table.new ≡ appended table.old rows
-        (each_aRule (suc rules) (both_rows (pair_table first count other others pairs))) }
+        (each_a_rule (suc rules) (both_rows (pair_table first count other others pairs))) }
 {
     append_side(
         table,

@@ -6,7 +6,7 @@ ghost use Rattle.meaning.specs.Literals.{place};
 ghost use Rattle.positions.specs.Positions.{partners, pair_row};
 ghost use Rattle.literals.specs.Row.{most_rules, of_rule, width};
 ghost use Rattle.implicates.specs.Appending.{appended};
-ghost use Rattle.positions.specs.Writing.{Sees, side_of, each_aRule, side_rows};
+ghost use Rattle.positions.specs.Writing.{Sees, side_of, each_a_rule, side_rows};
 
 use candidates::sets::has;
 use implicates::one_row::append_row;
@@ -130,7 +130,7 @@ fn append_clause(table: &mut [i16], row: usize, rule: usize, v: View, i: usize)
 // Appends the clauses of all positions from row `row` on, a rule each; `rules` come before them.
 pub fn append_side(table: &mut [i16], row: usize, rules: usize, v: View)
     requires { Sees v × (rules + v.positions ≤ most_rules) × (width * (row + v.positions) ≤ length table.old) }
-    ensures { table.new ≡ appended table.old row (each_aRule (suc rules) (side_rows (side_of v))) }
+    ensures { table.new ≡ appended table.old row (each_a_rule (suc rules) (side_rows (side_of v))) }
 {
     let mut i = 0;
     while i < v.positions {

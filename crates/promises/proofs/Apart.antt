@@ -30,7 +30,7 @@ use Rattle.dimacs.specs.Writing.{text_on, write_faults, write_outcome, write_ans
 use Rattle.text.specs.Reading.{bytes_in, read_text_faults, read_text_outcome, read_text_answer, read_text_bytes}
 use Rattle.text.specs.Adding.{text_refused, ruled_text}
 use Rattle.text.specs.Writing.{write_text_faults, write_text_outcome, write_text_answer, write_text_bytes}
-use Rattle.promises.specs.Calls.{Call, opens, adds, enters, holds, withdraws, pushes, pops, asks, asksWhole, explains, settles, grounds, blames}
+use Rattle.promises.specs.Calls.{Call, opens, adds, enters, holds, withdraws, pushes, pops, asks, asks_whole, explains, settles, grounds, blames}
 use Rattle.promises.specs.Calls.{lists, asks_least, reads, writes, reads_text, adds_text, writes_text, of_change, of_addition, World, front, answer}
 use Rattle.promises.specs.Calls.{outcome_of, outcome, after, run, not_open, names_furnace, changes_premises, without}
 use Rattle.promises.specs.Demands.{Alike, FurnacesApart}
@@ -121,7 +121,7 @@ module _ {f : ℕ} {v u : World} (s : Same f v u) (sound-v : Sound v) (sound-u :
   same_answer (pops lent g) n =
       ap of_change (record_same lent (λ w. drop 2 (pop_faults (front w lent) w.board w.stacks g)) (rw (a.stack g (eqb-false g f n))))
   same_answer (asks lent g l) n = rw (good lent, a.premises g (eqb-false g f n), a.symbols, a.rows, a.table)
-  same_answer (asksWhole lent g l) n = rw (good lent, a.premises g (eqb-false g f n), a.symbols, a.rows, a.table)
+  same_answer (asks_whole lent g l) n = rw (good lent, a.premises g (eqb-false g f n), a.symbols, a.rows, a.table)
   same_answer (explains lent g l) n = rw (good lent, a.premises g (eqb-false g f n), a.symbols, a.rows, a.table)
   same_answer (settles lent g labels ranks supports) n = rw (good lent, a.premises g (eqb-false g f n), a.symbols, a.rows, a.table)
   same_answer (grounds lent g l marks) n = rw (good lent, a.premises g (eqb-false g f n), a.symbols, a.rows, a.table)

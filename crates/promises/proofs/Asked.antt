@@ -16,7 +16,7 @@ use Rattle.board.specs.declared.asking.Standing.{Standing}
 use Rattle.board.specs.declared.asking.Standing.TheVariants.{Conflict, Stands, RuledOut, Open, Refused}
 use Rattle.literals.proofs.Arguments.{range_facts}
 use Rattle.board.proofs.Answered.{none_given}
-use Rattle.promises.specs.Calls.{asks, asksWhole, World, ask_outcome, of_ask, front, faults, answer, outcome, run}
+use Rattle.promises.specs.Calls.{asks, asks_whole, World, ask_outcome, of_ask, front, faults, answer, outcome, run}
 use Rattle.promises.specs.Demands.{rows_of_world, premises_of, derived_set, ByLabel, AskByLabel, StandsOn, OldAnswer}
 use Rattle.promises.proofs.Refusals.{cases, first_case}
 use Rattle.promises.proofs.Told.{rows_read, label_at, ask_tells, ask_whole_tells}
@@ -119,11 +119,11 @@ none_here known p quiet =
     false_of (has known p && has known (opp p)) (λ c. (let both = both_true _ _ c in clash (conflict_at known p both.0 both.1) quiet))
 
 module _ (w : World) (lent furnace : ℕ) (l : ℤ) where
-  same_outcome : outcome w (asksWhole lent furnace l) ≡ outcome w (asks lent furnace l)
+  same_outcome : outcome w (asks_whole lent furnace l) ≡ outcome w (asks lent furnace l)
   unfolding faults
-  same_outcome = first_case w (asksWhole lent furnace l) ∙ sym (first_case w (asks lent furnace l))
+  same_outcome = first_case w (asks_whole lent furnace l) ∙ sym (first_case w (asks lent furnace l))
 
-  same_answer : conflict (derived_set w furnace) ≡ false → answer w (asksWhole lent furnace l) ≡ answer w (asks lent furnace l)
+  same_answer : conflict (derived_set w furnace) ≡ false → answer w (asks_whole lent furnace l) ≡ answer w (asks lent furnace l)
   unfolding answer asked asked_whole ask_faults
   same_answer quiet =
       ⊎_elim
@@ -131,7 +131,7 @@ module _ (w : World) (lent furnace : ℕ) (l : ℤ) where
       rw (rows_read w lent (ap not g), quiet, none_here (derived_set w furnace) (place_of l) quiet))
       (λ g. rw g) (true_or_false (good_board (front w lent) w.board))
 
-  hidden : conflict (derived_set w furnace) ≡ true → outcome w (asksWhole lent furnace l) ≡ Done → answer w (asksWhole lent furnace l) ≡ of_ask Conflict
+  hidden : conflict (derived_set w furnace) ≡ true → outcome w (asks_whole lent furnace l) ≡ Done → answer w (asks_whole lent furnace l) ≡ of_ask Conflict
   unfolding answer
   hidden c e = ap of_ask (ask_whole_tells w lent furnace l e ∙ rw c)
 

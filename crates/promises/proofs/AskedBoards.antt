@@ -7,7 +7,7 @@ use Rattle.board.specs.declared.Outcome.TheVariants.{Done}
 use Rattle.board.specs.declared.asking.Standing.{Standing}
 use Rattle.board.specs.declared.asking.Standing.TheVariants.{Conflict, Stands, RuledOut, Open, Refused}
 use Rattle.spelling.proofs.Ascii.{ascii}
-use Rattle.promises.specs.Calls.{Call, opens, holds, withdraws, asks, asksWhole, settles, reads, Answer, answer, of_ask, of_settle}
+use Rattle.promises.specs.Calls.{Call, opens, holds, withdraws, asks, asks_whole, settles, reads, Answer, answer, of_ask, of_settle}
 use Rattle.promises.proofs.Boards.{lent, blank, FreshHold}
 use Rattle.promises.proofs.Computing.{the_definitions}
 
@@ -26,7 +26,7 @@ abbrev ask : (furnace : ℕ) → ℤ → Call
 ask furnace l = asks lent furnace l
 
 abbrev ask_whole : (furnace : ℕ) → ℤ → Call
-ask_whole furnace l = asksWhole lent furnace l
+ask_whole furnace l = asks_whole lent furnace l
 
 -- what a call answers of literals
 abbrev told : (ℤ → Call) → List (ℤ × Standing) → List (Call × Answer)

@@ -13,7 +13,7 @@ use Rattle.positions.specs.Entering.{entered, entered_table}
 use Rattle.dimacs.specs.Reading.{read_answer, read_table}
 use Rattle.dimacs.specs.declared.reading.Reading.{Reading}
 use Rattle.text.specs.Adding.{ruled_text, ruled_text_table}
-use Rattle.promises.specs.Calls.{opens, adds, enters, holds, withdraws, pushes, pops, asks, asksWhole, explains, settles, grounds, blames}
+use Rattle.promises.specs.Calls.{opens, adds, enters, holds, withdraws, pushes, pops, asks, asks_whole, explains, settles, grounds, blames}
 use Rattle.promises.specs.Calls.{lists, asks_least, reads, writes, reads_text, adds_text, writes_text, World, front, step_to, after}
 
 module _ (w : World) where
@@ -73,7 +73,7 @@ module _ (w : World) where
     unfolding after
     ask_changes_nothing furnace l = refl
 
-    ask_whole_changes_nothing : (furnace : ℕ) (l : ℤ) → after w (asksWhole lent furnace l) ≡ w
+    ask_whole_changes_nothing : (furnace : ℕ) (l : ℤ) → after w (asks_whole lent furnace l) ≡ w
     unfolding after
     ask_whole_changes_nothing furnace l = refl
 

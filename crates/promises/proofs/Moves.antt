@@ -14,7 +14,7 @@ use Rattle.stack.specs.declared.Stack.{Stack}
 use Rattle.dimacs.specs.Form.{parse_text}
 use Rattle.dimacs.specs.Reading.{formulae_in}
 use Rattle.chains.specs.Form.{whole_text}
-use Rattle.promises.specs.Calls.{Call, opens, adds, enters, holds, withdraws, pushes, pops, asks, asksWhole, explains, settles, grounds, blames}
+use Rattle.promises.specs.Calls.{Call, opens, adds, enters, holds, withdraws, pushes, pops, asks, asks_whole, explains, settles, grounds, blames}
 use Rattle.promises.specs.Calls.{lists, asks_least, reads, writes, reads_text, adds_text, writes_text, World, outcome, after, rules_after, formula_in}
 use Rattle.promises.specs.Calls.{not_open, entry_of, names_furnace, changes_premises, brings, takes}
 use Rattle.promises.proofs.Refusals.{refused_same, done_or_refused}
@@ -80,7 +80,7 @@ kind (pushes lent furnace l) =
     flags (λ s. l) (λ s. on_top s l) (λ w. push_flagged w lent furnace l) refl refl (λ f. refl) (λ f. refl) (λ w f h. refl) (λ w fs. refl) refl
 kind (pops lent furnace) = flags top less_top (λ w. pop_flagged w lent furnace) refl refl (λ f. refl) (λ f. refl) (λ w f h. refl) (λ w fs. refl) refl
 kind (asks lent furnace l) = idle refl (λ w. refl) (λ w fs. refl) refl
-kind (asksWhole lent furnace l) = idle refl (λ w. refl) (λ w fs. refl) refl
+kind (asks_whole lent furnace l) = idle refl (λ w. refl) (λ w fs. refl) refl
 kind (explains lent furnace l) = idle refl (λ w. refl) (λ w fs. refl) refl
 kind (settles lent furnace labels ranks supports) = idle refl (λ w. refl) (λ w fs. refl) refl
 kind (grounds lent furnace l marks) = idle refl (λ w. refl) (λ w fs. refl) refl

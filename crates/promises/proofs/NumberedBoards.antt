@@ -8,7 +8,7 @@ use Rattle.positions.specs.Entering.{variable_of}
 use Rattle.spelling.proofs.Ascii.{ascii}
 use Rattle.dimacs.specs.Reading.{read_answer}
 use Rattle.stack.specs.Stacking.{empty_stacks}
-use Rattle.promises.specs.Calls.{Call, opens, adds, enters, holds, withdraws, asks, asksWhole, explains, settles, grounds, blames, lists}
+use Rattle.promises.specs.Calls.{Call, opens, adds, enters, holds, withdraws, asks, asks_whole, explains, settles, grounds, blames, lists}
 use Rattle.promises.specs.Calls.{asks_least, reads, writes, World, outcome, after}
 use Rattle.promises.specs.Demands.{ruled_rows}
 use Rattle.promises.proofs.Boards.{lent, fresh, blank, forth, back, AllHold}
@@ -63,7 +63,7 @@ each =
     ∷ holds lent 1 (pos 1)
     ∷ withdraws lent 1 (pos 1)
     ∷ asks lent 1 (pos 1)
-    ∷ asksWhole lent 1 (pos 1)
+    ∷ asks_whole lent 1 (pos 1)
     ∷ explains lent 1 (pos 1)
     ∷ settles lent 1 (blank 2) (blank 4) (blank 4)
     ∷ grounds lent 1 (pos 1) (blank 4)

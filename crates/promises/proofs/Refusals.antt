@@ -30,7 +30,7 @@ use Rattle.dimacs.specs.declared.reading.Reading.{Reading}
 use Rattle.text.specs.Reading.{bytes_in, read_text_outcome, read_text_answer, read_text_bytes}
 use Rattle.text.specs.Adding.{text_refused, ruled_text, ruled_text_table}
 use Rattle.text.specs.Writing.{write_text_outcome, write_text_answer, write_text_bytes}
-use Rattle.promises.specs.Calls.{Call, opens, adds, enters, holds, withdraws, pushes, pops, asks, asksWhole, explains, settles, grounds, blames}
+use Rattle.promises.specs.Calls.{Call, opens, adds, enters, holds, withdraws, pushes, pops, asks, asks_whole, explains, settles, grounds, blames}
 use Rattle.promises.specs.Calls.{lists, asks_least, reads, writes, reads_text, adds_text, writes_text, World, front, faults, ask_outcome, answer}
 use Rattle.promises.specs.Calls.{outcome, after, not_open}
 use Rattle.promises.specs.Demands.{FirstGiven, here, later, RefusedExactly, DoneExactly, RefusedUntouched, RefusedUnwritten, RefusedHandsBack}
@@ -62,7 +62,7 @@ first_case w (asks lent furnace l) =
     (λ e. (let known = derived_on (front w lent) w.board furnace in let p = place_of l in
     stands_done (has known p && has known (opp p)) (has known p) (has known (opp p)) ∙ sym e))
     (λ why e. sym e)
-first_case w (asksWhole lent furnace l) =
+first_case w (asks_whole lent furnace l) =
     told_by_lem ask_outcome _ _ (first_fault (ask_faults (front w lent) w.board furnace l))
     (λ e. (let known = derived_on (front w lent) w.board furnace in let p = place_of l in
     stands_done (conflict known) (has known p) (has known (opp p)) ∙ sym e))
@@ -153,7 +153,7 @@ refused_untouched w (withdraws lent furnace l) why e = rw (cases w (withdraws le
 refused_untouched w (pushes lent furnace l) why e = rw (cases w (pushes lent furnace l) e)
 refused_untouched w (pops lent furnace) why e = rw (cases w (pops lent furnace) e)
 refused_untouched w (asks lent furnace l) why e = refl
-refused_untouched w (asksWhole lent furnace l) why e = refl
+refused_untouched w (asks_whole lent furnace l) why e = refl
 refused_untouched w (explains lent furnace l) why e = refl
 refused_untouched w (settles lent furnace labels ranks supports) why e = refl
 refused_untouched w (grounds lent furnace l marks) why e = refl

@@ -16,7 +16,7 @@ use Rattle.stack.proofs.GoodStacks.{stack_is}
 use Rattle.stack.proofs.Own.{Own, own_empty}
 use Rattle.stack.proofs.Kept.{Kept, kept_empty, kept_good, own_of, with_own, empty_good, empty_unstacked}
 use Rattle.stack.proofs.Stepping.{withdraw_refused, withdraw_done}
-use Rattle.promises.specs.Calls.{Call, opens, adds, enters, holds, withdraws, pushes, pops, asks, asksWhole, explains, settles, grounds, blames}
+use Rattle.promises.specs.Calls.{Call, opens, adds, enters, holds, withdraws, pushes, pops, asks, asks_whole, explains, settles, grounds, blames}
 use Rattle.promises.specs.Calls.{lists, asks_least, reads, writes, reads_text, adds_text, writes_text, World, front, answer, outcome, after, run}
 use Rattle.promises.specs.Demands.{premises_of, since, AlwaysSince, StacksStayGood, StackedHeld, ZerosBeyond, OnlyPop, PopTells, NeverStacked}
 use Rattle.promises.proofs.Refusals.{done_or_refused}
@@ -105,7 +105,7 @@ only_pop w (pops lent named) furnace l d n on takes =
     let both = both_true (eqb named furnace) (eqb (place_of (top (stack_of w.stacks named))) (place_of l)) takes in
     (lent, ap (pops lent) (eqb-true named furnace both.0))
 only_pop w (asks lent named k) furnace l d n on takes = clash takes refl
-only_pop w (asksWhole lent named k) furnace l d n on takes = clash takes refl
+only_pop w (asks_whole lent named k) furnace l d n on takes = clash takes refl
 only_pop w (explains lent named k) furnace l d n on takes = clash takes refl
 only_pop w (settles lent named labels ranks supports) furnace l d n on takes = clash takes refl
 only_pop w (grounds lent named k marks) furnace l d n on takes = clash takes refl

@@ -19,7 +19,7 @@ use Rattle.board.proofs.Goodness.{good_is}
 use Rattle.board.proofs.Answered.{none_given}
 use Rattle.board.proofs.Grounded.{mark_at_lem, byte_one}
 use Rattle.dimacs.specs.Writing.{literals_of, clause_at, clauses_at, text_of, text_on, write_faults, write_outcome, write_answer, write_bytes}
-use Rattle.promises.specs.Calls.{asks, asksWhole, settles, World, front, faults, answer, outcome, run}
+use Rattle.promises.specs.Calls.{asks, asks_whole, settles, World, front, faults, answer, outcome, run}
 use Rattle.promises.specs.Demands.{rows_of_world, premises_of, derived_set, rank_in, support_in, Tells, SettleTells, SettleSpares, AskTells}
 use Rattle.promises.specs.Demands.{AskWholeTells, GroundTells, BlameTells, WriteTells}
 use Rattle.promises.proofs.Refusals.{cases}
@@ -102,7 +102,7 @@ ask_tells w lent furnace l e =
 pub ask_whole_tells : AskWholeTells
 unfolding faults asked_whole ask_faults
 ask_whole_tells w lent furnace l e =
-    let f = cases w (asksWhole lent furnace l) e in
+    let f = cases w (asks_whole lent furnace l) e in
     rw (f, rows_read w lent (none_given (ask_faults (front w lent) w.board furnace l) f 0))
 
 -- as many marks are written as there are

@@ -9,7 +9,7 @@ use Rattle.board.specs.declared.asking.Standing.{Standing}
 use Rattle.board.specs.declared.asking.Standing.TheVariants.{Conflict, Stands, Open}
 use Rattle.positions.specs.Entering.{variable_of}
 use Rattle.spelling.proofs.Ascii.{ascii}
-use Rattle.promises.specs.Calls.{Call, opens, enters, holds, withdraws, asks, asksWhole, explains, settles, grounds, blames, reads, writes}
+use Rattle.promises.specs.Calls.{Call, opens, enters, holds, withdraws, asks, asks_whole, explains, settles, grounds, blames, reads, writes}
 use Rattle.promises.specs.Calls.{reads_text, adds_text, writes_text, World, Answer, of_settle, of_ask, answer, outcome, after}
 use Rattle.promises.proofs.Boards.{lent, fresh, blank, forth, AllHold}
 use Rattle.promises.proofs.Computing.{the_definitions}
@@ -70,7 +70,7 @@ named furnace l places =
     ∷ withdraw furnace l
     ∷ settles lent furnace (blank places) (blank places) (blank places)
     ∷ asks lent furnace l
-    ∷ asksWhole lent furnace l
+    ∷ asks_whole lent furnace l
     ∷ explain furnace l
     ∷ grounds lent furnace l (blank places)
     ∷ blame furnace places

@@ -24,7 +24,7 @@ use Rattle.board.specs.declared.asking.Standing.{Standing}
 use Rattle.board.specs.declared.asking.Standing.TheVariants.{Conflict, Stands, Refused as Unasked}
 use Rattle.literals.proofs.Arguments.{place_fits}
 use Rattle.board.proofs.Answered.{none_given}
-use Rattle.promises.specs.Calls.{Call, withdraws, asks, asksWhole, explains, settles, grounds, World, of_ask, front, faults, answer, outcome}
+use Rattle.promises.specs.Calls.{Call, withdraws, asks, asks_whole, explains, settles, grounds, World, of_ask, front, faults, answer, outcome}
 use Rattle.promises.specs.Calls.{run}
 use Rattle.promises.specs.Demands.{rows_of_world, premises_of, derived_set, rank_in, support_in, InGround, GroundAlone, KeptBut, CannotMove}
 use Rattle.promises.specs.Demands.{MarkStays, StrikesOff}
@@ -171,7 +171,7 @@ module _ (w : World) (lent furnace : ℕ) (l : ℤ) (marks : List ℕ) (e : outc
     conflict_before : conflict (derived (2 * S) rows (premises_of v furnace)) ≡ true → conflict (derived (2 * S) rows held) ≡ true
     conflict_before = no_conflict_more (2 * S) rows (premises_of v furnace) held f.premises
 
-    ask_whole_kept : (some : ℕ) → KeptBut (answer w (asksWhole some furnace l)) (answer v (asksWhole some furnace l))
+    ask_whole_kept : (some : ℕ) → KeptBut (answer w (asks_whole some furnace l)) (answer v (asks_whole some furnace l))
     unfolding answer asked_whole held_by
     ask_whole_kept some =
         told_kept some (standing_whole (derived_on (front w some) w.board furnace) p)
@@ -199,11 +199,11 @@ module _ (w : World) (lent furnace : ℕ) (l : ℤ) (marks : List ℕ) (e : outc
         told_now some (standing (derived_on (front v some) v.board furnace) p) g
         ∙ rw (f.symbols, f.rows, f.table, rows_read w some (ap not g), u.derived, still)
 
-    stands_whole_now : (some : ℕ) → conflict (derived_set v furnace) ≡ false → outcome w (asksWhole some furnace l) ≡ Done
-        → answer v (asksWhole some furnace l) ≡ of_ask Stands
+    stands_whole_now : (some : ℕ) → conflict (derived_set v furnace) ≡ false → outcome w (asks_whole some furnace l) ≡ Done
+        → answer v (asks_whole some furnace l) ≡ of_ask Stands
     unfolding answer asked_whole faults held_by
     stands_whole_now some quiet d =
-        let g = was_good some (asksWhole some furnace l) refl d in
+        let g = was_good some (asks_whole some furnace l) refl d in
         let still : conflict (derived (2 * S) rows (premises_of v furnace)) ≡ false = rw (f.symbols, f.rows, f.table) at quiet in
         told_now some (standing_whole (derived_on (front v some) v.board furnace) p) g
         ∙ rw (f.symbols, f.rows, f.table, rows_read w some (ap not g), still, u.derived)

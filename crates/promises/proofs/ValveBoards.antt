@@ -15,7 +15,7 @@ use Rattle.board.specs.declared.Outcome.TheVariants.{Done, Refused}
 use Rattle.board.specs.declared.asking.Standing.TheVariants.{Conflict, Stands, RuledOut, Open}
 use Rattle.positions.specs.Entering.{variable_of, pairs_of}
 use Rattle.stack.specs.Stacking.{empty_stacks}
-use Rattle.promises.specs.Calls.{Call, opens, enters, holds, asks, asksWhole, World, Answer, of_addition, of_ask, answer, run}
+use Rattle.promises.specs.Calls.{Call, opens, enters, holds, asks, asks_whole, World, Answer, of_addition, of_ask, answer, run}
 use Rattle.promises.specs.Demands.{premises_of, ruled_rows, since, accepted_since, entered_since, OnlySuch, ToldOfValves}
 use Rattle.promises.proofs.Boards.{lent, fresh, forth, AllHold}
 use Rattle.promises.proofs.NumberedBoards.{counted_so}
@@ -50,7 +50,7 @@ abbrev ask : ℤ → Call
 ask l = asks lent 2 l
 
 abbrev ask_whole : ℤ → Call
-ask_whole l = asksWhole lent 2 l
+ask_whole l = asks_whole lent 2 l
 
 -- three valves in a chain, each in the position of the one before it: 14 rows
 abbrev chain_lent : ℕ
@@ -142,7 +142,7 @@ boards =
     ∷ (
       fresh,
       opens 4 ∷ unlike_valves (hold (pos 1) ∷ hold (pos 3) ∷ []),
-      (ask_whole (pos 2), of_ask Conflict) ∷ (asksWhole lent 1 (pos 2), of_ask Open) ∷ [],
+      (ask_whole (pos 2), of_ask Conflict) ∷ (asks_whole lent 1 (pos 2), of_ask Open) ∷ [],
     )
     ∷ (fresh, opens 4 ∷ unlike_valves (hold (pos 4) ∷ hold (negsuc 3) ∷ []), (ask_whole (pos 1), of_ask Conflict) ∷ [])
     -- a position without an allowed partner is ruled out with nothing held

@@ -6,7 +6,7 @@ use Rattle.literals.specs.declared.refusal.Refusal.TheVariants.{BadBoard, BadLit
 use Rattle.board.specs.declared.Outcome.TheVariants.{Done, Refused}
 use Rattle.board.specs.declared.asking.Standing.TheVariants.{Conflict, Stands}
 use Rattle.spelling.proofs.Ascii.{ascii}
-use Rattle.promises.specs.Calls.{Call, opens, holds, withdraws, asksWhole, asks_least, reads, Answer, of_change, of_ask, of_withdrawal, answer}
+use Rattle.promises.specs.Calls.{Call, opens, holds, withdraws, asks_whole, asks_least, reads, Answer, of_change, of_ask, of_withdrawal, answer}
 use Rattle.promises.specs.Calls.{outcome}
 use Rattle.promises.proofs.Boards.{lent, FreshHold}
 use Rattle.promises.proofs.ListedBoards.{twelve}
@@ -63,16 +63,16 @@ boards =
     -- "Nothing is changed": after the call the furnace is in conflict, and holds what the set has
     ∷ (
       against (least_of 1 (pos 4 ∷ pos 3 ∷ pos 2 ∷ pos 1 ∷ []) ∷ []),
-      (asksWhole lent 1 (pos 4), of_ask Conflict) ∷ (withdraws lent 1 (pos 1), of_change Done) ∷ (
+      (asks_whole lent 1 (pos 4), of_ask Conflict) ∷ (withdraws lent 1 (pos 1), of_change Done) ∷ (
         holds lent 1 (pos 1),
         of_change (Refused AlreadyHeld),
       ) ∷ [],
     )
     -- once the set is withdrawn there is no conflict, and the empty set is the answer; once a part of it is, the conflict is left
-    ∷ (against (withdraws lent 1 (pos 1) ∷ []), (asksWhole lent 1 (pos 4), of_ask Stands) ∷ (least_of 1 (pos 4 ∷ pos 3 ∷ []), this 0) ∷ [])
+    ∷ (against (withdraws lent 1 (pos 1) ∷ []), (asks_whole lent 1 (pos 4), of_ask Stands) ∷ (least_of 1 (pos 4 ∷ pos 3 ∷ []), this 0) ∷ [])
     ∷ (
       against (withdraws lent 1 (pos 2) ∷ []),
-      (asksWhole lent 1 (pos 4), of_ask Conflict) ∷ (least_of 1 (pos 4 ∷ pos 3 ∷ []), this 2) ∷ (
+      (asks_whole lent 1 (pos 4), of_ask Conflict) ∷ (least_of 1 (pos 4 ∷ pos 3 ∷ []), this 2) ∷ (
         least_of 1 (pos 2 ∷ pos 3 ∷ []),
         refused NotHeld,
       ) ∷ [],

@@ -45,7 +45,7 @@ pub data Call : Type 0 where
   opens : (symbols : ℕ) → Call
   adds : (lent : ℕ) (bytes : List ℕ) → Call
   enters : (lent : ℕ) (e : Entry) → Call
-  holds withdraws pushes asks asksWhole explains : (lent furnace : ℕ) (l : ℤ) → Call
+  holds withdraws pushes asks asks_whole explains : (lent furnace : ℕ) (l : ℤ) → Call
   pops : (lent furnace : ℕ) → Call
   settles : (lent furnace : ℕ) (labels ranks supports : List ℕ) → Call
   grounds : (lent furnace : ℕ) (l : ℤ) (marks : List ℕ) → Call
@@ -78,7 +78,7 @@ faults w (withdraws lent furnace l) = withdraw_faults_with (front w lent) w.boar
 faults w (pushes lent furnace l) = push_faults (front w lent) w.board w.stacks furnace l
 faults w (pops lent furnace) = pop_faults (front w lent) w.board w.stacks furnace
 faults w (asks lent furnace l) = ask_faults (front w lent) w.board furnace l
-faults w (asksWhole lent furnace l) = ask_faults (front w lent) w.board furnace l
+faults w (asks_whole lent furnace l) = ask_faults (front w lent) w.board furnace l
 faults w (explains lent furnace l) = explain_faults (front w lent) w.board furnace l
 faults w (settles lent furnace labels ranks supports) =
     settle_faults (front w lent) w.board furnace (length labels) (length ranks) (length supports)
@@ -124,7 +124,7 @@ answer w (withdraws lent furnace l) = of_change (withdrawn_with (front w lent) w
 answer w (pushes lent furnace l) = of_change (pushed (front w lent) w.board w.stacks furnace l).change.outcome
 answer w (pops lent furnace) = of_change (popped (front w lent) w.board w.stacks furnace).change.outcome
 answer w (asks lent furnace l) = of_ask (asked (front w lent) w.board furnace l)
-answer w (asksWhole lent furnace l) = of_ask (asked_whole (front w lent) w.board furnace l)
+answer w (asks_whole lent furnace l) = of_ask (asked_whole (front w lent) w.board furnace l)
 answer w (explains lent furnace l) = of_explain (explain_numbers (front w lent) w.board furnace l) (explain_part (front w lent) w.board furnace l)
 answer w (settles lent furnace labels ranks supports) =
     of_settle (settle_outcome (front w lent) w.board furnace labels ranks supports)
@@ -187,7 +187,7 @@ after w (withdraws lent furnace l) = step_to w (withdrawn_with (front w lent) w.
 after w (pushes lent furnace l) = step_to w (pushed (front w lent) w.board w.stacks furnace l)
 after w (pops lent furnace) = step_to w (popped (front w lent) w.board w.stacks furnace)
 after w (asks lent furnace l) = w
-after w (asksWhole lent furnace l) = w
+after w (asks_whole lent furnace l) = w
 after w (explains lent furnace l) = w
 after w (settles lent furnace labels ranks supports) = w
 after w (grounds lent furnace l marks) = w
@@ -236,7 +236,7 @@ rules_after w fs (withdraws lent furnace l) = fs
 rules_after w fs (pushes lent furnace l) = fs
 rules_after w fs (pops lent furnace) = fs
 rules_after w fs (asks lent furnace l) = fs
-rules_after w fs (asksWhole lent furnace l) = fs
+rules_after w fs (asks_whole lent furnace l) = fs
 rules_after w fs (explains lent furnace l) = fs
 rules_after w fs (settles lent furnace labels ranks supports) = fs
 rules_after w fs (grounds lent furnace l marks) = fs
@@ -264,7 +264,7 @@ not_open (withdraws lent furnace l) = true
 not_open (pushes lent furnace l) = true
 not_open (pops lent furnace) = true
 not_open (asks lent furnace l) = true
-not_open (asksWhole lent furnace l) = true
+not_open (asks_whole lent furnace l) = true
 not_open (explains lent furnace l) = true
 not_open (settles lent furnace labels ranks supports) = true
 not_open (grounds lent furnace l marks) = true
@@ -289,7 +289,7 @@ entry_of (withdraws lent furnace l) = []
 entry_of (pushes lent furnace l) = []
 entry_of (pops lent furnace) = []
 entry_of (asks lent furnace l) = []
-entry_of (asksWhole lent furnace l) = []
+entry_of (asks_whole lent furnace l) = []
 entry_of (explains lent furnace l) = []
 entry_of (settles lent furnace labels ranks supports) = []
 entry_of (grounds lent furnace l marks) = []
@@ -322,7 +322,7 @@ names_furnace f (withdraws lent furnace l) = eqb furnace f
 names_furnace f (pushes lent furnace l) = eqb furnace f
 names_furnace f (pops lent furnace) = eqb furnace f
 names_furnace f (asks lent furnace l) = eqb furnace f
-names_furnace f (asksWhole lent furnace l) = eqb furnace f
+names_furnace f (asks_whole lent furnace l) = eqb furnace f
 names_furnace f (explains lent furnace l) = eqb furnace f
 names_furnace f (settles lent furnace labels ranks supports) = eqb furnace f
 names_furnace f (grounds lent furnace l marks) = eqb furnace f
@@ -345,7 +345,7 @@ changes_premises (withdraws lent furnace l) = true
 changes_premises (pushes lent furnace l) = true
 changes_premises (pops lent furnace) = true
 changes_premises (asks lent furnace l) = false
-changes_premises (asksWhole lent furnace l) = false
+changes_premises (asks_whole lent furnace l) = false
 changes_premises (explains lent furnace l) = false
 changes_premises (settles lent furnace labels ranks supports) = false
 changes_premises (grounds lent furnace l marks) = false
@@ -368,7 +368,7 @@ brings f (withdraws lent furnace l) = false
 brings f (pushes lent furnace l) = eqb furnace f
 brings f (pops lent furnace) = false
 brings f (asks lent furnace l) = false
-brings f (asksWhole lent furnace l) = false
+brings f (asks_whole lent furnace l) = false
 brings f (explains lent furnace l) = false
 brings f (settles lent furnace labels ranks supports) = false
 brings f (grounds lent furnace l marks) = false
@@ -391,7 +391,7 @@ takes w f h (withdraws lent furnace l) = eqb furnace f && eqb (place_of l) h
 takes w f h (pushes lent furnace l) = false
 takes w f h (pops lent furnace) = eqb furnace f && eqb (place_of (top (stack_of w.stacks furnace))) h
 takes w f h (asks lent furnace l) = false
-takes w f h (asksWhole lent furnace l) = false
+takes w f h (asks_whole lent furnace l) = false
 takes w f h (explains lent furnace l) = false
 takes w f h (settles lent furnace labels ranks supports) = false
 takes w f h (grounds lent furnace l marks) = false

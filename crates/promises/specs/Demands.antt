@@ -48,7 +48,7 @@ use Rattle.chains.specs.Promises.{Says, Offends}
 use Rattle.text.specs.Reading.{bytes_in, read_text_answer, read_text_bytes}
 use Rattle.text.specs.Adding.{ruled_text}
 use Rattle.text.specs.Writing.{text_in, write_text_answer, write_text_bytes}
-use Rattle.promises.specs.Calls.{Call, opens, adds, enters, holds, withdraws, pushes, pops, asks, asksWhole, explains, settles, grounds, blames}
+use Rattle.promises.specs.Calls.{Call, opens, adds, enters, holds, withdraws, pushes, pops, asks, asks_whole, explains, settles, grounds, blames}
 use Rattle.promises.specs.Calls.{lists, asks_least, reads, writes, reads_text, adds_text, writes_text, World, front, faults, outcome, after, run}
 use Rattle.promises.specs.Calls.{Each, formula_in, rules_after_all, entries_after_all, not_open, names_furnace, changes_premises, brings, takes}
 use Rattle.promises.specs.Calls.{without, Answer, of_ask, answer}
@@ -356,7 +356,7 @@ AskTells =
 
 abbrev pub AskWholeTells : Type 0
 AskWholeTells =
-    (w : World) (lent furnace : ℕ) (l : ℤ) → outcome w (asksWhole lent furnace l) ≡ Done
+    (w : World) (lent furnace : ℕ) (l : ℤ) → outcome w (asks_whole lent furnace l) ≡ Done
     → asked_whole (front w lent) w.board furnace l ≡ standing_whole (derived_set w furnace) (place_of l)
 
 -- the rank, the row number, the number of that row's rule, and the literals of that row
@@ -580,7 +580,7 @@ pub record SameLiterals (v w : World) : Type 0 where
 pub record SameTold (v w : World) (lent furnace : ℕ) : Type 0 where
   pub settle : (labels ranks supports : List ℕ) → let c = settles lent furnace labels ranks supports in answer v c ≡ answer w c
   pub ask : (l : ℤ) → answer v (asks lent furnace l) ≡ answer w (asks lent furnace l)
-  pub ask_whole : (l : ℤ) → answer v (asksWhole lent furnace l) ≡ answer w (asksWhole lent furnace l)
+  pub ask_whole : (l : ℤ) → answer v (asks_whole lent furnace l) ≡ answer w (asks_whole lent furnace l)
   pub ground : (l : ℤ) (marks : List ℕ) → answer v (grounds lent furnace l marks) ≡ answer w (grounds lent furnace l marks)
   pub blame : (marks : List ℕ) → answer v (blames lent furnace marks) ≡ answer w (blames lent furnace marks)
   pub smallest : (cands : List ℤ) (l : ℤ) (sets : List ℕ) → answer v (lists lent cands l sets) ≡ answer w (lists lent cands l sets)
@@ -635,9 +635,9 @@ pub record CannotMove (w v : World) (furnace : ℕ) (l : ℤ) : Type 0 where
   pub stands : (lent : ℕ) → has (derived_set v furnace) (opp (place_of l)) ≡ false → outcome w (asks lent furnace l) ≡ Done
       → answer v (asks lent furnace l) ≡ of_ask Stands
   -- the same of the whole board, where no conflict is left; none comes up
-  pub ask_whole : (lent : ℕ) → KeptBut (answer w (asksWhole lent furnace l)) (answer v (asksWhole lent furnace l))
-  pub stands_whole : (lent : ℕ) → conflict (derived_set v furnace) ≡ false → outcome w (asksWhole lent furnace l) ≡ Done
-      → answer v (asksWhole lent furnace l) ≡ of_ask Stands
+  pub ask_whole : (lent : ℕ) → KeptBut (answer w (asks_whole lent furnace l)) (answer v (asks_whole lent furnace l))
+  pub stands_whole : (lent : ℕ) → conflict (derived_set v furnace) ≡ false → outcome w (asks_whole lent furnace l) ≡ Done
+      → answer v (asks_whole lent furnace l) ≡ of_ask Stands
   pub no_conflict : conflict (derived_set w furnace) ≡ false → conflict (derived_set v furnace) ≡ false
 
 -- the call, if it is done, brings this furnace no rule and no premise
@@ -759,12 +759,12 @@ StandsOn =
 -- "The old answer stays as a second call."
 pub record SecondCall (w : World) (lent furnace : ℕ) (l : ℤ) : Type 0 where
   -- it is done and refused as ask is;
-  pub outcomes : outcome w (asksWhole lent furnace l) ≡ outcome w (asks lent furnace l)
+  pub outcomes : outcome w (asks_whole lent furnace l) ≡ outcome w (asks lent furnace l)
   -- outside a conflict it answers as ask does, refusals included;
-  pub alike : conflict (derived_set w furnace) ≡ false → answer w (asksWhole lent furnace l) ≡ answer w (asks lent furnace l)
+  pub alike : conflict (derived_set w furnace) ≡ false → answer w (asks_whole lent furnace l) ≡ answer w (asks lent furnace l)
   -- in one it answers conflict for every literal for which it is not refused
-  pub hides : conflict (derived_set w furnace) ≡ true → outcome w (asksWhole lent furnace l) ≡ Done
-      → answer w (asksWhole lent furnace l) ≡ of_ask Conflict
+  pub hides : conflict (derived_set w furnace) ≡ true → outcome w (asks_whole lent furnace l) ≡ Done
+      → answer w (asks_whole lent furnace l) ≡ of_ask Conflict
 
 abbrev pub OldAnswer : Type 0
 OldAnswer = (w : World) (lent furnace : ℕ) (l : ℤ) → SecondCall w lent furnace l
@@ -859,7 +859,7 @@ ValvesRemove =
 
 -- and as the calls tell it: ask, of the whole board, a conflict; and otherwise ask, of a position, that it is ruled out
 pub record ToldOfValves (w : World) (lent furnace : ℕ) (entries : List Entry) : Type 0 where
-  pub conflict : (l : ℤ) → outcome w (asksWhole lent furnace l) ≡ Done
+  pub conflict : (l : ℤ) → outcome w (asks_whole lent furnace l) ≡ Done
       → (asked_whole (front w lent) w.board furnace l ≡ Conflict) ↔ Emptied entries (premises_of w furnace)
   pub ruled_out : ¬ Emptied entries (premises_of w furnace) → (x : Variable) (i : ℕ) → In (positions x) entries → i < x.count
       → let l = pos (symbol_at x i) in
