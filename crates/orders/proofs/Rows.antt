@@ -3,10 +3,10 @@ use Rattle.meaning.proofs.Kit.{◌≡◌, subst, true, ◌&&◌, List, ◌≤◌
 use Rattle.meaning.specs.Tests.{all}
 use Rattle.meaning.proofs.Tests.{both_true}
 use Rattle.orders.specs.Words.{word_at}
-use Rattle.positions.specs.Positions.{is_count}
+use Rattle.orders.specs.Marks.{has_count}
 use Rattle.orders.specs.Marks.{are_marks, are_rows, is_mark, marked_by, rows_marked}
 
-pub count_few : (n : ℕ) → is_count n ≡ true → n ≤ 7
+pub count_few : (n : ℕ) → has_count n ≡ true → n ≤ 7
 count_few n e = leb-true n 7 (both_true (leb 2 n) (leb n 7) e).1
 
 -- ---- from word j on, k being the next

@@ -1,7 +1,6 @@
 -- The marks of a pair table, from word 5 of its line on: a word for each position of the first valve, in it a mark for each position of the second.
 use Rattle.std.specs.Prelude.{ℕ, zero, suc, ◌+◌, ◌*◌, Bool, true, cond, not, ◌&&◌, ◌||◌, List, [], ◌∷◌, eqb, leb, length}
 use Rattle.meaning.specs.Tests.{all}
-use Rattle.positions.specs.Positions.{is_count}
 use Rattle.orders.specs.Words.{ends_at, word_at}
 
 abbrev pub is_mark : ℕ → Bool
@@ -15,9 +14,12 @@ unfoldable pub are_rows : (line : List ℕ) → (from rows count : ℕ) → Bool
 are_rows line from zero count = true
 are_rows line from (suc rows) count = are_marks count (word_at from line) && are_rows line (suc from) rows count
 
--- 02, Ticket 13: both of "2 to 7"
+-- 02, Ticket 13: "2 to 7"
+abbrev pub has_count : ℕ → Bool
+has_count count = leb 2 count && leb count 7
+
 abbrev pub both_counts : (rows count : ℕ) → Bool
-both_counts rows count = is_count rows && is_count count
+both_counts rows count = has_count rows && has_count count
 
 -- the marks are as many as there are positions; where a number of positions is wrong, which the call refuses, they are not looked at
 unfoldable pub table_fits : (line : List ℕ) → (rows count : ℕ) → Bool

@@ -1,10 +1,9 @@
 // The marks of a pair table: a word for each position of the first valve, in it a mark for each position of the second.
 
 ghost use Rattle.std.specs.Prelude.{◌≡◌, true, ◌+◌, ◌<◌, ◌≤◌, length};
-ghost use Rattle.orders.specs.Marks.{are_marks, are_rows, marked_by, pairs_in, rows_marked, table_fits};
+ghost use Rattle.orders.specs.Marks.{are_marks, are_rows, has_count, marked_by, pairs_in, rows_marked, table_fits};
 
 use crate::words::{ends_at, word};
-use positions::variables::has_count;
 
 // Whether a word is so many marks.
 fn are_marks(word: &[u8], count: usize) -> bool
@@ -36,6 +35,16 @@ fn are_rows(line: &[u8], from: usize, rows: usize, count: usize) -> bool
         k += 1;
     }
     true
+}
+
+// Whether a valve may have so many positions.
+fn has_count(count: usize) -> bool
+    ensures { result ≡ has_count count }
+{
+    if count < 2 {
+        return false;
+    }
+    count <= 7
 }
 
 // Whether the marks are as many as two valves have positions; they are not looked at where a valve has a wrong number of them, which the call

@@ -2,7 +2,7 @@
 use Rattle.meaning.proofs.Kit.{◌≡◌, ◌∙◌, sym, true, ◌+◌, arith, not-false, not-true}
 use Rattle.orders.specs.Words.{ends_at}
 use Rattle.meaning.proofs.Tests.{both_true}
-use Rattle.positions.specs.Positions.{is_count}
+use Rattle.orders.specs.Marks.{has_count}
 use Rattle.orders.specs.Marks.{pairs_in, table_fits}
 use Rattle.orders.proofs.Rows.{count_few}
 use Rattle.orders.proofs.marks.pairs_in.Statement.{statement}
@@ -17,7 +17,7 @@ unfolding pairs_in
 returns c = rw (sym c.before.has-count.ensures ∙ not-true _ c.if1.true)
 
 -- the first valve has a right number of positions
-rows_right : (c : tie.Else1) → is_count (start c).args.rows ≡ true
+rows_right : (c : tie.Else1) → has_count (start c).args.rows ≡ true
 rows_right c = sym c.before.has-count.ensures ∙ not-false _ c.if1.false
 
 returns_2 : tie.Need-returns-2
@@ -25,7 +25,7 @@ unfolding pairs_in
 returns_2 c = rw (rows_right c.before.before, sym c.before.has-count2.ensures ∙ not-true _ c.if2.true)
 
 -- and the second
-count_right : (c : tie.Else2) → is_count (start c.before.before).args.count ≡ true
+count_right : (c : tie.Else2) → has_count (start c.before.before).args.count ≡ true
 count_right c = sym c.before.has-count2.ensures ∙ not-false _ c.if2.false
 
 rows_marked_requires : tie.Need-rows-marked-requires

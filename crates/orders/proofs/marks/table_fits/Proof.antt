@@ -1,6 +1,6 @@
 -- `marks::table_fits` meets its contract: each test settles a case of it.
 use Rattle.meaning.proofs.Kit.{◌≡◌, ◌∙◌, sym, true, ◌≤◌, arith, not-false, not-true}
-use Rattle.positions.specs.Positions.{is_count}
+use Rattle.orders.specs.Marks.{has_count}
 use Rattle.orders.specs.Marks.{table_fits}
 use Rattle.orders.proofs.Rows.{count_few}
 use Rattle.orders.proofs.marks.table_fits.Statement.{statement}
@@ -15,7 +15,7 @@ unfolding table_fits
 returns c = rw (sym c.before.has-count.ensures ∙ not-true _ c.if1.true)
 
 -- the first valve has a right number of positions
-rows_right : (c : tie.Else1) → is_count (start c).args.rows ≡ true
+rows_right : (c : tie.Else1) → has_count (start c).args.rows ≡ true
 rows_right c = sym c.before.has-count.ensures ∙ not-false _ c.if1.false
 
 returns_2 : tie.Need-returns-2
@@ -23,7 +23,7 @@ unfolding table_fits
 returns_2 c = rw (rows_right c.before.before, sym c.before.has-count2.ensures ∙ not-true _ c.if2.true)
 
 -- and the second
-count_right : (c : tie.Else2) → is_count (start c.before.before).args.count ≡ true
+count_right : (c : tie.Else2) → has_count (start c.before.before).args.count ≡ true
 count_right c = sym c.before.has-count2.ensures ∙ not-false _ c.if2.false
 
 few : (c : tie.Else1) → (start c).args.rows ≤ 7
