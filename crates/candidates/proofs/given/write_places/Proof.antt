@@ -9,47 +9,47 @@ use Rattle.candidates.proofs.Turns.{map_filled}
 use Rattle.candidates.proofs.given.write_places.Statement.{statement}
 use Rattle.candidates.proofs.given.write_places.Tie as tie
 
-abbrev invariant_loop : tie.invariant-loop
+abbrev invariant_loop : tie.invariant-loop-i
 invariant_loop candidates places₀ i₀ places i =
     (i ≤ length candidates) × (length places ≡ length candidates) × ((j : ℕ) → j < i → get_or places j 0 ≡ place_of (get_or candidates j (pos 0)))
 
-abbrev decreases_loop : tie.decreases-loop
+abbrev decreases_loop : tie.decreases-loop-i
 decreases_loop candidates places₀ i₀ places i = length candidates - i
 
-abbrev start : tie.At-loop invariant_loop decreases_loop → tie.Start invariant_loop decreases_loop
+abbrev start : tie.At-loop-i invariant_loop decreases_loop → tie.Start invariant_loop decreases_loop
 start l = l.before.before
 
 -- the candidate that is placed
-abbrev here : tie.At-loop invariant_loop decreases_loop → ℤ
-here l = get_or (start l).args.candidates.now l.loop.i (pos 0)
+abbrev here : tie.At-loop-i invariant_loop decreases_loop → ℤ
+here l = get_or (start l).args.candidates.now l.loop-i.i (pos 0)
 
-fits : (c : tie.After-place-arg invariant_loop decreases_loop) → SFits w16 (here c.before.before)
-fits c = record { sfits = c.place-arg.given }
+fits : (c : tie.After-place-arg-1 invariant_loop decreases_loop) → SFits w16 (here c.before.before)
+fits c = record { sfits = c.place-arg-1.given }
 
 place_requires : tie.Need-place-requires invariant_loop decreases_loop
 place_requires c κs =
     let l = c.before.before in
     let a = (start l).args in
-    let one = all_at (in_range 200) (start l).requires.0 (in_at a.candidates.now l.loop.i (pos 0) (omega arith)) in
+    let one = all_at (in_range 200) (start l).requires.0 (in_at a.candidates.now l.loop-i.i (pos 0) (omega arith)) in
     range_facts 200 (back (here l)) (ap (in_range 200) (to_z-of_z (fits c)) ∙ one)
 
-loop_again : tie.Need-loop-preserved invariant_loop decreases_loop
+loop_again : tie.Need-loop-i-preserved invariant_loop decreases_loop
 loop_again c =
     let l = c.before.before.before in
     let place : ℕ → ℕ = λ j. place_of (get_or (start l).args.candidates.now j (pos 0)) in (
       omega arith,
-      simp length-set l.loop.invariant.1,
-      filled_more 0 place l.loop.places l.loop.i _ (omega (arith, l.loop.invariant.1)) l.loop.invariant.2
+      simp length-set l.loop-i.invariant.1,
+      filled_more 0 place l.loop-i.places l.loop-i.i _ (omega (arith, l.loop-i.invariant.1)) l.loop-i.invariant.2
           (c.place.ensures ∙ ap place_of (to_z-of_z (fits c.before))),
     )
 
 returns : tie.Need-returns invariant_loop decreases_loop
 returns c =
     let l = c.before in
-    map_filled place_of (start l).args.candidates.now (pos 0) 0 l.loop.places l.loop.invariant.1 (λ j h. l.loop.invariant.2 j (omega arith))
+    map_filled place_of (start l).args.candidates.now (pos 0) 0 l.loop-i.places l.loop-i.invariant.1 (λ j h. l.loop-i.invariant.2 j (omega arith))
 
 pub write_places_spec : {M : Type 1} → statement M
 write_places_spec = tie.close (tie.spec
     invariant_loop decreases_loop (λ c. (omega arith, c.before.requires.1, λ j h. absurd (not-suc-le-zero h))) (λ c. omega arith) (λ c. omega arith) place_requires
     (λ c. omega arith) (λ c. omega arith) (λ c. omega arith) (λ c. omega arith) loop_again
-    (λ c. c.before.loop.invariant.1 ∙ sym (start c.before).requires.1) returns)
+    (λ c. c.before.loop-i.invariant.1 ∙ sym (start c.before).requires.1) returns)

@@ -19,12 +19,12 @@ odd : (p : ℕ) → (p % 2 ≡ 0 → ⊥) → neg_ℤ (pos (p / 2 + 1)) ≡ lite
 unfolding literal_at
 odd p e = rw (ne_eqb (p % 2) 0 e, add-one)
 
-sub_result : tie.Need-overflow-sub-result
+sub_result : tie.Need-overflow_sub-result
 sub_result c = rw (minus_is (fits c.before)) (minus_fits (symbol c.before) (omega arith))
 
-returns_2 : tie.Need-returns-2
-returns_2 c = to_z-of_z (sub_result c) ∙ minus_is (fits c.before) ∙ odd c.before.args.p c.if1.false
+returns_2 : tie.Need-returns
+returns_2 c = to_z-of_z (sub_result c) ∙ minus_is (fits c.before) ∙ odd c.before.args.p c.if-p-eq0.false
 
 pub literal_for_spec : {M : Type 1} → statement M
 literal_for_spec = tie.close (tie.spec
-    (λ c. omega arith) (λ c. search rules) (λ c. to_z-of_z (fits c.before) ∙ even c.before.args.p c.if1.true) sub_result returns_2)
+    (λ c. omega arith) (λ c. search rules) (λ c. to_z-of_z (fits c.before) ∙ even c.before.args.p c.if-p-eq0.true) sub_result returns_2)

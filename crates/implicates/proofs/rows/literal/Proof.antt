@@ -23,14 +23,14 @@ unfolding place_of
 minus_at zero h = absurd (omega arith)
 minus_at (suc k) h = sym (literal_at_place (negsuc k) (omega arith))
 
-sub_result : tie.Need-overflow-sub-result
+sub_result : tie.Need-overflow_sub-result
 sub_result c = rw (minus_is (fits c.before)) (minus_fits (symbol c.before) (omega arith))
 
-returns : tie.Need-returns
-returns c = to_z-of_z (sub_result c) ∙ minus_is (fits c.before) ∙ rw c.if1.true (minus_at c.before.args.symbol c.before.requires)
+returns : tie.Need-returns-then-negated
+returns c = to_z-of_z (sub_result c) ∙ minus_is (fits c.before) ∙ rw c.if-negated.true (minus_at c.before.args.symbol c.before.requires)
 
-returns_2 : tie.Need-returns-2
-returns_2 c = to_z-of_z (fits c.before) ∙ rw c.if1.false (plus_at c.before.args.symbol c.before.requires)
+returns_2 : tie.Need-returns-else-negated
+returns_2 c = to_z-of_z (fits c.before) ∙ rw c.if-negated.false (plus_at c.before.args.symbol c.before.requires)
 
 pub literal_spec : {M : Type 1} → statement M
 literal_spec = tie.close (tie.spec (λ c. search rules) sub_result returns returns_2)

@@ -9,30 +9,30 @@ use Rattle.implicates.proofs.Numbers.{marked_at, length_clauses, clause_at_lem}
 use Rattle.implicates.proofs.rows.row_count.Statement.{statement}
 use Rattle.implicates.proofs.rows.row_count.Tie as tie
 
-abbrev invariant_loop : tie.invariant-loop
+abbrev invariant_loop : tie.invariant-loop-c
 invariant_loop primes n count₀ c₀ count c = (c ≤ length primes) × (count ≤ c) × (count ≡ length (keep (marked primes) (take c (clauses n))))
 
-abbrev decreases_loop : tie.decreases-loop
+abbrev decreases_loop : tie.decreases-loop-c
 decreases_loop primes n count₀ c₀ count c = length primes - c
 
-loop_again : tie.Need-loop-preserved invariant_loop decreases_loop
+loop_again : tie.Need-loop-c-preserved invariant_loop decreases_loop
 loop_again c =
     let here = c.before.before.before in
     let a = here.before in
-    let l = here.loop in
+    let l = here.loop-c in
     let n = a.args.n in
     let p = marked a.args.primes.now in
     let turn = count_turn p (clauses n) l.c [] (omega (arith, length_clauses n)) in
     let test = ap p (clause_at_lem n l.c (omega arith)) ∙ marked_at a.args.primes.now n l.c (omega arith) in
     ⊎_elim
-    (λ w. let one = ap tally (test ∙ w.0.true) in (omega arith, omega arith, omega (arith, turn, one, w.1, l.invariant.2)))
-    (λ w. let none = ap tally (test ∙ w.0.false) in (omega arith, omega arith, omega (arith, turn, none, w.1, l.invariant.2)))
-    c.if1.branch
+    (λ w. let one = ap tally (test ∙ w.if-primes-c.true) in (omega arith, omega arith, omega (arith, turn, one, w.count-is, l.invariant.2)))
+    (λ w. let none = ap tally (test ∙ w.if-primes-c.false) in (omega arith, omega arith, omega (arith, turn, none, w.count-is, l.invariant.2)))
+    c.if-primes-c.branch-raw
 
 returns : tie.Need-returns invariant_loop decreases_loop
 returns c =
     let a = c.before.before in
-    let l = c.before.loop in
+    let l = c.before.loop-c in
     let n = a.args.n in
     let p = marked a.args.primes.now in
     l.invariant.2

@@ -3,7 +3,7 @@ use Rattle.meaning.proofs.Kit.{◌∙◌, ap, ℕ, pos, replicate, rules}
 use Rattle.implicates.proofs.rows.write_row.Statement.{statement}
 use Rattle.implicates.proofs.rows.write_row.Tie as tie
 
-put_literals_requires : tie.Need-put-literals-requires
+put_literals_requires : tie.Need-put_literals-requires
 put_literals_requires c κs =
     let cleared = c.before.before in
     let p = cleared.before.before.before.requires in
