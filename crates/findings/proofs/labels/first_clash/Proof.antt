@@ -7,31 +7,31 @@ use Rattle.findings.proofs.Searching.{first_found, first_missing}
 use Rattle.findings.proofs.labels.first_clash.Statement.{statement}
 use Rattle.findings.proofs.labels.first_clash.Tie as tie
 
-abbrev invariant_loop : tie.invariant-loop
+abbrev invariant_loop : tie.invariant-loop-s
 invariant_loop ranks symbols s₀ s = (s ≤ length ranks / 2) × ((i : ℕ) → i < s → clash_in ranks i ≡ false)
 
-abbrev decreases_loop : tie.decreases-loop
+abbrev decreases_loop : tie.decreases-loop-s
 decreases_loop ranks symbols s₀ s = length ranks / 2 - s
 
-returns : tie.Need-returns invariant_loop decreases_loop
+returns : tie.Need-returns-then-ranks-s-lt-NONE-2 invariant_loop decreases_loop
 returns c =
     let t = c.before.before in
     let l = t.before.before.before in
     let ranks = l.before.args.ranks.now in
-    first_found _ (length ranks / 2) (omega arith) l.loop.s (omega arith) l.loop.invariant.1
-    (clash_yes ranks l.loop.s (lt-ltb _ none t.if1.true) c.if2.true)
+    first_found _ (length ranks / 2) (omega arith) l.loop-s.s (omega arith) l.loop-s.invariant.1
+    (clash_yes ranks l.loop-s.s (lt-ltb _ none t.if-ranks-s-lt-NONE.true) c.if-ranks-s-lt-NONE-2.true-raw)
 
-loop_again : tie.Need-loop-preserved invariant_loop decreases_loop
+loop_again : tie.Need-loop-s-preserved invariant_loop decreases_loop
 loop_again c =
     let l = c.before.before.before in
     let ranks = l.before.args.ranks.now in
-    let here = clash_no ranks l.loop.s (⊎_elim (λ w. inr w.2.false) (λ w. inl (le-ltb _ none w.false)) c.if1.branch) in
-    (omega arith, below_more (λ i. clash_in ranks i ≡ false) l.loop.s l.loop.invariant.1 here)
+    let here = clash_no ranks l.loop-s.s (⊎_elim (λ w. inr (le-ltb _ none w.if-ranks-s-lt-NONE-2.false)) (λ w. inl (le-ltb _ none w.if-ranks-s-lt-NONE.false)) c.else-ranks-s-lt-NONE.branch-raw) in
+    (omega arith, below_more (λ i. clash_in ranks i ≡ false) l.loop-s.s l.loop-s.invariant.1 here)
 
-returns_2 : tie.Need-returns-2 invariant_loop decreases_loop
+returns_2 : tie.Need-returns invariant_loop decreases_loop
 returns_2 c =
     let l = c.before in
-    first_missing _ (length l.before.args.ranks.now / 2) (omega arith) (λ i h. l.loop.invariant.1 i (omega arith))
+    first_missing _ (length l.before.args.ranks.now / 2) (omega arith) (λ i h. l.loop-s.invariant.1 i (omega arith))
 
 pub first_clash_spec : {M : Type 1} → statement M
 first_clash_spec = tie.close (tie.spec

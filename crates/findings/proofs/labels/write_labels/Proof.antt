@@ -12,26 +12,26 @@ use Rattle.findings.proofs.labels.write_labels.Tie as tie
 abbrev symbol_label : List ℕ → ℕ → ℕ
 symbol_label ranks i = label_of (ltb (get_or ranks (2 * i) none) none) (ltb (get_or ranks (2 * i + 1) none) none)
 
-abbrev invariant_loop : tie.invariant-loop
+abbrev invariant_loop : tie.invariant-loop-s
 invariant_loop ranks labels₀ s₀ labels s = (s ≤ length labels₀) × Filled 0 (symbol_label ranks) labels₀ s labels
 
-abbrev decreases_loop : tie.decreases-loop
+abbrev decreases_loop : tie.decreases-loop-s
 decreases_loop ranks labels₀ s₀ labels s = length labels₀ - s
 
-abbrev at : tie.After-label invariant_loop decreases_loop → tie.At-loop invariant_loop decreases_loop
+abbrev at : tie.After-label invariant_loop decreases_loop → tie.At-loop-s invariant_loop decreases_loop
 at c = c.before.before.before.before
 
-loop_again : tie.Need-loop-preserved invariant_loop decreases_loop
+loop_again : tie.Need-loop-s-preserved invariant_loop decreases_loop
 loop_again c =
     let l = at c in
     let ranks = l.before.before.before.args.ranks.now in
     let same = ap₂ (λ a b. label_of (ltb a none) (ltb b none))
-    (any_default ranks (2 * l.loop.s) 0 none (omega arith)) (any_default ranks (2 * l.loop.s + 1) 0 none (omega arith)) in
-    (omega arith, filled_put l.loop.invariant.1 c.label.result (omega arith) (c.label.ensures ∙ same))
+    (any_default ranks (2 * l.loop-s.s) 0 none (omega arith)) (any_default ranks (2 * l.loop-s.s + 1) 0 none (omega arith)) in
+    (omega arith, filled_put l.loop-s.invariant.1 c.label.result (omega arith) (c.label.ensures ∙ same))
 
 returns : tie.Need-returns invariant_loop decreases_loop
 unfolding labels_from
-returns c = let l = c.before in filled_all l.loop.invariant.1 _ refl (omega arith)
+returns c = let l = c.before in filled_all l.loop-s.invariant.1 _ refl (omega arith)
 
 pub write_labels_spec : {M : Type 1} → statement M
 write_labels_spec = tie.close (tie.spec
