@@ -145,7 +145,7 @@ fn say_done(
 // ---- lines that ask
 
 // One literal and no word more, or the word at fault.
-#[derive(Drop)]
+#[derive(Clone, Copy)]
 enum Asked {
     Of(i16),
     Not(Slip, usize),

@@ -18,7 +18,7 @@ use saying::showing::{refuse, show_slip};
 const MOST_GIVEN: usize = 400;
 
 // The literals of a line, counted, or the word that is none.
-#[derive(Drop)]
+#[derive(Clone, Copy)]
 enum Given {
     Count(usize),
     Not(Slip, usize),

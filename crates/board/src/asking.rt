@@ -15,7 +15,7 @@ use literals::WIDTH;
 use literals::refusal::Refusal;
 
 // How a literal stands.
-#[derive(Drop)]
+#[derive(Clone, Copy)]
 pub enum Standing {
     Conflict,
     Stands,
@@ -26,7 +26,7 @@ pub enum Standing {
 
 // Why a literal stands: its rank and its supporting row, both 65535 where explain is refused, and the number of the rule that the row is from, 0
 // where it is refused.
-#[derive(Drop)]
+#[derive(Clone, Copy)]
 pub struct Reason {
     pub outcome: Outcome,
     pub rank: u16,

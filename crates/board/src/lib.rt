@@ -15,7 +15,7 @@ use literals::refusal::Refusal;
 // S symbols, the rows of the caller's table in use, the rules accepted since the board was opened, and the premises, a flag for each literal's place:
 // those of furnace 1 first, then those of furnace 2. Each field may hold anything: the calls test it.
 #[repr(C)]
-#[derive(Drop)]
+#[derive(Clone, Copy)]
 pub struct Board {
     pub symbols: usize,
     pub rows: usize,
@@ -25,14 +25,14 @@ pub struct Board {
 }
 
 // What a call comes to.
-#[derive(Drop)]
+#[derive(Clone, Copy)]
 pub enum Outcome {
     Done,
     Refused(Refusal),
 }
 
 // What open, hold and withdraw answer.
-#[derive(Drop)]
+#[derive(Clone, Copy)]
 pub struct Change {
     pub outcome: Outcome,
     pub board: Board,

@@ -20,7 +20,7 @@ pub const NO_PLACE: usize = 0xffff_ffff_ffff_ffff;
 
 // What adding rules answers, by bytes, by text or by an entry: for refusals 2 to 6 the place in the formula's bytes, for 15 that in the text,
 // NO_PLACE otherwise; and how many rows were appended, 0 where it was refused.
-#[derive(Drop)]
+#[derive(Clone, Copy)]
 pub struct Addition {
     pub outcome: Outcome,
     pub place: usize,

@@ -10,7 +10,7 @@ use crate::Board;
 use literals::refusal::Refusal;
 
 // The place of a literal that a call for a furnace is given, or why it is refused: the board, the furnace or the literal.
-#[derive(Drop)]
+#[derive(Clone, Copy)]
 pub enum Placed {
     At(usize),
     Refused(Refusal),

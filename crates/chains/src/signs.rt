@@ -5,7 +5,7 @@ ghost use Rattle.chains.specs.Signs.{start_of, belongs, first_or, goes_on};
 ghost use Rattle.chains.specs.Form.{lead};
 
 // Which bytes a run is of: spaces; spaces and minus signs; digits.
-#[derive(Drop)]
+#[derive(Clone, Copy)]
 pub enum Class {
     Blank,
     Denial,
@@ -13,7 +13,7 @@ pub enum Class {
 }
 
 // What a unit starts with, past its spaces and minus signs.
-#[derive(Drop)]
+#[derive(Clone, Copy)]
 pub enum Start {
     Digits,
     Bracket,

@@ -14,7 +14,7 @@ use crate::storing::put;
 use formula::reading::{Join, Kind, LEVELS, kind_of};
 
 // How many bytes the formula takes, and the place after its text.
-#[derive(Drop)]
+#[derive(Clone, Copy)]
 struct Spelt {
     used: usize,
     next: usize,

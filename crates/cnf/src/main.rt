@@ -16,7 +16,7 @@ const MOST_INPUT: usize = 262144;
 
 // What a text comes to: how many bytes its rows take as text; or that no board has so many symbols as its header counts variables; or why it is
 // refused, and how many clauses come before the first at fault.
-#[derive(Drop)]
+#[derive(Clone, Copy)]
 enum Rewritten {
     Text(usize),
     NoBoard(usize),

@@ -16,7 +16,7 @@ use stack::{Stack, Stacks};
 
 // How far the desk is: its state beside the table and the names; whether lines are printed; how many were read; and how many bytes of the next one
 // are in its buffer.
-#[derive(Drop)]
+#[derive(Clone, Copy)]
 pub struct Sitting {
     pub desk: Desk,
     pub echo: bool,

@@ -11,7 +11,7 @@ use crate::words::{literal_at, next_word};
 
 // What is kept of a clause's literals beside the row: how many places it has, whether a literal and its opposite are among them,
 // whether they are of more than eight symbols, and whether one is beyond the board's symbols.
-#[derive(Drop)]
+#[derive(Clone, Copy)]
 pub struct Kept {
     pub count: usize,
     pub always: bool,
@@ -20,7 +20,7 @@ pub struct Kept {
 }
 
 // A clause, the place after its 0, and whether it keeps the form: none of its literals is beyond the header's variables, and it has its 0.
-#[derive(Drop)]
+#[derive(Clone, Copy)]
 pub struct Clause {
     pub kept: Kept,
     pub end: usize,

@@ -8,7 +8,7 @@ ghost use Rattle.dimacs.specs.Form.{counts_in, header_in, header_line, past_comm
 use crate::words::{BEYOND, line_end, next_word, number_at};
 
 // The variables and the clauses that a header counts, or that it breaks the form.
-#[derive(Drop)]
+#[derive(Clone, Copy)]
 pub enum Counts {
     Of(usize, usize),
     Broken,

@@ -18,7 +18,7 @@ use literals::refusal::Refusal;
 
 // What reading a text answers: how many clauses come before the first at fault, which are all of them where the reading is done; and how many
 // rows were appended.
-#[derive(Drop)]
+#[derive(Clone, Copy)]
 pub struct Reading {
     pub outcome: Outcome,
     pub clauses: usize,

@@ -5,7 +5,7 @@ ghost use Rattle.dimacs.specs.Gathering.{lower_of, put_at, Inserts};
 
 // What putting a place into a row answers: how many places there are then, whether its opposite was there, and whether there was
 // no room for another symbol.
-#[derive(Drop)]
+#[derive(Clone, Copy)]
 pub struct Inserted {
     pub count: usize,
     pub clash: bool,

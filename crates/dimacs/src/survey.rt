@@ -14,7 +14,7 @@ use literals::MOST_RULES;
 use literals::refusal::Refusal;
 
 // What the clauses come to, how many come before the first at fault, and how many rows they have, 0 where they are refused.
-#[derive(Drop)]
+#[derive(Clone, Copy)]
 pub struct Survey {
     pub outcome: Outcome,
     pub clauses: usize,

@@ -5,14 +5,14 @@ ghost use Rattle.dimacs.specs.Words.{beyond, ends, in_word, is_gap, number_of, s
 ghost use Rattle.dimacs.specs.Gathering.{grown, Place, Spells};
 
 // A number in a text: its value, 32,768 for what breaks the form, and the place after it.
-#[derive(Drop)]
+#[derive(Clone, Copy)]
 pub struct Number {
     pub value: usize,
     pub end: usize,
 }
 
 // A literal in a text, or the 0 after a clause, as its symbol's number and its sign, and the place after it.
-#[derive(Drop)]
+#[derive(Clone, Copy)]
 pub struct Signed {
     pub symbol: usize,
     pub negative: bool,

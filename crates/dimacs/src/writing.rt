@@ -12,7 +12,7 @@ use literals::refusal::Refusal;
 use spelling::{put_literal, put_natural, put_word};
 
 // What writing answers: how many bytes were written, 0 where it was refused.
-#[derive(Drop)]
+#[derive(Clone, Copy)]
 pub struct Writing {
     pub outcome: Outcome,
     pub bytes: usize,

@@ -7,7 +7,7 @@ use report::boards::{blank, with, with_second};
 use stack::{Stack, Stacks};
 
 // What a step is given and what it hands on: a board, and the record of its stacks.
-#[derive(Drop)]
+#[derive(Clone, Copy)]
 pub struct Desk {
     pub board: Board,
     pub stacks: Stacks,

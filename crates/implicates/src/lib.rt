@@ -13,7 +13,7 @@ ghost use Rattle.implicates.specs.Appending.{rule_by, answer_of, table_of};
 use literals::MOST_RULES;
 
 // What appending a rule comes to: how many rows it appended, or why none.
-#[derive(Drop)]
+#[derive(Clone, Copy)]
 pub enum Appended {
     Rows(usize),
     Unsatisfiable,

@@ -15,7 +15,7 @@ const LINE: usize = 256;
 
 // How far the journal is: the board, the place of the next command and its ordinal, whether the program stops, and how many bytes
 // of the buffer are filled.
-#[derive(Drop)]
+#[derive(Clone, Copy)]
 struct Run {
     board: Board,
     next: usize,

@@ -13,7 +13,7 @@ use board::grounds::blame;
 use board::{Board, Outcome};
 
 // It ends the conflict, or leaves one, whose core is the set of those candidates that it stands on.
-#[derive(Drop)]
+#[derive(Clone, Copy)]
 pub enum Effect {
     Ends,
     Leaves(usize),

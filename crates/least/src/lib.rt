@@ -11,7 +11,7 @@ use board::Outcome;
 pub const NO_SET: u16 = 65535;
 
 // What the call answers: the set of candidates to withdraw, none where it was refused.
-#[derive(Drop)]
+#[derive(Clone, Copy)]
 pub struct Withdrawal {
     pub outcome: Outcome,
     pub set: u16,

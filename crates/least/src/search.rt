@@ -17,7 +17,7 @@ use board::Board;
 use candidates::sets::{power, size_of};
 
 // How far the search is: the set that was found, or NO_SET, and how many cores are kept.
-#[derive(Drop)]
+#[derive(Clone, Copy)]
 struct Progress {
     found: usize,
     cores: usize,

@@ -6,7 +6,7 @@ ghost use Rattle.lines.specs.Commands.{body_length, command_of, formula_length, 
 use formula::reading::{Answer, LEVELS};
 
 // What the kind byte of a command says.
-#[derive(Drop)]
+#[derive(Clone, Copy)]
 pub enum Command {
     Open,
     Rule,

@@ -14,7 +14,7 @@ use spelling::{put_literals, put_named, put_natural, put_word};
 
 // What a command comes to: the board after it, how many bytes of the input it took, the place after its text, and whether the
 // program stops.
-#[derive(Drop)]
+#[derive(Clone, Copy)]
 pub struct Progress {
     pub board: Board,
     pub used: usize,

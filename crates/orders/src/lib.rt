@@ -12,7 +12,7 @@ use literals::refusal::Refusal;
 use stack::Stacks;
 
 // What the desk keeps beside the table and the names: the board, the record of stacks, and the furnace that its lines work.
-#[derive(Drop)]
+#[derive(Clone, Copy)]
 pub struct Desk {
     pub board: Board,
     pub stacks: Stacks,
@@ -20,7 +20,7 @@ pub struct Desk {
 }
 
 // Why a line is no call as it stands.
-#[derive(Drop)]
+#[derive(Clone, Copy)]
 pub enum Slip {
     LineTooLong,
     UnknownWord,
@@ -34,7 +34,7 @@ pub enum Slip {
 }
 
 // What a line that changes something comes to; a line that asks changes nothing and is answered elsewhere.
-#[derive(Drop)]
+#[derive(Clone, Copy)]
 pub enum Reply {
     Done,
     Refused(Refusal),
@@ -45,7 +45,7 @@ pub enum Reply {
 
 // The same with what goes with it: for a slip the number of the word at fault; for a rule's refusal the place that the call tells; and how many rows
 // were added.
-#[derive(Drop)]
+#[derive(Clone, Copy)]
 pub struct Told {
     pub reply: Reply,
     pub place: usize,
@@ -53,7 +53,7 @@ pub struct Told {
 }
 
 // The desk after a line, and what the line came to.
-#[derive(Drop)]
+#[derive(Clone, Copy)]
 pub struct Taken {
     pub desk: Desk,
     pub told: Told,

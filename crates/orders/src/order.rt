@@ -6,7 +6,7 @@ ghost use Rattle.orders.specs.Orders.{order_at, order_of, slot_of_order};
 use names::naming::run;
 use names::slots::find;
 
-#[derive(Drop)]
+#[derive(Clone, Copy)]
 pub enum Order {
     Open,
     Name,

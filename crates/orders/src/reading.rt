@@ -8,13 +8,13 @@ use crate::Slip;
 use names::naming::{SYMBOLS, is_name, slot_of};
 
 // A number or a symbol's number, or what is wrong with the word.
-#[derive(Drop)]
+#[derive(Clone, Copy)]
 pub enum Number {
     Of(usize),
     Not(Slip),
 }
 
-#[derive(Drop)]
+#[derive(Clone, Copy)]
 pub enum Literal {
     Of(i16),
     Not(Slip),

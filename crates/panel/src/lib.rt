@@ -35,7 +35,7 @@ use stack::Stacks;
 
 // A board as C has it: any byte other than 0 is a premise held. `first` and `second`, the premises of furnaces 1 and 2, are the header's `held`.
 #[repr(C)]
-#[derive(Drop)]
+#[derive(Clone, Copy)]
 pub struct PanelBoard {
     pub symbols: u16,
     pub rows: u16,
@@ -45,14 +45,14 @@ pub struct PanelBoard {
 }
 
 #[repr(C)]
-#[derive(Drop)]
+#[derive(Clone, Copy)]
 pub struct PanelChange {
     pub refusal: u8,
     pub board: PanelBoard,
 }
 
 #[repr(C)]
-#[derive(Drop)]
+#[derive(Clone, Copy)]
 pub struct PanelAddition {
     pub refusal: u8,
     pub place: usize,
@@ -61,7 +61,7 @@ pub struct PanelAddition {
 }
 
 #[repr(C)]
-#[derive(Drop)]
+#[derive(Clone, Copy)]
 pub struct PanelReading {
     pub refusal: u8,
     pub clauses: u16,
@@ -70,14 +70,14 @@ pub struct PanelReading {
 }
 
 #[repr(C)]
-#[derive(Drop)]
+#[derive(Clone, Copy)]
 pub struct PanelWriting {
     pub refusal: u8,
     pub bytes: usize,
 }
 
 #[repr(C)]
-#[derive(Drop)]
+#[derive(Clone, Copy)]
 pub struct PanelSpelling {
     pub refusal: u8,
     pub place: usize,
@@ -85,28 +85,28 @@ pub struct PanelSpelling {
 }
 
 #[repr(C)]
-#[derive(Drop)]
+#[derive(Clone, Copy)]
 pub struct PanelListing {
     pub refusal: u8,
     pub count: usize,
 }
 
 #[repr(C)]
-#[derive(Drop)]
+#[derive(Clone, Copy)]
 pub struct PanelWithdrawal {
     pub refusal: u8,
     pub set: u16,
 }
 
 #[repr(C)]
-#[derive(Drop)]
+#[derive(Clone, Copy)]
 pub struct PanelAnswer {
     pub refusal: u8,
     pub standing: u8,
 }
 
 #[repr(C)]
-#[derive(Drop)]
+#[derive(Clone, Copy)]
 pub struct PanelReason {
     pub refusal: u8,
     pub literals: u8,

@@ -10,7 +10,7 @@ use board::Change;
 use stack::{Stacks, Step};
 
 // What C is told, and the record.
-#[derive(Drop)]
+#[derive(Clone, Copy)]
 pub struct PanelStep {
     pub change: PanelChange,
     pub stacks: Stacks,

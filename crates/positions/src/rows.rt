@@ -13,7 +13,7 @@ use implicates::one_row::append_row;
 
 // A pair table as one of its variables sees it: the first symbol and the number of positions of its own and of its partner, the allowed pairs, and
 // whether it is the table's second variable.
-#[derive(Drop)]
+#[derive(Clone, Copy)]
 pub struct View {
     pub own: usize,
     pub positions: usize,

@@ -13,7 +13,7 @@ use findings::NONE;
 use literals::{MOST_LITERALS, WIDTH};
 
 // Which literals of a row have an opposite without a rank below some k.
-#[derive(Drop)]
+#[derive(Clone, Copy)]
 pub enum Open {
     Nothing,
     One(usize),

@@ -9,7 +9,7 @@ mod writing;
 use board::Outcome;
 
 // What listing the smallest sets answers: how many sets were written, 0 where it was refused.
-#[derive(Drop)]
+#[derive(Clone, Copy)]
 pub struct Listing {
     pub outcome: Outcome,
     pub count: usize,

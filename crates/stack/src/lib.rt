@@ -10,7 +10,7 @@ use board::Change;
 // The literals that a furnace holds on trial, in the order in which they were pushed: the first `count` of the places, the top last. Each field may
 // hold anything: the calls test it.
 #[repr(C)]
-#[derive(Drop)]
+#[derive(Clone, Copy)]
 pub struct Stack {
     pub count: u16,
     pub literals: [i16; 400],
@@ -18,14 +18,14 @@ pub struct Stack {
 
 // The stack of furnace 1, then that of furnace 2.
 #[repr(C)]
-#[derive(Drop)]
+#[derive(Clone, Copy)]
 pub struct Stacks {
     pub first: Stack,
     pub second: Stack,
 }
 
 // What a call that is lent the record answers: what it does to the board, and the record after it.
-#[derive(Drop)]
+#[derive(Clone, Copy)]
 pub struct Step {
     pub change: Change,
     pub stacks: Stacks,

@@ -13,7 +13,7 @@ use literals::refusal::Refusal;
 
 // What reading a text to bytes and writing text answer: for refusal 15 the place in the text, for 2 to 6 the place in the formula's bytes,
 // `board::rules::NO_PLACE` otherwise; and how many bytes were written, 0 where it was refused.
-#[derive(Drop)]
+#[derive(Clone, Copy)]
 pub struct Spelling {
     pub outcome: Outcome,
     pub place: usize,
