@@ -1,7 +1,7 @@
 -- `journal::goes_on` meets its contract: by the test.
 use Rattle.meaning.proofs.Kit.{rules}
-use Rattle.journal.proofs.goes_on_lem.Statement.{statement}
-use Rattle.journal.proofs.goes_on_lem.Tie as tie
+use Rattle.journal.proofs.goes_on.Statement.{statement}
+use Rattle.journal.proofs.goes_on.Tie as tie
 
 pub goes_on_spec : {M : Type 1} → statement M
 goes_on_spec = tie.close (tie.spec

@@ -4,6 +4,6 @@ use Rattle.spelling.proofs.put_symbol.Tie as tie
 
 pub put_symbol_spec : {M : Type 1} → statement M
 put_symbol_spec = tie.close (tie.spec
-    (λ c κs. (c.before.if1.true, c.before.before.before.requires)) (λ c. c.before.before.put-short.auto.0)
-    (λ c. c.before.before.put-short.ensures) (λ c κs. c.before.before.before.requires) (λ c. c.before.before.put-natural.auto.0)
-    (λ c. c.before.before.put-natural.ensures))
+    (λ c κs. (c.before.if-n-lt1000.true, c.before.before.before.requires)) (λ c. c.before.before.put_short.auto.out)
+    (λ c. c.before.before.put_short.ensures) (λ c κs. c.before.before.before.requires) (λ c. c.before.before.put_natural.auto.out)
+    (λ c. c.before.before.put_natural.ensures))
