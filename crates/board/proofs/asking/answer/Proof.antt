@@ -17,29 +17,29 @@ use Rattle.board.proofs.Lending.{rows_fit, RanksIn, ranks_room, ranks_long, rank
 use Rattle.board.proofs.asking.answer.Statement.{statement}
 use Rattle.board.proofs.asking.answer.Tie as tie
 
-abbrev ranked : tie.After-standing-by → tie.After-propagate
+abbrev ranked : tie.After-standing_by → tie.After-propagate
 ranked c = c.before.before.before.before
 
 -- where the premises are chosen, where the tests have passed, and where the call began
-abbrev chosen : tie.After-propagate → tie.After-premises
+abbrev chosen : tie.After-propagate → tie.After-premises-held
 chosen c = c.before.before.before
 
-abbrev tested : tie.After-premises → tie.After-enum-told
+abbrev tested : tie.After-premises-held → tie.In-At
 tested c = c.before.before.before.before.before.before
 
-abbrev start : tie.After-enum-told → tie.Start
+abbrev start : tie.In-At → tie.Start
 start c = c.before.before.before
 
-at : (c : tie.After-enum-told) → let s = start c in
-    PlacedAt s.args.table.now s.args.t1 s.args.furnace s.args.l c.enum_told.given.0.0
-at c = let s = start c in placed_at _ _ _ s.fits.l c.before.before.place-on.ensures c.enum_told.given.1
+at : (c : tie.In-At) → let s = start c in
+    PlacedAt s.args.table.now s.args.t1 s.args.furnace s.args.l c.enum_told-1.given.0.0
+at c = let s = start c in placed_at _ _ _ s.ranges.l.fits c.before.before.place_on.ensures c.enum_told-1.given.1
 
 -- the premises are the furnace's
-same : (c : tie.After-premises) → let s = start (tested c) in c.premises.result.now ≡ held_by s.args.t1 s.args.furnace
+same : (c : tie.After-premises-held) → let s = start (tested c) in c.premises-held.result.now ≡ held_by s.args.t1 s.args.furnace
 unfolding held_by
-same c = c.premises.ensures
+same c = c.premises-held.ensures
 
-long : (c : tie.After-premises) → 400 ≡ length c.premises.result.now
+long : (c : tie.After-premises-held) → 400 ≡ length c.premises-held.result.now
 long c =
     let s = start (tested c) in
     held_long s.args.t1 s.args.furnace 400 (at (tested c)).is_furnace (search rules) (search rules) (same c)
@@ -47,7 +47,7 @@ long c =
 -- the ranks
 front : (c : tie.After-propagate) → let s = start (tested (chosen c)) in
     RanksIn s.args.table.now s.args.t1 s.args.furnace
-    (c.propagate.new.1.1.1.0 ++ drop (2 * s.args.t1.symbols) (replicate 400 none))
+    (c.propagate.new.ranks ++ drop (2 * s.args.t1.symbols) (replicate 400 none))
 front c = let h = chosen c in ranks_back _ _ (at (tested h)).good _ (same h) c.propagate.ensures.0
 
 propagate_requires : tie.Need-propagate-requires
@@ -57,7 +57,7 @@ propagate_requires c κs =
     let part = ranks_long _ _ g in
     (rows_fit _ _ (replicate 400 none) (ranks_room _ _ g) g, (omega (arith, part, long h, g.sound.symbols), omega (arith, part)))
 
-standing_by_requires : tie.Need-standing-by-requires
+standing_by_requires : tie.Need-standing_by-requires
 standing_by_requires c κs =
     let r = c.before.before.before in
     let w = tested (chosen r) in
@@ -65,7 +65,7 @@ standing_by_requires c κs =
     let s = start w in
     let size = (front r).long in
     let range = range_facts s.args.t1.symbols s.args.l p.in_range_lem in
-    let back = back_abs s.fits.l in
+    let back = back_abs s.ranges.l.fits in
     (omega (arith, back, range.0), omega (arith, back, size, range.1), omega (arith, size, p.good.sound.symbols))
 
 -- what is so of both calls
@@ -73,16 +73,16 @@ either : {x a b : Standing} (whole : Bool) → x ≡ a → x ≡ b → x ≡ con
 either true e f = e
 either false e f = f
 
-returns : tie.Need-returns
+returns : tie.Need-returns-in-Refused
 unfolding asked asked_whole ask_faults
 returns c =
     let w = c.before in
     let s = w.before.before.before in
     let own = drop 3 (ask_faults s.args.table.now s.args.t1 s.args.furnace s.args.l) in
-    let refused = placed_refused _ _ _ s.ranges.l w.before.before.place-on.ensures w.why.given.1 own in
+    let refused = placed_refused _ _ _ s.ranges.l w.before.before.place_on.ensures w.why-1.given.1 own in
     either s.args.whole (rw refused) (rw refused)
 
-returns_2 : tie.Need-returns-2
+returns_2 : tie.Need-returns-in-At
 unfolding asked asked_whole ask_faults
 returns_2 c =
     let r = ranked c in
@@ -90,7 +90,7 @@ returns_2 c =
     let p = at w in
     let s = start w in
     let b = s.args.t1 in
-    let stands = rw (to_z-of_z s.fits.l) at c.Standing-by.ensures in
+    let stands = rw (to_z-of_z s.ranges.l.fits) at c.Standing-by.ensures in
     rw (p.is_good_lem, p.is_furnace, p.in_range_lem)
     (stands
     ∙ ap (λ known. cond s.args.whole (standing_whole known (place_of s.args.l)) (standing known (place_of s.args.l)))

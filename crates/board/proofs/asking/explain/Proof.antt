@@ -8,44 +8,44 @@ use Rattle.board.proofs.Explaining.{nothing_shown, row_used, row_shown}
 use Rattle.board.proofs.asking.explain.Statement.{statement}
 use Rattle.board.proofs.asking.explain.Tie as tie
 
-abbrev told : tie.After-literal-count → tie.After-explain-numbers
+abbrev told : tie.After-literal_count → tie.After-explain_numbers-reason
 told c = c.before.before.before.before
 
 -- the numbers of the literal that was given
 abbrev reason : tie.Start → Reason
 reason s = explain_numbers s.args.table.now s.args.board s.args.furnace s.args.l
 
-numbers : (c : tie.After-explain-numbers) → c.explain-numbers.result ≡ reason c.before
-numbers c = rw (to_z-of_z c.before.ranges.l) at c.explain-numbers.ensures
+numbers : (c : tie.After-explain_numbers-reason) → c.explain_numbers-reason.result-1 ≡ reason c.before
+numbers c = rw (to_z-of_z c.before.ranges.l) at c.explain_numbers-reason.ensures
 
-outcome : (c : tie.After-explain-numbers) → (reason c.before).outcome ≡ c.explain-numbers.result.outcome
+outcome : (c : tie.After-explain_numbers-reason) → (reason c.before).outcome ≡ c.explain_numbers-reason.result-1.outcome
 outcome c = ap (λ (r : Reason). r.outcome) (sym (numbers c))
 
 -- the row is in the table
-inside : (c : tie.After-enum-told2) → let n = c.before.before in let row = n.explain-numbers.result.row in
+inside : (c : tie.In-Done) → let n = c.before.before in let row = n.explain_numbers-reason.result-1.row in
     (row < 2048) × (width * row + width ≤ length n.before.args.table.now)
 inside c =
     let n = c.before.before in
     let a = n.before.args in
-    let u = row_used a.table.now a.board a.furnace a.l (outcome n ∙ c.enum-told2.given.1) in
-    let row : n.explain-numbers.result.row ≡ (reason n.before).row = ap (λ (r : Reason). r.row) (numbers n) in
+    let u = row_used a.table.now a.board a.furnace a.l (outcome n ∙ c.enum_told-in-Done-1.given.1) in
+    let row : n.explain_numbers-reason.result-1.row ≡ (reason n.before).row = ap (λ (r : Reason). r.row) (numbers n) in
     (omega (arith, row, u.0, u.1), omega (arith, row, u.0, u.2))
 
-few : (c : tie.After-literal-count) → c.literal-count.result ≤ most_literals
-few c = let n = told c in omega (arith, c.literal-count.ensures, count_few n.before.args.table.now (width * n.explain-numbers.result.row))
+few : (c : tie.After-literal_count) → c.literal_count.result-1 ≤ most_literals
+few c = let n = told c in omega (arith, c.literal_count.ensures, count_few n.before.args.table.now (width * n.explain_numbers-reason.result-1.row))
 
-returns : tie.Need-returns
+returns : tie.Need-returns-in-Refused
 returns c =
     let n = c.before.before.before in
-    rw (nothing_shown _ _ _ _ (outcome n ∙ c.before.enum_told.given.1))
+    rw (nothing_shown _ _ _ _ (outcome n ∙ c.before.enum_told-1.given.1))
     (record { holds = refl; block = refl; offset = refl })
 
-returns_2 : tie.Need-returns-2
+returns_2 : tie.Need-returns-in-Done
 unfolding numbers_at
 returns_2 c =
     let t = c.before.before.before in
     let n = t.before.before in
-    rw (row_shown _ _ _ _ (outcome n ∙ t.enum-told2.given.1), ← numbers n, ← c.before.literal-count.ensures)
+    rw (row_shown _ _ _ _ (outcome n ∙ t.enum_told-in-Done-1.given.1), ← numbers n, ← c.before.literal_count.ensures)
     (record { holds = refl; block = refl; offset = refl })
 
 pub explain_spec : {M : Type 1} → statement M

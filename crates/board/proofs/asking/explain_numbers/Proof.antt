@@ -19,36 +19,36 @@ use Rattle.board.proofs.asking.explain_numbers.Statement.{statement}
 use Rattle.board.proofs.asking.explain_numbers.Tie as tie
 
 -- the literal has no rank, or is held
-abbrev unranked : tie.After-unexplained2 → tie.After-propagate
+abbrev unranked : tie.After-unexplained-then-rank-eq0 → tie.After-propagate
 unranked c = c.before.before.before.before
 
-abbrev held : tie.After-unexplained3 → tie.After-propagate
+abbrev held : tie.After-unexplained-then-rank → tie.After-propagate
 held c = c.before.before.before.before.before
 
 -- where the premises are chosen, where the tests have passed, and where the call began
-abbrev chosen : tie.After-propagate → tie.After-premises
+abbrev chosen : tie.After-propagate → tie.After-premises-held
 chosen c = c.before.before.before
 
-abbrev tested : tie.After-premises → tie.After-p
+abbrev tested : tie.After-premises-held → tie.In-At-2
 tested c = c.before.before.before.before.before.before.before
 
-abbrev start : tie.After-p → tie.Start
+abbrev start : tie.In-At-2 → tie.Start
 start c = c.before.before.before
 
 -- the place that the call looks at
-at : (c : tie.After-p) → let s = start c in
-    PlacedAt s.args.table.now s.args.t1 s.args.furnace s.args.l c.p.given.0.0
-at c = let s = start c in placed_at _ _ _ s.fits.l c.before.before.place-on.ensures c.p.given.1
+at : (c : tie.In-At-2) → let s = start c in
+    PlacedAt s.args.table.now s.args.t1 s.args.furnace s.args.l c.p-1.given.0.0
+at c = let s = start c in placed_at _ _ _ s.ranges.l.fits c.before.before.place_on.ensures c.p-1.given.1
 
-small : (c : tie.After-p) → 2 * (start c).args.t1.symbols < none
+small : (c : tie.In-At-2) → 2 * (start c).args.t1.symbols < none
 small c = omega (arith, (at c).well-formed.sound.symbols)
 
 -- the premises are the furnace's
-same : (c : tie.After-premises) → let s = start (tested c) in c.premises.result.now ≡ held_by s.args.t1 s.args.furnace
+same : (c : tie.After-premises-held) → let s = start (tested c) in c.premises-held.result.now ≡ held_by s.args.t1 s.args.furnace
 unfolding held_by
-same c = c.premises.ensures
+same c = c.premises-held.ensures
 
-long : (c : tie.After-premises) → 400 ≡ length c.premises.result.now
+long : (c : tie.After-premises-held) → 400 ≡ length c.premises-held.result.now
 long c =
     let s = start (tested c) in
     held_long s.args.t1 s.args.furnace 400 (at (tested c)).is_furnace (search rules) (search rules) (same c)
@@ -59,14 +59,14 @@ room c = ranks_room _ _ (at (tested (chosen c))).good
 
 front : (c : tie.After-propagate) → let s = start (tested (chosen c)) in
     RanksIn s.args.table.now s.args.t1 s.args.furnace
-    (c.propagate.new.1.1.1.0 ++ drop (2 * s.args.t1.symbols) (replicate 400 none))
+    (c.propagate.new.ranks ++ drop (2 * s.args.t1.symbols) (replicate 400 none))
 front c = let h = chosen c in ranks_back _ _ (at (tested h)).good _ (same h) c.propagate.ensures.0
 
 -- the literal's rank
 rank : (c : tie.After-propagate) → let w = tested (chosen c) in let s = start w in let b = s.args.t1 in
-    get_or (c.propagate.new.1.1.1.0 ++ drop (2 * b.symbols) (replicate 400 none)) w.p.given.0.0 0
-    ≡ rank_of (2 * b.symbols) (rows_on s.args.table.now b) (held_by b s.args.furnace) w.p.given.0.0
-rank c = let w = tested (chosen c) in rank_at _ _ _ (front c) w.p.given.0.0 (at w).low
+    get_or (c.propagate.new.ranks ++ drop (2 * b.symbols) (replicate 400 none)) w.p-1.given.0.0 0
+    ≡ rank_of (2 * b.symbols) (rows_on s.args.table.now b) (held_by b s.args.furnace) w.p-1.given.0.0
+rank c = let w = tested (chosen c) in rank_at _ _ _ (front c) w.p-1.given.0.0 (at w).low
 
 propagate_requires : tie.Need-propagate-requires
 propagate_requires c κs =
@@ -76,63 +76,63 @@ propagate_requires c κs =
     let part = ranks_long _ _ g in
     (rows_fit _ _ (replicate 400 none) (ranks_room _ _ g) g, (omega (arith, part, long h, g.sound.symbols), omega (arith, part, p.low)))
 
-returns : tie.Need-returns
+returns : tie.Need-returns-then-rank-eq0
 unfolding explain_numbers explain_faults
 returns c =
     let r = unranked c in
     let w = tested (chosen r) in
     let p = at w in
-    let hides = hidden _ _ _ (small w) w.p.given.0.0 p.low (inl (sym (rank r) ∙ c.before.if1.true)) in
-    rw (p.is_good_lem, p.is_furnace, p.in_range_lem, ← p.place, hides) c.unexplained2.ensures
+    let hides = hidden _ _ _ (small w) w.p-1.given.0.0 p.low (inl (sym (rank r) ∙ c.before.if-rank-eq0.true)) in
+    rw (p.is_good_lem, p.is_furnace, p.in_range_lem, ← p.place, hides) c.unexplained-then-rank-eq0.ensures
 
-returns_2 : tie.Need-returns-2
+returns_2 : tie.Need-returns-then-rank
 unfolding explain_numbers explain_faults
 returns_2 c =
     let r = held c in
     let w = tested (chosen r) in
     let p = at w in
-    let hides = hidden _ _ _ (small w) w.p.given.0.0 p.low (inr (sym (rank r) ∙ c.before.if2.true)) in
-    rw (p.is_good_lem, p.is_furnace, p.in_range_lem, ← p.place, hides) c.unexplained3.ensures
+    let hides = hidden _ _ _ (small w) w.p-1.given.0.0 p.low (inr (sym (rank r) ∙ c.before.if-rank.true)) in
+    rw (p.is_good_lem, p.is_furnace, p.in_range_lem, ← p.place, hides) c.unexplained-then-rank.ensures
 
-returns_3 : tie.Need-returns-3
+returns_3 : tie.Need-returns-in-Refused
 unfolding explain_numbers explain_faults
 returns_3 c =
     let w = c.before.before in
     let s = w.before.before.before in
     let own = drop 3 (explain_faults s.args.table.now s.args.t1 s.args.furnace s.args.l) in
-    rw (placed_refused _ _ _ s.ranges.l w.before.before.place-on.ensures w.why.given.1 own) c.unexplained.ensures
+    rw (placed_refused _ _ _ s.ranges.l w.before.before.place_on.ensures w.why-1.given.1 own) c.unexplained.ensures
 
 -- ---- where a rank from 1 on was found: the literal is derived and not held, so the call is done
 
-abbrev found : tie.Else2 → tie.After-propagate
+abbrev found : tie.Else-rank → tie.After-propagate
 found c = c.before.before.before.before
 
-shows : (c : tie.Else2) → let w = tested (chosen (found c)) in let s = start w in let b = s.args.t1 in let p = w.p.given.0.0 in
+shows : (c : tie.Else-rank) → let w = tested (chosen (found c)) in let s = start w in let b = s.args.t1 in let p = w.p-1.given.0.0 in
     (not (has (derived_on s.args.table.now b s.args.furnace) p) || has (held_by b s.args.furnace) p) ≡ false
 shows c =
     let r = found c in
     let w = tested (chosen r) in
     let s = start w in
     shown (2 * s.args.t1.symbols) (rows_on s.args.table.now s.args.t1) (held_by s.args.t1 s.args.furnace) (small w)
-    w.p.given.0.0 (at w).low (λ e. c.before.if1.false (rank r ∙ e)) (λ e. c.if2.false (rank r ∙ e))
+    w.p-1.given.0.0 (at w).low (λ e. c.before.if-rank-eq0.false (rank r ∙ e)) (λ e. c.if-rank.false (rank r ∙ e))
 
-done : (c : tie.Else2) → let s = start (tested (chosen (found c))) in
+done : (c : tie.Else-rank) → let s = start (tested (chosen (found c))) in
     (explain_numbers s.args.table.now s.args.t1 s.args.furnace s.args.l).outcome ≡ Done
 unfolding explain_numbers explain_faults
 done c = let p = at (tested (chosen (found c))) in rw (p.is_good_lem, p.is_furnace, p.in_range_lem, ← p.place, shows c)
 
 -- its supporting row is in use, and that row's rule is one of those counted
 support : (r : tie.After-propagate) → let w = tested (chosen r) in let s = start w in
-    get_or r.propagate.new.1.1.1.1.1.0 0 0 ≡ support_on s.args.table.now s.args.t1 s.args.furnace w.p.given.0.0
+    get_or r.propagate.new.supports 0 0 ≡ support_on s.args.table.now s.args.t1 s.args.furnace w.p-1.given.0.0
 support r =
     let w = tested (chosen r) in
     let s = start w in
     let b = s.args.t1 in
     let table = s.args.table.now in
-    one_support (2 * b.symbols) (rows_on table b) (held_by b s.args.furnace) w.p.given.0.0
-    (supports_are table b (replicate 400 none) (room r) s.args.furnace (same (chosen r)) 1 w.p.given.0.0 r.propagate.ensures.1)
+    one_support (2 * b.symbols) (rows_on table b) (held_by b s.args.furnace) w.p-1.given.0.0
+    (supports_are table b (replicate 400 none) (room r) s.args.furnace (same (chosen r)) 1 w.p-1.given.0.0 r.propagate.ensures.1)
 
-used : (c : tie.Else2) → let r = found c in
+used : (c : tie.Else-rank) → let r = found c in
     get_or r.propagate.last.1.1.1.1.1.0 0 0 < (start (tested (chosen r))).args.t1.rows
 used c =
     let r = found c in
@@ -141,28 +141,28 @@ used c =
     let is = support r ∙ ap (support_on s.args.table.now s.args.t1 s.args.furnace) (at w).place in
     omega (arith, is, support_used s.args.table.now s.args.t1 s.args.furnace s.args.l (done c))
 
-cast_t39 : tie.Need-overflow-cast-t39
+cast_t39 : tie.Need-overflow_cast-result
 cast_t39 c =
     let e = c.before in
     let s = start (tested (chosen (found e))) in
     let g = (at (tested (chosen (found e)))).good in
-    let row = get_or (found e).propagate.new.1.1.1.1.1.0 0 0 in
-    omega (arith, c.rule-at.ensures, (rule_facts s.args.t1.rules s.args.table.now row (g.numbers row (used e))).1, g.few)
+    let row = get_or (found e).propagate.new.supports 0 0 in
+    omega (arith, c.rule_at.ensures, (rule_facts s.args.t1.rules s.args.table.now row (g.numbers row (used e))).1, g.few)
 
-returns_4 : tie.Need-returns-4
+returns_4 : tie.Need-returns-else-rank
 unfolding explain_numbers explain_faults
 returns_4 c =
     let r = found c.before in
     let w = tested (chosen r) in
     let p = at w in
     let table = (start w).args.table.now in
-    rw (p.is_good_lem, p.is_furnace, p.in_range_lem, ← p.place, shows c.before, c.rule-at.ensures)
+    rw (p.is_good_lem, p.is_furnace, p.in_range_lem, ← p.place, shows c.before, c.rule_at.ensures)
     (ap₂ (λ (rank row : ℕ). record { outcome = Done; rank = rank; row = row; rule = rule_at table row }) (rank r) (support r))
 
-mul_rank : tie.Need-overflow-mul-rank
+mul_rank : tie.Need-offset_bounds-ranks-p
 mul_rank c = let p = at (tested (chosen c.before.before)) in omega (arith, p.low, p.good.sound.symbols)
 
-array_read_rank : tie.Need-array-read-rank
+array_read_rank : tie.Need-bounds-ranks-p
 array_read_rank c = let p = at (tested (chosen c.before.before)) in omega (arith, p.low, p.good.sound.symbols)
 
 pub explain_numbers_spec : {M : Type 1} → statement M

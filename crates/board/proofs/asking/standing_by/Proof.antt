@@ -13,7 +13,7 @@ use Rattle.board.specs.Asking.{standing_if}
 use Rattle.board.proofs.asking.standing_by.Statement.{statement}
 use Rattle.board.proofs.asking.standing_by.Tie as tie
 
-abbrev start : tie.After-is-ranked → tie.Start
+abbrev start : tie.After-is_ranked-derived → tie.Start
 start d = d.before.before
 
 abbrev known : tie.Start → List Bool
@@ -23,13 +23,13 @@ small : (s : tie.Start) → nat_abs s.args.l < 32768
 small s = omega arith
 
 -- the literal is derived, and its opposite is
-derived : (d : tie.After-is-ranked) → let s = start d in d.is-ranked.result ≡ has (known s) (place_of s.args.l)
-derived d = rw (to_z-of_z (start d).ranges.l) at d.is-ranked.ensures
+derived : (d : tie.After-is_ranked-derived) → let s = start d in d.is_ranked-derived.result ≡ has (known s) (place_of s.args.l)
+derived d = rw (to_z-of_z (start d).ranges.l) at d.is_ranked-derived.ensures
 
-opposed : (o : tie.After-is-ranked2) → let s = start o.before.before in o.is-ranked2.result ≡ has (known s) (opp (place_of s.args.l))
+opposed : (o : tie.After-is_ranked-opposed) → let s = start o.before.before in o.is_ranked-opposed.result ≡ has (known s) (opp (place_of s.args.l))
 opposed o =
     let s = start o.before.before in
-    o.is-ranked2.ensures ∙ ap (has (known s)) (opposite_at s.fits.l (small s) o.before.opposite.ensures s.requires.0 refl)
+    o.is_ranked-opposed.ensures ∙ ap (has (known s)) (opposite_at s.ranges.l.fits (small s) o.before.opposite.ensures s.requires.0 refl)
 
 -- there is a symbol whose two literals are derived exactly if there is a conflict
 any : (ranks : List ℕ) (n : ℕ) → length ranks < none → n ≡ first (clash_in ranks) (length ranks / 2) → not (eqb n none) ≡ conflict (below none ranks)
@@ -42,10 +42,10 @@ any ranks n few e =
 same : {a b c x y z : Bool} → a ≡ x → b ≡ y → c ≡ z → standing_if a b c ≡ standing_if x y z
 same e f g = rw (e, f, g)
 
-is_ranked_requires_2 : tie.Need-is-ranked-requires-2
+is_ranked_requires_2 : tie.Need-is_ranked-opposed-requires
 is_ranked_requires_2 c κs =
     let s = start c.before in
-    let same = opposite_abs s.fits.l (small s) c.opposite.ensures in
+    let same = opposite_abs s.ranges.l.fits (small s) c.opposite.ensures in
     (omega (arith, same), omega (arith, same), omega arith)
 
 returns : tie.Need-returns
@@ -54,13 +54,13 @@ returns c =
     let o = j.before in
     let d = o.before.before in
     let s = start d in
-    c.standing-if.ensures
+    c.standing_if.ensures
     ∙ ⊎_elim
     (λ t. rw t.0.true (same (t.2 ∙ any s.args.ranks.now _ (omega arith) t.1.ensures) (derived d) (opposed o)))
     (λ e. rw e.0.false (same (e.1 ∙ ap₂ ◌&&◌ (derived d) (opposed o)) (derived d) (opposed o)))
-    j.if1.branch
+    j.if-whole.branch
 
 pub standing_by_spec : {M : Type 1} → statement M
 standing_by_spec = tie.close (tie.spec
-    (λ c κs. search rules) (λ c κs. let s = start c in omega (arith, small s, back_abs s.fits.l)) is_ranked_requires_2 (λ c κs. search rules)
+    (λ c κs. search rules) (λ c κs. let s = start c in omega (arith, small s, back_abs s.ranges.l.fits)) is_ranked_requires_2 (λ c κs. search rules)
     (λ c. search rules) (λ c κs. search rules) returns)

@@ -8,53 +8,53 @@ use Rattle.board.proofs.changes.change_flag.Statement.{statement}
 use Rattle.board.proofs.changes.change_flag.Tie as tie
 
 -- where the tests have passed, and where the call began
-abbrev tested : tie.After-premises → tie.After-p
+abbrev tested : tie.After-premises-held → tie.In-At-2
 tested c = c.before.before.before.before.before.before.before
 
-abbrev start : tie.After-p → tie.Start
+abbrev start : tie.In-At-2 → tie.Start
 start c = c.before.before.before
 
 -- the place that the call looks at
-at : (c : tie.After-p) → let s = start c in
-    PlacedAt s.args.table.now s.args.t1 s.args.furnace s.args.l c.p.given.0.0
-at c = let s = start c in placed_at _ _ _ s.fits.l c.before.before.place-on.ensures c.p.given.1
+at : (c : tie.In-At-2) → let s = start c in
+    PlacedAt s.args.table.now s.args.t1 s.args.furnace s.args.l c.p-1.given.0.0
+at c = let s = start c in placed_at _ _ _ s.ranges.l.fits c.before.before.place_on.ensures c.p-1.given.1
 
-low : (c : tie.After-p) → c.p.given.0.0 < 400
+low : (c : tie.In-At-2) → c.p-1.given.0.0 < 400
 low c = let p = at c in omega (arith, p.low, p.good.sound.symbols)
 
 -- the premises are the furnace's
-same : (c : tie.After-premises) → let s = start (tested c) in c.premises.result.now ≡ held_by s.args.t1 s.args.furnace
+same : (c : tie.After-premises-held) → let s = start (tested c) in c.premises-held.result.now ≡ held_by s.args.t1 s.args.furnace
 unfolding held_by
-same c = c.premises.ensures
+same c = c.premises-held.ensures
 
-long : (c : tie.After-premises) → 400 ≡ length c.premises.result.now
+long : (c : tie.After-premises-held) → 400 ≡ length c.premises-held.result.now
 long c =
     let s = start (tested c) in
     held_long s.args.t1 s.args.furnace 400 (at (tested c)).is_furnace (search rules) (search rules) (same c)
 
-returns : tie.Need-returns
+returns : tie.Need-returns-then-held-p
 unfolding flag_changed flag_faults
 returns c =
     let t = c.before in
     let h = t.before.before in
     let p = at (tested h) in
-    rw (p.is_good_lem, p.is_furnace, p.in_range_lem, ← p.place, ← same h, t.if1.true) c.refused2.ensures
+    rw (p.is_good_lem, p.is_furnace, p.in_range_lem, ← p.place, ← same h, t.if-held-p.true) c.refused-then-held-p.ensures
 
-returns_2 : tie.Need-returns-2
+returns_2 : tie.Need-returns-in-Refused
 unfolding flag_changed flag_faults
 returns_2 c =
     let w = c.before.before in
     let s = w.before.before.before in
     let own = drop 3 (flag_faults s.args.table.now s.args.t1 s.args.furnace s.args.l s.args.flag s.args.already) in
-    rw (placed_refused _ _ _ s.ranges.l w.before.before.place-on.ensures w.why.given.1 own) c.refused.ensures
+    rw (placed_refused _ _ _ s.ranges.l w.before.before.place_on.ensures w.why-1.given.1 own) c.refused.ensures
 
-returns_3 : tie.Need-returns-3
+returns_3 : tie.Need-returns-else-held-p
 unfolding flag_changed flag_faults
 returns_3 c =
     let e = c.before in
     let h = e.before.before in
     let p = at (tested h) in
-    rw (p.is_good_lem, p.is_furnace, p.in_range_lem, ← p.place, c.with-flag.ensures, ← same h, e.if1.false)
+    rw (p.is_good_lem, p.is_furnace, p.in_range_lem, ← p.place, c.with_flag.ensures, ← same h, e.if-held-p.false)
 
 pub change_flag_spec : {M : Type 1} → statement M
 change_flag_spec = tie.close (tie.spec

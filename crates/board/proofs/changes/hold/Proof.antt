@@ -4,4 +4,4 @@ use Rattle.board.proofs.changes.hold.Statement.{statement}
 use Rattle.board.proofs.changes.hold.Tie as tie
 
 pub hold_spec : {M : Type 1} → statement M
-hold_spec = tie.close (tie.spec (λ c κs. search rules) (λ c. rw (to_z-of_z c.before.ranges.l) at c.change-flag.ensures))
+hold_spec = tie.close (tie.spec (λ c κs. search rules) (λ c. rw (to_z-of_z c.before.ranges.l) at c.change_flag.ensures))

@@ -4,25 +4,25 @@ use Rattle.board.specs.Changes.{open_faults, opened}
 use Rattle.board.proofs.changes.open.Statement.{statement}
 use Rattle.board.proofs.changes.open.Tie as tie
 
-returns : tie.Need-returns
+returns : tie.Need-returns-then-symbols-lt1
 unfolding opened open_faults
 returns c =
     let t = c.before.before in
-    rw (lt-leb 1 t.before.args.symbols t.if1.true) (rw c.before.empty.ensures at c.refused.ensures)
+    rw (lt-leb 1 t.before.args.symbols t.if-symbols-lt1.true) (rw c.before.empty.ensures at c.refused.ensures)
 
-returns_2 : tie.Need-returns-2
+returns_2 : tie.Need-returns-then-symbols-gt200
 unfolding opened open_faults
 returns_2 c =
     let t = c.before.before in
     let S = t.before.before.args.symbols in
-    rw (le-leb 1 S t.before.if1.false, lt-leb S 200 t.if2.true) (rw c.before.empty2.ensures at c.refused2.ensures)
+    rw (le-leb 1 S t.before.if-symbols-lt1.false, lt-leb S 200 t.if-symbols-gt200.true) (rw c.before.empty-then-symbols-gt200.ensures at c.refused-then-symbols-gt200.ensures)
 
-returns_3 : tie.Need-returns-3
+returns_3 : tie.Need-returns
 unfolding opened open_faults
 returns_3 c =
     let t = c.before in
     let S = t.before.before.args.symbols in
-    rw (le-leb 1 S t.before.if1.false, le-leb S 200 t.if2.false, c.empty3.ensures)
+    rw (le-leb 1 S t.before.if-symbols-lt1.false, le-leb S 200 t.if-symbols-gt200.false, c.empty-2.ensures)
 
 pub open_spec : {M : Type 1} → statement M
 open_spec = tie.close (tie.spec

@@ -16,96 +16,96 @@ use Rattle.board.proofs.grounds.ground.Statement.{statement}
 use Rattle.board.proofs.grounds.ground.Tie as tie
 
 -- the marks come back; the call began
-abbrev reached : tie.After-reached3 → tie.After-trace
+abbrev reached : tie.After-reached-in-At-2-1 → tie.After-trace
 reached c = c.before.before.before.before
 
-abbrev entry : tie.After-why → tie.Start
+abbrev entry : tie.In-Refused-2 → tie.Start
 entry c = c.before.before.before.before
 
 -- where the premises are chosen, where the tests of the literal have passed, and where the call began
-abbrev chosen : tie.After-trace → tie.After-premises
+abbrev chosen : tie.After-trace → tie.After-premises-held
 chosen c = c.before.before.before
 
-abbrev enough_lent : tie.After-premises → tie.Else1
+abbrev enough_lent : tie.After-premises-held → tie.Else-marks-places
 enough_lent c = c.before.before.before.before.before.before
 
-abbrev placed : tie.After-premises → tie.After-p
+abbrev placed : tie.After-premises-held → tie.In-At-2
 placed c = (enough_lent c).before.before
 
-abbrev tested : tie.After-trace → tie.After-p
+abbrev tested : tie.After-trace → tie.In-At-2
 tested c = placed (chosen c)
 
-abbrev start : tie.After-p → tie.Start
+abbrev start : tie.In-At-2 → tie.Start
 start c = c.before.before.before.before
 
 -- the place that the call looks at
-at : (c : tie.After-p) → let s = start c in PlacedAt s.args.table.now s.args.t1 s.args.furnace s.args.l c.p.given.0.0
-at c = let s = start c in placed_at _ _ _ s.fits.l c.before.before.place-on.ensures c.p.given.1
+at : (c : tie.In-At-2) → let s = start c in PlacedAt s.args.table.now s.args.t1 s.args.furnace s.args.l c.p-1.given.0.0
+at c = let s = start c in placed_at _ _ _ s.ranges.l.fits c.before.before.place_on.ensures c.p-1.given.1
 
-small : (c : tie.After-p) → 2 * (start c).args.t1.symbols < none
+small : (c : tie.In-At-2) → 2 * (start c).args.t1.symbols < none
 small c = omega (arith, (at c).well-formed.sound.symbols)
 
 -- as many bytes are lent as there are places
-enough : (c : tie.After-trace) → let s = start (tested c) in 2 * s.args.t1.symbols ≤ length s.args.marks.now
-enough c = (enough_lent (chosen c)).if1.false
+enough : (c : tie.After-trace) → let s = start (tested c) in 2 * s.args.t1.symbols ≤ length s.args.marks-1.now
+enough c = (enough_lent (chosen c)).if-marks-places.false
 
 -- the premises are the furnace's
-same : (c : tie.After-premises) → let s = start (placed c) in c.premises.result.now ≡ held_by s.args.t1 s.args.furnace
+same : (c : tie.After-premises-held) → let s = start (placed c) in c.premises-held.result.now ≡ held_by s.args.t1 s.args.furnace
 unfolding held_by
-same c = c.premises.ensures
+same c = c.premises-held.ensures
 
-long : (c : tie.After-premises) → 400 ≡ length c.premises.result.now
+long : (c : tie.After-premises-held) → 400 ≡ length c.premises-held.result.now
 long c =
     let s = start (placed c) in
     held_long s.args.t1 s.args.furnace 400 (at (placed c)).is_furnace (search rules) (search rules) (same c)
 
 -- the ranks and the marks as they come back
 back : (c : tie.After-trace) → let w = tested c in let s = start w in let n = 2 * s.args.t1.symbols in
-    Traced s.args.table.now s.args.t1 s.args.furnace w.p.given.0.0
-    (c.trace.new.1.1.1.0 ++ drop n (replicate 400 none))
-    (c.trace.new.1.1.1.1.1.0 ++ drop n (replicate 400 false))
+    Traced s.args.table.now s.args.t1 s.args.furnace w.p-1.given.0.0
+    (c.trace.new.ranks ++ drop n (replicate 400 none))
+    (c.trace.new.marks ++ drop n (replicate 400 false))
 back c =
     let w = tested c in
     let s = start w in
     let told = c.trace.ensures in
-    come_back s.args.table.now s.args.t1 (at w).good s.args.furnace w.p.given.0.0
+    come_back s.args.table.now s.args.t1 (at w).good s.args.furnace w.p-1.given.0.0
     (same (chosen c)) told.0 told.1
-    c.trace.auto.1.1.1.1.1.0
+    c.trace.auto.marks
 
 -- the literal's rank
 rank : (c : tie.After-trace) → let w = tested c in let s = start w in let b = s.args.t1 in
-    get_or (c.trace.new.1.1.1.0 ++ drop (2 * b.symbols) (replicate 400 none)) w.p.given.0.0 0
-    ≡ rank_of (2 * b.symbols) (rows_on s.args.table.now b) (held_by b s.args.furnace) w.p.given.0.0
-rank c = let w = tested c in rank_at _ _ _ (back c).ranks w.p.given.0.0 (at w).low
+    get_or (c.trace.new.ranks ++ drop (2 * b.symbols) (replicate 400 none)) w.p-1.given.0.0 0
+    ≡ rank_of (2 * b.symbols) (rows_on s.args.table.now b) (held_by b s.args.furnace) w.p-1.given.0.0
+rank c = let w = tested c in rank_at _ _ _ (back c).ranks-1 w.p-1.given.0.0 (at w).low
 
-returns : tie.Need-returns
+returns : tie.Need-returns-then-marks-places
 unfolding ground_outcome ground_faults
 returns c =
     let p = at c.before.before in
-    ground_refused _ _ _ _ _ TableTooShort (rw (p.is_good_lem, p.is_furnace, p.in_range_lem, lt-leb _ _ c.if1.true))
+    ground_refused _ _ _ _ _ TableTooShort (rw (p.is_good_lem, p.is_furnace, p.in_range_lem, lt-leb _ _ c.if-marks-places.true))
 
 trace_requires : tie.Need-trace-requires
-trace_requires c κs = let h = c.before.before in can_trace _ _ (at (placed h)).good h.premises.result.now (long h)
+trace_requires c κs = let h = c.before.before in can_trace _ _ (at (placed h)).good h.premises-held.result.now (long h)
 
-returns_2 : tie.Need-returns-2
+returns_2 : tie.Need-returns-then-ranks-p
 unfolding ground_outcome ground_faults
 returns_2 c =
     let r = c.before.before.before in
     let w = tested r in
     let p = at w in
-    let hides = not_derived _ _ _ (small w) w.p.given.0.0 (sym (rank r) ∙ c.if2.true) in
+    let hides = not_derived _ _ _ (small w) w.p-1.given.0.0 (sym (rank r) ∙ c.if-ranks-p.true) in
     ground_refused _ _ _ _ _ NothingToShow
     (rw (p.is_good_lem, p.is_furnace, p.in_range_lem, le-leb _ _ (enough r), ← p.place, hides))
 
-returns_3 : tie.Need-returns-3
+returns_3 : tie.Need-returns-in-Refused
 unfolding ground_outcome ground_faults
 returns_3 c =
     let w = c.before in
     let s = entry w in
     let own = drop 3 (ground_faults s.args.table.now s.args.t1 s.args.furnace s.args.l _) in
-    ground_refused _ _ _ _ _ _ (placed_refused _ _ _ s.fits.l w.before.before.place-on.ensures w.why.given.1 own)
+    ground_refused _ _ _ _ _ _ (placed_refused _ _ _ s.ranges.l.fits w.before.before.place_on.ensures w.why-1.given.1 own)
 
-returns_4 : tie.Need-returns-4
+returns_4 : tie.Need-returns-else-ranks-p
 unfolding ground_outcome ground_faults
 returns_4 c =
     let m = c.before.before in
@@ -114,16 +114,16 @@ returns_4 c =
     let w = tested r in
     let p = at w in
     let s = start w in
-    let shows = is_derived _ _ _ (small w) w.p.given.0.0 (λ e. z.if2.false (rank r ∙ e)) in
-    ground_done s.args.table.now s.args.t1 s.args.furnace s.args.marks.now s.args.l w.p.given.0.0 p.place p.low
+    let shows = is_derived _ _ _ (small w) w.p-1.given.0.0 (λ e. z.if-ranks-p.false (rank r ∙ e)) in
+    ground_done s.args.table.now s.args.t1 s.args.furnace s.args.marks-1.now s.args.l w.p-1.given.0.0 p.place p.low
     (rw (p.is_good_lem, p.is_furnace, p.in_range_lem, le-leb _ _ (enough r), ← p.place, shows))
-    (back r).marks.is
-    m.write-marks.ensures
+    (back r).marks-1.is
+    m.write_marks.ensures
 
-mul_if2 : tie.Need-overflow-mul-if2
+mul_if2 : tie.Need-offset_bounds-ranks-p
 mul_if2 c = let p = at (tested c.before.before) in omega (arith, p.low, p.good.sound.symbols)
 
-array_read_if2 : tie.Need-array-read-if2
+array_read_if2 : tie.Need-bounds-ranks-p
 array_read_if2 c = let p = at (tested c.before.before) in omega (arith, p.low, p.good.sound.symbols)
 
 pub ground_spec : {M : Type 1} → statement M
@@ -131,5 +131,5 @@ ground_spec = tie.close (tie.spec
     (λ c κs. search rules) (λ c. search rules) (λ c. search rules) (λ c. omega (arith, (at c.before).well-formed.sound.symbols)) returns
     (λ c κs. search rules) (λ c. ranks_room _ _ (at (placed c)).good) (λ c. sym (ranks_long _ _ (at (placed c.before)).good))
     (λ c. marks_room _ _ (at (placed c.before)).good) (λ c. sym (marks_long _ _ (at (placed c.before.before)).good)) trace_requires mul_if2
-    array_read_if2 returns_2 (λ c. (back c.before.before.before).marks.room) (λ c. sym (back (reached c)).marks.long)
-    (λ c κs. let r = reached c.before in omega (arith, (back r).marks.long, enough r)) returns_3 (λ c. search rules) returns_4)
+    array_read_if2 returns_2 (λ c. (back c.before.before.before).marks-1.room) (λ c. sym (back (reached c)).marks-1.long)
+    (λ c κs. let r = reached c.before in omega (arith, (back r).marks-1.long, enough r)) returns_3 (λ c. search rules) returns_4)

@@ -5,10 +5,10 @@ use Rattle.literals.proofs.Copying.{Copied, copied_more, copied_all}
 use Rattle.board.proofs.grounds.write_marks.Statement.{statement}
 use Rattle.board.proofs.grounds.write_marks.Tie as tie
 
-abbrev invariant_loop : tie.invariant-loop
+abbrev invariant_loop : tie.invariant-loop-k
 invariant_loop reached marks₀ k₀ marks k = Copied (map byte_of reached) marks₀ marks k
 
-abbrev decreases_loop : tie.decreases-loop
+abbrev decreases_loop : tie.decreases-loop-k
 decreases_loop reached marks₀ k₀ marks k = length reached - k
 
 -- the bytes fit
@@ -16,29 +16,29 @@ fits : (s : tie.Start invariant_loop decreases_loop) → length (map byte_of s.a
 fits s = rw length-map s.requires
 
 -- the byte that a turn writes
-byte : (c : tie.Joined1 invariant_loop decreases_loop) → let l = c.before.before.before in
-    c.if1.byte ≡ get_or (map byte_of l.before.args.reached.now) l.loop.k 0
+byte : (c : tie.Joined-reached-k invariant_loop decreases_loop) → let l = c.before.before.before in
+    c.if-reached-k.byte ≡ get_or (map byte_of l.before.args.reached.now) l.loop-k.k 0
 byte c =
     let l = c.before.before.before in
-    ⊎_elim (λ w. w.1 ∙ ap byte_of (sym w.0.true)) (λ w. w.1 ∙ ap byte_of (sym w.0.false)) c.if1.branch
-    ∙ sym (list_get_or_map byte_of l.before.args.reached.now l.loop.k false)
+    ⊎_elim (λ w. w.1 ∙ ap byte_of (sym w.0.true)) (λ w. w.1 ∙ ap byte_of (sym w.0.false)) c.if-reached-k.branch
+    ∙ sym (list_get_or_map byte_of l.before.args.reached.now l.loop-k.k false)
 
-loop_again : tie.Need-loop-preserved invariant_loop decreases_loop
+loop_again : tie.Need-loop-k-preserved invariant_loop decreases_loop
 loop_again c =
     let t = c.before.before in
     let l = t.before in
     let s = l.before in
     let new = map byte_of s.args.reached.now in
-    rw (byte c) (copied_more new s.args.marks.now (fits s) 0 l.loop.marks l.loop.k l.loop.invariant (rw length-map t.loop-test.true))
+    rw (byte c) (copied_more new s.args.marks.now (fits s) 0 l.loop-k.marks l.loop-k.k l.loop-k.invariant (rw length-map t.loop-k-test.true))
 
 returns : tie.Need-returns invariant_loop decreases_loop
 returns c =
     let l = c.before in
     let s = l.before in
     let new = map byte_of s.args.reached.now in
-    rw length-map at (copied_all new s.args.marks.now (fits s) l.loop.marks l.loop.k l.loop.invariant (rw length-map c.loop-test.false))
+    rw length-map at (copied_all new s.args.marks.now (fits s) l.loop-k.marks l.loop-k.k l.loop-k.invariant (rw length-map c.loop-k-test.false))
 
 pub write_marks_spec : {M : Type 1} → statement M
 write_marks_spec = tie.close (tie.spec
     invariant_loop decreases_loop (λ c. record { within = omega arith; same = refl; is = refl }) (λ c. omega arith) (λ c. omega arith) (λ c. omega arith)
-    (λ c. omega arith) loop_again (λ c. c.before.loop.invariant.same) returns)
+    (λ c. omega arith) loop_again (λ c. c.before.loop-k.invariant.same) returns)

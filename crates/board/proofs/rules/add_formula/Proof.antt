@@ -16,19 +16,19 @@ use Rattle.board.proofs.rules.add_formula.Statement.{statement}
 use Rattle.board.proofs.rules.add_formula.Tie as tie
 
 -- the call began; the symbols are few; the rule was appended
-abbrev start : tie.Else1 → tie.Start
+abbrev start : tie.Else-not-names → tie.Start
 start c = c.before.before.before.before
 
-abbrev written : tie.After-struct-known2 → tie.After-append
+abbrev written : tie.After-struct_known-in-Rows-1 → tie.After-append
 written c = c.before.before.before.before.before
 
-abbrev counted_few : tie.After-append → tie.Else1
+abbrev counted_few : tie.After-append → tie.Else-not-names
 counted_few c = c.before.before.before.before
 
 abbrev entry : tie.After-append → tie.Start
 entry c = start (counted_few c)
 
-good : (s : tie.Start) → Good s.args.table.now s.args.board
+good : (s : tie.Start) → Good s.args.table-1.now s.args.board
 good s = good_is _ _ s.requires.0
 
 -- what the bytes say, and its rule
@@ -39,48 +39,48 @@ rule : tie.Start → Rule
 rule s = rule_of s.args.board.symbols (formula_of (read s))
 
 -- the names are those of the whole bytes
-names : (c : tie.After-symbols-of) → c.symbols-of.result ≡ names_of c.before.before.args.board.symbols (read c.before.before)
+names : (c : tie.After-symbols_of-names) → c.symbols_of-names.result ≡ names_of c.before.before.args.board.symbols (read c.before.before)
 unfolding read
 names c =
     let s = c.before.before in
-    c.symbols-of.ensures ∙ ap (names_of s.args.board.symbols) (sym (whole_is s.args.board.symbols s.args.bytes.now s.requires.1))
+    c.symbols_of-names.ensures ∙ ap (names_of s.args.board.symbols) (sym (whole_is s.args.board.symbols s.args.bytes.now s.requires.1))
 
-list : (c : tie.Else1) → let s = start c in Listed s.args.board.symbols (read s) c.before.before.symbols-of.result
+list : (c : tie.Else-not-names) → let s = start c in Listed s.args.board.symbols (read s) c.before.before.symbols_of-names.result
 unfolding read
-list c = let n = c.before.before in listed _ (read n.before.before) n.before.before.requires.1 (names n) (not-false _ c.if1.false)
+list c = let n = c.before.before in listed _ (read n.before.before) n.before.before.requires.1 (names n) (not-false _ c.if-not-names.false)
 
 -- the first three faults are not given, and the answer tells of the last two
-few : (c : tie.Else1) → leb (length (rule (start c)).symbols) 8 ≡ true
+few : (c : tie.Else-not-names) → leb (length (rule (start c)).symbols) 8 ≡ true
 unfolding rule
 few c = (list c).few
 
 told : (c : tie.After-append) → let s = entry c in
-    answer_of (rule s) s.args.board.rows s.args.board.rules (rows_lent s.args.table.now) ≡ c.append.result
+    answer_of (rule s) s.args.board.rows s.args.board.rules (rows_lent s.args.table-1.now) ≡ c.append.result
 unfolding rule read
 told c = sym c.append.ensures.0
 
 -- so it is known why
 why : (c : tie.After-append) {answer : Appended} → c.append.result ≡ answer → let s = entry c in
-    Because (rule s) s.args.board.rows s.args.board.rules (rows_lent s.args.table.now) answer
+    Because (rule s) s.args.board.rows s.args.board.rules (rows_lent s.args.table-1.now) answer
 why c e = because _ _ _ _ (told c ∙ e)
 
 after : (c : tie.After-append) → let s = entry c in
-    c.append.new.0 ≡ table_of (rule s) s.args.board.rows s.args.board.rules (rows_lent s.args.table.now) s.args.table.now
+    c.append.new.table ≡ table_of (rule s) s.args.board.rows s.args.board.rules (rows_lent s.args.table-1.now) s.args.table-1.now
 unfolding rule read
 after c = c.append.ensures.1
 
-symbols_of_requires : tie.Need-symbols-of-requires
+symbols_of_requires : tie.Need-symbols_of-names-requires
 symbols_of_requires c κs =
     let s = c.before in
     ((good s).sound.symbols, ap is_good (sym (whole_is s.args.board.symbols s.args.bytes.now s.requires.1)) ∙ s.requires.1)
 
-returns : tie.Need-returns
+returns : tie.Need-returns-then-not-names
 unfolding rule_faults read
 returns c =
     let n = c.before.before.before in
     let s = n.before.before in
-    let many = too_many_lem s.args.board.symbols (read s) s.requires.1 (names n) (not-true _ c.before.if1.true) in
-    let all = rule_refused s.args.table.now s.args.board s.args.bytes.now TooManySymbols (rw (s.requires.0, s.requires.1, many)) refl in
+    let many = too_many_lem s.args.board.symbols (read s) s.requires.1 (names n) (not-true _ c.before.if-not-names.true) in
+    let all = rule_refused s.args.table-1.now s.args.board s.args.bytes.now TooManySymbols (rw (s.requires.0, s.requires.1, many)) refl in
     (c.refused.ensures ∙ all.0, all.1)
 
 append_requires : tie.Need-append-requires
@@ -91,14 +91,14 @@ append_requires c κs =
     let l = list e in
     (((good s).sound.symbols, (good s).few, (good s).lent, s.requires.1), (omega (arith, l.long, l.most), l.is))
 
-add_next : tie.Need-overflow-add-next
+add_next : tie.Need-overflow_add-next
 add_next c =
     let a = written c in
     let s = entry a in
-    let r = why a c.before.before.added.given.1 in
-    omega (arith, r.2, (fits_facts s.args.board.rows s.args.board.rules (rows_lent s.args.table.now) (rows_of (rule s)) r.1).0)
+    let r = why a c.before.before.added-1.given.1 in
+    omega (arith, r.2, (fits_facts s.args.board.rows s.args.board.rules (rows_lent s.args.table-1.now) (rows_of (rule s)) r.1).0)
 
-returns_2 : tie.Need-returns-2
+returns_2 : tie.Need-returns-in-Unsatisfiable
 unfolding rule_faults read rule
 returns_2 c =
     let t = c.before in
@@ -106,12 +106,12 @@ returns_2 c =
     let e = counted_few a in
     let s = start e in
     let b = s.args.board in
-    let table = s.args.table.now in
-    let r = why a t.enum_told.given.1 in
+    let table = s.args.table-1.now in
+    let r = why a t.enum_told-1.given.1 in
     let all = rule_refused table b s.args.bytes.now NoAssignment (rw (s.requires.0, s.requires.1, few e, r)) refl in
-    (c.refused2.ensures ∙ all.0, after a ∙ sym (told_unsatisfiable (rule s) b.rows b.rules (rows_lent table) table r).1 ∙ all.1)
+    (c.refused-in-Unsatisfiable.ensures ∙ all.0, after a ∙ sym (told_unsatisfiable (rule s) b.rows b.rules (rows_lent table) table r).1 ∙ all.1)
 
-returns_3 : tie.Need-returns-3
+returns_3 : tie.Need-returns-in-Full
 unfolding rule_faults read rule
 returns_3 c =
     let t = c.before in
@@ -119,12 +119,12 @@ returns_3 c =
     let e = counted_few a in
     let s = start e in
     let b = s.args.board in
-    let table = s.args.table.now in
-    let r = why a t.enum-told2.given.1 in
+    let table = s.args.table-1.now in
+    let r = why a t.enum_told-in-Full-1.given.1 in
     let all = rule_refused table b s.args.bytes.now TableFull (rw (s.requires.0, s.requires.1, few e, r.0, r.1)) refl in
-    (c.refused3.ensures ∙ all.0, after a ∙ sym (told_full (rule s) b.rows b.rules (rows_lent table) table r.0 r.1).1 ∙ all.1)
+    (c.refused-in-Full.ensures ∙ all.0, after a ∙ sym (told_full (rule s) b.rows b.rules (rows_lent table) table r.0 r.1).1 ∙ all.1)
 
-returns_4 : tie.Need-returns-4
+returns_4 : tie.Need-returns-in-Rows
 unfolding rule_faults read rule
 returns_4 c =
     let t = c.before.before.before in
@@ -132,8 +132,8 @@ returns_4 c =
     let e = counted_few a in
     let s = start e in
     let b = s.args.board in
-    let table = s.args.table.now in
-    let r = why a t.added.given.1 in
+    let table = s.args.table-1.now in
+    let r = why a t.added-1.given.1 in
     let all = rule_done table b s.args.bytes.now (rw (s.requires.0, s.requires.1, few e, r.0, r.1)) in
     (rw r.2 all.0, after a ∙ sym (told_rows (rule s) b.rows b.rules (rows_lent table) table r.0 r.1).1 ∙ all.1)
 

@@ -81,18 +81,18 @@ module _ (t : ℕ) where
   abbrev Chain : (chain_lts.Claims → In 2 chain_kinds.ps → Out 2 chain_kinds.ps chain_kinds.r → Type 0) → Type 0
   Chain point = point (chain_calls t) (chain_at t) write_chain.Post
 
-  abbrev joined : Chain chain_lts.After-fill → Chain chain_lts.After-joins
+  abbrev joined : Chain chain_lts.After-fill → Chain chain_lts.After-joins-n
   joined f = f.before.before.before.before
 
   -- there is room for the kinds and for the units
-  room : (j : Chain chain_lts.After-joins)
+  room : (j : Chain chain_lts.After-joins-n)
       → let a = j.before.before.before.args in
-      a.at + j.joins.result + length (units_bytes a.brackets a.text.now) ≤ 0xffff_ffff_ffff_ffff
+      a.at + j.joins-n.result + length (units_bytes a.brackets a.text.now) ≤ 0xffff_ffff_ffff_ffff
   room j =
       let s = j.before.before.before in
-      omega (arith, j.joins.ensures, chain_length s.args.brackets s.args.text.now, s.requires.1)
+      omega (arith, j.joins-n.ensures, chain_length s.args.brackets s.args.text.now, s.requires.1)
 
-  units_requires : Chain chain_lts.Need-write-units-requires
+  units_requires : Chain chain_lts.Need-write_units-requires
   units_requires c κs =
       let j = joined c.before.before.before in
       omega (arith, room j, j.before.before.before.requires.0)
@@ -106,8 +106,8 @@ module _ (t : ℕ) where
       let m = k.before in
       let j = m.before in
       let a = j.before.before.before.args in
-      chain_put a.brackets a.text.now a.out.now a.at j.joins.result
-      j.joins.ensures m.mark.ensures k.kind-for.ensures f.fill.ensures w.write-units.ensures
+      chain_put a.brackets a.text.now a.out-1.now a.at j.joins-n.result
+      j.joins-n.ensures m.mark.ensures k.kind_for-kind.ensures f.fill.ensures w.write_units.ensures
 
 -- ---- the unit
 
@@ -131,99 +131,99 @@ module _ (t : ℕ) where
   abbrev Unit' : (unit_lts.Claims → In 2 unit_kinds.ps → Out 2 unit_kinds.ps unit_kinds.r → Type 0) → Type 0
   Unit' point = point (unit_calls t) (unit_at t) write_unit.Post
 
-  abbrev run_of : Unit' unit_lts.After-minuses → Unit' unit_lts.After-run
+  abbrev run_of : Unit' unit_lts.After-minuses-n → Unit' unit_lts.After-run-skipped
   run_of m = m.before.before
 
-  abbrev entry : Unit' unit_lts.After-minuses → Unit' unit_lts.Start
+  abbrev entry : Unit' unit_lts.After-minuses-n → Unit' unit_lts.Start
   entry m = (run_of m).before.before.before
 
-  abbrev fill_of : Unit' unit_lts.After-start-of → Unit' unit_lts.After-fill
+  abbrev fill_of : Unit' unit_lts.After-start_of → Unit' unit_lts.After-fill
   fill_of s = s.before.before.before.before
 
-  abbrev signs_of : Unit' unit_lts.After-fill → Unit' unit_lts.After-minuses
+  abbrev signs_of : Unit' unit_lts.After-fill → Unit' unit_lts.After-minuses-n
   signs_of f = f.before.before
 
-  abbrev minuses_of : Unit' unit_lts.After-start-of → Unit' unit_lts.After-minuses
+  abbrev minuses_of : Unit' unit_lts.After-start_of → Unit' unit_lts.After-minuses-n
   minuses_of s = signs_of (fill_of s)
 
-  skipped : (r : Unit' unit_lts.After-run) → r.run.result ≤ length r.before.before.before.args.text.now
-  skipped r = omega (arith, r.run.ensures, lead_extent Denial r.before.before.before.args.text.now)
+  skipped : (r : Unit' unit_lts.After-run-skipped) → r.run-skipped.result ≤ length r.before.before.before.args.text.now
+  skipped r = omega (arith, r.run-skipped.ensures, lead_extent Denial r.before.before.before.args.text.now)
 
-  signed : (m : Unit' unit_lts.After-minuses) → Signed (entry m).args.text.now (run_of m).run.result m.minuses.result
-  signed m = record { passed = (run_of m).run.ensures; counted = m.minuses.ensures }
+  signed : (m : Unit' unit_lts.After-minuses-n) → Signed (entry m).args.text.now (run_of m).run-skipped.result m.minuses-n.result
+  signed m = record { passed = (run_of m).run-skipped.ensures; counted = m.minuses-n.ensures }
 
-  signs : (m : Unit' unit_lts.After-minuses) → (entry m).args.at + m.minuses.result ≤ 0xffff_ffff_ffff_ffff
+  signs : (m : Unit' unit_lts.After-minuses-n) → (entry m).args.at + m.minuses-n.result ≤ 0xffff_ffff_ffff_ffff
   signs m = omega (arith, signs_within (entry m).args.brackets (signed m), (entry m).requires.1)
 
   -- what the unit starts with
-  starts : (s : Unit' unit_lts.After-start-of) {start : Start} → s.start-of.result ≡ start
-      → start_of (onward (run_of (minuses_of s)).run.result (entry (minuses_of s)).args.text.now) ≡ start
-  starts s e = sym s.start-of.ensures ∙ e
+  starts : (s : Unit' unit_lts.After-start_of) {start : Start} → s.start_of.result ≡ start
+      → start_of (onward (run_of (minuses_of s)).run-skipped.result (entry (minuses_of s)).args.text.now) ≡ start
+  starts s e = sym s.start_of.ensures ∙ e
 
-  slice_aggregate : Unit' unit_lts.Need-slice-aggregate-minuses
-  slice_aggregate c = let r = c.before in sym (length-take-le r.run.result r.before.before.before.args.text.now (skipped r))
+  slice_aggregate : Unit' unit_lts.Need-slice_bounds-minuses-end
+  slice_aggregate c = let r = c.before in sym (length-take-le r.run-skipped.result r.before.before.before.args.text.now (skipped r))
 
-  sub_body : Unit' unit_lts.Need-overflow-sub-body
+  sub_body : Unit' unit_lts.Need-slice_bounds-body-count
   sub_body c = skipped (run_of (signs_of c.before.before))
 
   -- a number takes two bytes
-  symbol_room : (e : Unit' unit_lts.After-enum-told)
-      → let m = minuses_of e.before.before in (entry m).args.at + m.minuses.result + 2 ≤ 0xffff_ffff_ffff_ffff
+  symbol_room : (e : Unit' unit_lts.In-Digits)
+      → let m = minuses_of e.before.before in (entry m).args.at + m.minuses-n.result + 2 ≤ 0xffff_ffff_ffff_ffff
   symbol_room e =
       let s = e.before.before in
       let m = minuses_of s in
-      omega (arith, symbol_within (entry m).args.brackets (signed m) (starts s e.enum_told.given.1), (entry m).requires.1)
+      omega (arith, symbol_within (entry m).args.brackets (signed m) (starts s e.enum_told-1.given.1), (entry m).requires.1)
 
-  add_result : Unit' unit_lts.Need-overflow-add-result
+  add_result : Unit' unit_lts.Need-overflow_add-result
   add_result c = let w = c.before.before in omega (arith, symbol_room w.before.before)
 
-  returns_deep : Unit' unit_lts.Need-returns
+  returns_deep : Unit' unit_lts.Need-returns-then-brackets-eq0
   returns_deep c =
       let s = c.before.before.before in
       let m = minuses_of s in
-      by_seventeenth (entry m).args.brackets (signed m) (fill_of s).fill.ensures (starts s c.before.enum-told2.given.1) c.if1.true
+      by_seventeenth (entry m).args.brackets (signed m) (fill_of s).fill.ensures (starts s c.before.enum_told-in-Bracket-1.given.1) c.if-brackets-eq0.true
 
-  sub_chain : Unit' unit_lts.Need-overflow-sub-write-chain
+  sub_chain : Unit' unit_lts.Need-slice_bounds-write_chain-count
   sub_chain c =
       let s = c.before.before.before in
       let m = minuses_of s in
-      omega (arith, start_long (onward (run_of m).run.result (entry m).args.text.now) (starts s c.before.enum-told2.given.1))
+      omega (arith, start_long (onward (run_of m).run-skipped.result (entry m).args.text.now) (starts s c.before.enum_told-in-Bracket-1.given.1))
 
-  chain_asks : Unit' unit_lts.Need-write-chain-requires
+  chain_asks : Unit' unit_lts.Need-write_chain-requires
   chain_asks c κs =
       let e = c.before.before.before in
       let s = e.before.before in
       let m = minuses_of s in
       let text = (entry m).args.text.now in
-      let n = (run_of m).run.result in
-      let bracket = starts s e.enum-told2.given.1 in (
+      let n = (run_of m).run-skipped.result in
+      let bracket = starts s e.enum_told-in-Bracket-1.given.1 in (
         omega (arith, start_long (onward n text) bracket, onward_length n text, onward_length 1 (onward n text), (entry m).requires.0),
         omega (arith, chain_within (entry m).args.brackets (signed m) bracket (omega arith), (entry m).requires.1),
       )
 
-  returns_number : Unit' unit_lts.Need-returns-2
+  returns_number : Unit' unit_lts.Need-returns-in-Digits
   returns_number c =
       let w = c.before.before in
       let e = w.before.before in
       let s = e.before.before in
       let m = minuses_of s in
-      by_digits (entry m).args.brackets (signed m) (fill_of s).fill.ensures (starts s e.enum_told.given.1) w.write_symbol.ensures
+      by_digits (entry m).args.brackets (signed m) (fill_of s).fill.ensures (starts s e.enum_told-1.given.1) w.write_symbol.ensures
 
-  returns_bracket : Unit' unit_lts.Need-returns-3
+  returns_bracket : Unit' unit_lts.Need-returns-else-brackets-eq0
   returns_bracket c =
       let w = c.before.before in
       let i = w.before.before.before in
       let e = i.before in
       let s = e.before.before in
       let m = minuses_of s in
-      by_bracket (entry m).args.brackets (signed m) (fill_of s).fill.ensures (starts s e.enum-told2.given.1) (omega arith)
-      w.write-chain.ensures
+      by_bracket (entry m).args.brackets (signed m) (fill_of s).fill.ensures (starts s e.enum_told-in-Bracket-1.given.1) (omega arith)
+      w.write_chain.ensures
 
-  returns_neither : Unit' unit_lts.Need-returns-4
+  returns_neither : Unit' unit_lts.Need-returns-in-Neither
   returns_neither c =
       let s = c.before.before in
       let m = minuses_of s in
-      by_neither (entry m).args.brackets (signed m) (fill_of s).fill.ensures (starts s c.enum-told3.given.1)
+      by_neither (entry m).args.brackets (signed m) (fill_of s).fill.ensures (starts s c.enum_told-in-Neither-1.given.1)
 
 -- ---- the units
 
@@ -231,89 +231,89 @@ abbrev units_calls : ℕ → units_lts.Claims
 units_calls t = (unit_below t, write_unit.Post, unit_reads.Asked, unit_reads.Learnt, goes_on_reads.Asked, goes_on_reads.Learnt)
 
 -- what was written, and what is left, make the whole
-abbrev Inv : units_lts.invariant-loop
+abbrev Inv : units_lts.invariant-loop-count
 Inv text brackets out₀ start at₀ join₀ to₀ out at join to =
     (at ≤ length text) × Remains out₀ start (units_bytes brackets text) out to (left_at brackets text at join)
 
-abbrev μ : units_lts.decreases-loop
+abbrev μ : units_lts.decreases-loop-count
 μ text brackets out₀ start at₀ join₀ to₀ out at join to = length text - at
 
 module _ (t : ℕ) where
-  abbrev Units : (units_lts.Claims → In 2 units_kinds.ps → Out 2 units_kinds.ps units_kinds.r → units_lts.invariant-loop → units_lts.decreases-loop
+  abbrev Units : (units_lts.Claims → In 2 units_kinds.ps → Out 2 units_kinds.ps units_kinds.r → units_lts.invariant-loop-count → units_lts.decreases-loop-count
       → Type 0) → Type 0
   Units point = point (units_calls t) (units_at t) write_units.Post Inv μ
 
-  abbrev written : Units units_lts.After-unit → Units units_lts.After-write-unit
+  abbrev written : Units units_lts.After-unit → Units units_lts.After-write_unit-to
   written u = u.before.before.before.before
 
-  abbrev loop_of : Units units_lts.After-unit → Units units_lts.At-loop
+  abbrev loop_of : Units units_lts.After-unit → Units units_lts.At-loop-count
   loop_of u = (written u).before.before.before
 
   abbrev start_of : Units units_lts.After-unit → Units units_lts.Start
   start_of u = (loop_of u).before.before.before
 
-  abbrev counted : Units units_lts.After-goes-on → Units units_lts.After-count
+  abbrev counted : Units units_lts.After-goes_on → Units units_lts.In-Used-2
   counted g = g.before.before.before.before
 
   unit_read : (u : Units units_lts.After-unit)
-      → UnitRead (start_of u).args.brackets (start_of u).args.text.now (loop_of u).loop.at (loop_of u).loop.join u.unit.result
-  unit_read u = record { inside = (loop_of u).loop.invariant.0; read = u.unit.ensures }
+      → UnitRead (start_of u).args.brackets (start_of u).args.text.now (loop_of u).loop-count.at (loop_of u).loop-count.join u.unit.result
+  unit_read u = record { inside = (loop_of u).loop-count.invariant.0; read = u.unit.ensures }
 
-  used : (k : Units units_lts.After-count)
-      → (loop_of k.before.before).loop.at + k.count.given.0.0 ≤ length (start_of k.before.before).args.text.now
-  used k = used_within (unit_read k.before.before) k.count.given.1
+  used : (k : Units units_lts.In-Used-2)
+      → (loop_of k.before.before).loop-count.at + k.count-1.given.0.0 ≤ length (start_of k.before.before).args.text.now
+  used k = used_within (unit_read k.before.before) k.count-1.given.1
 
-  unit_asks : Units units_lts.Need-write-unit-requires
+  unit_asks : Units units_lts.Need-write_unit-to-requires
   unit_asks c κs =
       let l = c.before.before in
       let s = l.before.before.before in
       let a = s.args in (
-        omega (arith, onward_length l.loop.at a.text.now, s.requires.0),
-        omega (arith, unit_room a.brackets a.text.now l.loop.at l.loop.join, l.loop.invariant.1.ends, s.requires.1),
+        omega (arith, onward_length l.loop-count.at a.text.now, s.requires.0),
+        omega (arith, unit_room a.brackets a.text.now l.loop-count.at l.loop-count.join, l.loop-count.invariant.1.ends, s.requires.1),
       )
 
   -- the unit that was written is the last
   last : (u : Units units_lts.After-unit)
-      → let a = (start_of u).args in let l = (loop_of u).loop in
+      → let a = (start_of u).args in let l = (loop_of u).loop-count in
       starts_at a.brackets l.join (drop l.at a.text.now) ≡ drop l.at a.text.now ∷ []
-      → Put a.out.now (written u).write-unit.last.1.1.0 a.start (units_bytes a.brackets a.text.now) (written u).write-unit.result
+      → Put a.out-1.now (written u).write_unit-to.last.1.1.0 a.start (units_bytes a.brackets a.text.now) (written u).write_unit-to.result
   last u =
-      let l = (loop_of u).loop in
-      units_last (start_of u).args.brackets (start_of u).args.text.now l.at l.join (written u).write-unit.ensures l.invariant.1
+      let l = (loop_of u).loop-count in
+      units_last (start_of u).args.brackets (start_of u).args.text.now l.at l.join (written u).write_unit-to.ensures l.invariant.1
 
-  returns : Units units_lts.Need-returns
-  returns c = let u = c.before.before in last u (chain_fault (unit_read u) c.enum_told.given.1).0
+  returns : Units units_lts.Need-returns-in-Refused
+  returns c = let u = c.before.before in last u (chain_fault (unit_read u) c.enum_told-1.given.1).0
 
-  add_at : Units units_lts.Need-overflow-add-at
+  add_at : Units units_lts.Need-overflow_add-at
   add_at c = omega (arith, used c.before, (start_of c.before.before.before).good.0.1)
 
-  returns_2 : Units units_lts.Need-returns-2
+  returns_2 : Units units_lts.Need-returns-then-at-text
   returns_2 c =
       let k = c.before.before in
       let u = k.before.before in
-      last u (chain_ends (unit_read u) k.count.given.1 c.if1.true).0
+      last u (chain_ends (unit_read u) k.count-1.given.1 c.if-at-text.true).0
 
-  returns_3 : Units units_lts.Need-returns-3
+  returns_3 : Units units_lts.Need-returns-then-not-goes_on
   returns_3 c =
       let g = c.before in
       let k = counted g in
       let u = k.before.before in
-      let stops = sym g.goes_on_lem.ensures ∙ not-true _ c.if2.true in
-      last u (chain_stops (unit_read u) k.count.given.1 stops).0
+      let stops = sym g.goes_on.ensures ∙ not-true _ c.if-not-goes_on.true-raw in
+      last u (chain_stops (unit_read u) k.count-1.given.1 stops).0
 
-  add_at_2 : Units units_lts.Need-overflow-add-at-2
+  add_at_2 : Units units_lts.Need-overflow_add-at-in-loop-count
   add_at_2 c = let k = counted c.before in omega (arith, used k, (start_of k.before.before).good.0.1)
 
-  loop_again : Units units_lts.Need-loop-preserved
+  loop_again : Units units_lts.Need-loop-count-preserved
   loop_again c =
       let g = c.before in
       let k = counted g in
       let u = k.before.before in
-      let l = (loop_of u).loop in
+      let l = (loop_of u).loop-count in
       let a = (start_of u).args in
-      let n = k.count.given.0.0 in
-      let goes = chain_goes (unit_read u) k.count.given.1 (omega (arith, used k)) (sym g.goes_on_lem.ensures ∙ not-false _ c.if2.false) in
-      let next = units_next a.brackets a.text.now l.at l.join (written u).write-unit.ensures l.invariant.1 in
+      let n = k.count-1.given.0.0 in
+      let goes = chain_goes (unit_read u) k.count-1.given.1 (omega (arith, used k)) (sym g.goes_on.ensures ∙ not-false _ c.if-not-goes_on.false-raw) in
+      let next = units_next a.brackets a.text.now l.at l.join (written u).write_unit-to.ensures l.invariant.1 in
       (omega (arith, used k), next (get_or a.text.now (l.at + n) 0) (l.at + n + 1) goes.0)
 
 pub +write_chain_write_unit_write_units_spec : {M : Type 1} → statement M

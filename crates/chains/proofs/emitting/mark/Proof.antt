@@ -12,25 +12,25 @@ module _ (b : ℕ) (text : List ℕ) {answer : Answer} (read : answer ≡ read_o
   mark_good : {count : ℕ} → answer ≡ Used count → get_or text count 0 ≡ mark_at b text
   mark_good r = rw (answer_good (unit_at b text) (sym read ∙ r)).1
 
-returns : tie.Need-returns
+returns : tie.Need-returns-in-Refused
 returns c =
     let u = c.before.before in
     let a = u.before.before.args in
-    mark_bad a.brackets a.text.now u.unit.ensures c.enum_told.given.1
+    mark_bad a.brackets a.text.now u.unit.ensures c.enum_told-1.given.1
 
-returns_2 : tie.Need-returns-2
+returns_2 : tie.Need-returns-then-count-text
 returns_2 c =
     let k = c.before.before.before in
     let u = k.before.before in
     let a = u.before.before.args in
-    mark_good a.brackets a.text.now u.unit.ensures k.count.given.1
+    mark_good a.brackets a.text.now u.unit.ensures k.count-1.given.1
 
-returns_3 : tie.Need-returns-3
+returns_3 : tie.Need-returns-else-count-text
 returns_3 c =
     let k = c.before.before in
     let u = k.before.before in
     let a = u.before.before.args in
-    sym (list_get_or_eq_default a.text.now 0 c.if1.false) ∙ mark_good a.brackets a.text.now u.unit.ensures k.count.given.1
+    sym (list_get_or_eq_default a.text.now 0 c.if-count-text.false) ∙ mark_good a.brackets a.text.now u.unit.ensures k.count-1.given.1
 
 pub mark_spec : {M : Type 1} → statement M
 mark_spec = tie.close (tie.spec (λ c κs. tt) (λ c. search rules) (λ c. search rules) (λ c. search rules) returns returns_2 returns_3)

@@ -5,25 +5,25 @@ use Rattle.chains.proofs.Stores.{capped_more, capped_done}
 use Rattle.chains.proofs.emitting.value.Statement.{statement}
 use Rattle.chains.proofs.emitting.value.Tie as tie
 
-abbrev invariant_loop : tie.invariant-loop
+abbrev invariant_loop : tie.invariant-loop-i
 invariant_loop digits sum₀ i₀ sum i = (i ≤ length digits) × (capped 0 digits ≡ capped sum (drop i digits))
 
-abbrev decreases_loop : tie.decreases-loop
+abbrev decreases_loop : tie.decreases-loop-i
 decreases_loop digits sum₀ i₀ sum i = length digits - i
 
-loop_again : tie.Need-loop-preserved invariant_loop decreases_loop
+loop_again : tie.Need-loop-i-preserved invariant_loop decreases_loop
 loop_again c =
     let l = c.before.before.before in
     let d = l.before.before.args.digits.now in (
       omega arith,
-      l.loop.invariant.1 ∙ capped_more l.loop.sum d l.loop.i (omega arith) ∙ ap (λ (s : ℕ). capped s (drop (l.loop.i + 1) d))
-          (sym c.grown.ensures),
+      l.loop-i.invariant.1 ∙ capped_more l.loop-i.sum d l.loop-i.i (omega arith) ∙ ap (λ (s : ℕ). capped s (drop (l.loop-i.i + 1) d))
+          (sym c.grown-sum.ensures),
     )
 
 returns : tie.Need-returns invariant_loop decreases_loop
 returns c =
     let l = c.before in
-    sym (l.loop.invariant.1 ∙ capped_done l.loop.sum l.before.before.args.digits.now l.loop.i (omega arith))
+    sym (l.loop-i.invariant.1 ∙ capped_done l.loop-i.sum l.before.before.args.digits.now l.loop-i.i (omega arith))
 
 pub value_spec : {M : Type 1} → statement M
 value_spec = tie.close (tie.spec

@@ -5,35 +5,35 @@ use Rattle.chains.proofs.Runs.{lead_more, lead_stops, lead_all}
 use Rattle.chains.proofs.signs.run.Statement.{statement}
 use Rattle.chains.proofs.signs.run.Tie as tie
 
-abbrev invariant_loop : tie.invariant-loop
+abbrev invariant_loop : tie.invariant-loop-n
 invariant_loop text class n₀ n = (n ≤ length text) × (lead class text ≡ n + lead class (drop n text))
 
-abbrev decreases_loop : tie.decreases-loop
+abbrev decreases_loop : tie.decreases-loop-n
 decreases_loop text class n₀ n = length text - n
 
 -- where the byte is tested
-abbrev at : tie.After-within invariant_loop decreases_loop → tie.At-loop invariant_loop decreases_loop
+abbrev at : tie.After-within invariant_loop decreases_loop → tie.At-loop-n invariant_loop decreases_loop
 at c = c.before.before.before
 
-returns : tie.Need-returns invariant_loop decreases_loop
+returns : tie.Need-returns-then-not-within invariant_loop decreases_loop
 returns c =
     let l = at c.before in
     let a = l.before.before.args in
-    let other = sym c.before.within.ensures ∙ not-true _ c.if1.true in
-    sym (l.loop.invariant.1 ∙ lead_stops a.class a.text.now l.loop.n (omega arith) other)
+    let other = sym c.before.within.ensures ∙ not-true _ c.if-not-within.true-raw in
+    sym (l.loop-n.invariant.1 ∙ lead_stops a.class a.text.now l.loop-n.n (omega arith) other)
 
-loop_again : tie.Need-loop-preserved invariant_loop decreases_loop
+loop_again : tie.Need-loop-n-preserved invariant_loop decreases_loop
 loop_again c =
     let l = at c.before in
     let a = l.before.before.args in
-    let one = sym c.before.within.ensures ∙ not-false _ c.if1.false in
-    (omega arith, l.loop.invariant.1 ∙ lead_more a.class a.text.now l.loop.n (omega arith) one)
+    let one = sym c.before.within.ensures ∙ not-false _ c.if-not-within.false-raw in
+    (omega arith, l.loop-n.invariant.1 ∙ lead_more a.class a.text.now l.loop-n.n (omega arith) one)
 
-returns_2 : tie.Need-returns-2 invariant_loop decreases_loop
+returns_2 : tie.Need-returns invariant_loop decreases_loop
 returns_2 c =
     let l = c.before in
     let a = l.before.before.args in
-    sym (l.loop.invariant.1 ∙ lead_all a.class a.text.now l.loop.n (omega arith))
+    sym (l.loop-n.invariant.1 ∙ lead_all a.class a.text.now l.loop-n.n (omega arith))
 
 pub run_spec : {M : Type 1} → statement M
 run_spec = tie.close (tie.spec

@@ -23,24 +23,24 @@ start_neither (c ∷ rest) h e f = rw (e, ne_eqb c 40 f)
 abbrev start : tie.After-within → tie.Start
 start c = c.before.before.before.before
 
-returns_2 : tie.Need-returns-2
+returns_2 : tie.Need-returns-then-within
 returns_2 c =
     let w = c.before in
-    start_digits (start w).args.body.now (omega arith) (sym w.within.ensures ∙ c.if2.true)
+    start_digits (start w).args.body.now (omega arith) (sym w.within.ensures ∙ c.if-within.true)
 
-returns_3 : tie.Need-returns-3
+returns_3 : tie.Need-returns-then-body-eq40
 returns_3 c =
     let w = c.before.before.before in
-    start_bracket (start w).args.body.now (omega arith) (sym w.within.ensures ∙ c.before.before.if2.false)
-    c.if3.true
+    start_bracket (start w).args.body.now (omega arith) (sym w.within.ensures ∙ c.before.before.if-within.false)
+    c.if-body-eq40.true
 
-returns_4 : tie.Need-returns-4
+returns_4 : tie.Need-returns
 returns_4 c =
     let w = c.before.before.before in
-    start_neither (start w).args.body.now (omega arith) (sym w.within.ensures ∙ c.before.before.if2.false)
-    c.if3.false
+    start_neither (start w).args.body.now (omega arith) (sym w.within.ensures ∙ c.before.before.if-within.false)
+    c.if-body-eq40.false
 
 pub start_of_spec : {M : Type 1} → statement M
 start_of_spec = tie.close (tie.spec
-    (λ c. start_none c.before.before.args.body.now c.if1.true) (λ c. search rules) (λ c κs. search rules) returns_2 (λ c. search rules)
+    (λ c. start_none c.before.before.args.body.now c.if-body-eq0.true) (λ c. search rules) (λ c κs. search rules) returns_2 (λ c. search rules)
     returns_3 returns_4)

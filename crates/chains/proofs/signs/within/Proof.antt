@@ -5,7 +5,7 @@ use Rattle.chains.proofs.signs.within.Tie as tie
 
 pub within_spec : {M : Type 1} → statement M
 within_spec = tie.close (tie.spec
-    (λ c. search rules) (λ c. search rules) (λ c. rw c.before.enum-told2.given.1 (simp (eq-eqb _ _ c.if1.true))) (λ c. search rules)
-    (λ c. rw c.before.enum-told3.given.1 (simp (lt-leb _ _ c.if2.true))) (λ c. rw c.enum_told.given.1)
-    (λ c. rw c.before.enum-told2.given.1 (simp (ne_eqb _ _ c.if1.false)))
-    (λ c. rw c.before.enum-told3.given.1 (simp (le-leb _ _ c.if2.false))))
+    (λ c. search rules) (λ c. search rules) (λ c. rw c.before.enum_told-in-Denial-1.given.1 (simp (eq-eqb _ _ c.if-byte-eq32.true))) (λ c. search rules)
+    (λ c. rw c.before.enum_told-in-Number-1.given.1 (simp (lt-leb _ _ c.if-byte-lt48.true))) (λ c. rw c.enum_told-1.given.1)
+    (λ c. rw c.before.enum_told-in-Denial-1.given.1 (simp (ne_eqb _ _ c.if-byte-eq32.false)))
+    (λ c. rw c.before.enum_told-in-Number-1.given.1 (simp (le-leb _ _ c.if-byte-lt48.false))))

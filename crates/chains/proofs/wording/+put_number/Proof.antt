@@ -27,42 +27,42 @@ module _ (t : ℕ) where
   abbrev Here : (lts.Claims → In 1 kinds.ps → Out 1 kinds.ps kinds.r → Type 0) → Type 0
   Here point = point (calls t) (at t) put_number.Post
 
-  abbrev counted : Here lts.After-put2 → Here lts.After-put-number
+  abbrev counted : Here lts.After-put-2 → Here lts.After-put_number-next
   counted c = c.before.before.before.before
 
-  add_result : Here lts.Need-overflow-add-result
+  add_result : Here lts.Need-overflow_add-result
   add_result c =
       let p = c.before.before in
       let i = p.before.before in
       let s = i.before.before in
-      omega (arith, ap length (natural_short s.args.n i.if1.true), s.requires.1)
+      omega (arith, ap length (natural_short s.args.n i.if-n-lt10.true), s.requires.1)
 
-  returns : Here lts.Need-returns
+  returns : Here lts.Need-returns-then-n-lt10
   returns c =
       let p = c.before.before in
       let i = p.before.before in
-      rw (natural_short i.before.before.args.n i.if1.true) (record { written = p.put.ensures; ends = refl })
+      rw (natural_short i.before.before.args.n i.if-n-lt10.true) (record { written = p.put.ensures; ends = refl })
 
-  asks : Here lts.Need-put-number-requires
+  asks : Here lts.Need-put_number-next-requires
   asks c κs =
       let s = c.before.before.before in
-      omega (arith, s.requires, natural_longer s.args.n c.before.if1.false)
+      omega (arith, s.requires, natural_longer s.args.n c.before.if-n-lt10.false)
 
-  add_result_2 : Here lts.Need-overflow-add-result-2
+  add_result_2 : Here lts.Need-overflow_add-result-2
   add_result_2 c =
       let p = counted c.before.before in
       let i = p.before.before in
       let s = i.before.before in
-      omega (arith, s.requires.1, natural_longer s.args.n i.if1.false, p.put-number.ensures.ends)
+      omega (arith, s.requires.1, natural_longer s.args.n i.if-n-lt10.false, p.put_number-next.ensures.ends)
 
-  returns_2 : Here lts.Need-returns-2
+  returns_2 : Here lts.Need-returns
   returns_2 c =
       let last = c.before.before in
       let p = counted last in
       let i = p.before.before in
       let n = i.before.before.args.n in
-      rw (natural_long n i.if1.false)
-      (put_put (natural (n / 10)) ((48 + n % 10) ∷ []) p.put-number.ensures (record { written = last.put2.ensures; ends = refl }))
+      rw (natural_long n i.if-n-lt10.false)
+      (put_put (natural (n / 10)) ((48 + n % 10) ∷ []) p.put_number-next.ensures (record { written = last.put-2.ensures; ends = refl }))
 
 pub +put_number_spec : {M : Type 1} → statement M
 +put_number_spec = close μ λ t. lts.spec (calls t) (at t) put_number.Post

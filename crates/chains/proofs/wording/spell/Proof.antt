@@ -28,7 +28,7 @@ module _ (S : ℕ) (h : S ≤ 200) (bytes : List ℕ) (well : is_good (parse S l
       go (good f used) e g = spelled_bound S bytes f used h e
       go (bad why place) e g = never g
 
-abbrev start : tie.After-kind-of → tie.Start
+abbrev start : tie.After-kind_of → tie.Start
 start c = c.before.before.before.before
 
 walked : (s : tie.Start) → is_good (parse 255 levels s.args.bytes.now) ≡ true
@@ -37,39 +37,39 @@ walked s = wide_well s.args.symbols s.requires.0 levels s.args.bytes.now s.requi
 fits : (s : tie.Start) → length (spelled_of (parse 255 levels s.args.bytes.now)) ≤ 196603
 fits s = room s.args.symbols s.requires.0 s.args.bytes.now s.requires.1
 
-read_kind : tie.Need-shared-slice-read-kind-of
+read_kind : tie.Need-bounds-bytes-0
 read_kind c = let s = c.before.before.before in long levels s.args.bytes.now (walked s)
 
-pair_asks : tie.Need-put-pair-requires
+pair_asks : tie.Need-put_pair-pair-requires
 pair_asks c κs =
     let j = c.before.before in
     let k = j.before.before in
     let s = start k in
-    (walked s, (sym k.kind-of.ensures ∙ j.join.given.1, omega (arith, fits s)))
+    (walked s, (sym k.kind_of.ensures ∙ j.join-1.given.1, omega (arith, fits s)))
 
 -- where the arm for all other kinds is taken
-unit_whole : (m : tie.At-match-keys2)
+unit_whole : (m : tie.In_default)
     → let bytes = (start m.before).args.bytes.now in spelled_of (parse 255 levels bytes) ≡ unit_text_of (parse 255 levels bytes)
 unit_whole m =
     let k = m.before in
-    whole_unit k.kind-of.result (record { well = walked (start k); says = sym k.kind-of.ensures }) m.match.keys2
+    whole_unit k.kind_of.result (record { well = walked (start k); says = sym k.kind_of.ensures }) m.in_default.keys2
 
-unit_asks : tie.Need-put-unit-requires
+unit_asks : tie.Need-put_unit-unit-requires
 unit_asks c κs = let s = start c.before.before in (walked s, omega (arith, fits s, ap length (unit_whole c.before)))
 
-returns : tie.Need-returns
+returns : tie.Need-returns-in-Two
 returns c =
     let p = c.before.before in
     let j = p.before.before.before in
     let s = start j.before.before in
-    rw (wide s.args.symbols s.requires.0 levels s.args.bytes.now s.requires.1) p.put-pair.ensures.1
+    rw (wide s.args.symbols s.requires.0 levels s.args.bytes.now s.requires.1) p.put_pair-pair.ensures.1
 
-returns_2 : tie.Need-returns-2
+returns_2 : tie.Need-returns-in_default
 returns_2 c =
     let u = c.before.before in
     let m = u.before.before in
     let s = start m.before in
-    rw (wide s.args.symbols s.requires.0 levels s.args.bytes.now s.requires.1, unit_whole m) u.put-unit.ensures.1
+    rw (wide s.args.symbols s.requires.0 levels s.args.bytes.now s.requires.1, unit_whole m) u.put_unit-unit.ensures.1
 
 pub spell_spec : {M : Type 1} → statement M
 spell_spec = tie.close (tie.spec

@@ -5,17 +5,17 @@ use Rattle.implicates.proofs.Appending.{appended_none}
 use Rattle.dimacs.proofs.appending.append_clause.Statement.{statement}
 use Rattle.dimacs.proofs.appending.append_clause.Tie as tie
 
-returns : tie.Need-returns
+returns : tie.Need-returns-then-k
 returns c =
     let a = c.before.before.args in
-    rw c.if1.true (sym (appended_none a.table.now a.row), sym (add-zero a.row))
+    rw c.if-k.true (sym (appended_none a.table-1.now a.row), sym (add-zero a.row))
 
 -- there is room for its row
-room : (e : tie.Else1) → let a = e.before.before.args in width * (a.row + 1) ≤ length a.table.now
-room e = rw e.if1.false at e.before.before.requires.1
+room : (e : tie.Else-k) → let a = e.before.before.args in width * (a.row + 1) ≤ length a.table-1.now
+room e = rw e.if-k.false at e.before.before.requires.1
 
-returns_2 : tie.Need-returns-2
-returns_2 c = let e = c.before.before.before in rw e.if1.false (c.before.append-row.ensures, refl)
+returns_2 : tie.Need-returns
+returns_2 c = let e = c.before.before.before in rw e.if-k.false (c.before.append_row.ensures, refl)
 
 pub append_clause_spec : {M : Type 1} → statement M
 append_clause_spec = tie.close (tie.spec

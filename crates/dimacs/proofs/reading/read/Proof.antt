@@ -13,51 +13,51 @@ abbrev entry : tie.After-good2 → tie.Start
 entry c = c.before.before.before
 
 -- the board is good
-good : (c : tie.Else1) → let a = (entry c.before).args in good_board a.table.now a.board ≡ true
-good c = sym c.before.good2.ensures ∙ not-false _ c.if1.false
+good : (c : tie.Else-not-good) → let a = (entry c.before).args in good_board a.table-1.now a.board ≡ true
+good c = sym c.before.good2.ensures ∙ not-false _ c.if-not-good.false-raw
 
 -- the header's line ends behind its start
-onward : (c : tie.After-line-end) → c.before.header-place.result ≤ c.line-end.result
-onward c = place_after ends c.before.header-place.result c.line-end.ensures c.before.header-place.ensures.within
+onward : (c : tie.After-line_end-end) → c.before.header_place-start.result ≤ c.line_end-end.result
+onward c = place_after ends c.before.header_place-start.result c.line_end-end.ensures c.before.header_place-start.ensures.within
 
-abbrev start : tie.After-header-in → tie.Start
+abbrev start : tie.After-header_in → tie.Start
 start c = let e = c.before.before in entry e.before.before.before
 
 -- what the header counts
-header : (c : tie.After-header-in) → header_in (header_line (start c).args.text.now) ≡ c.header-in.result
+header : (c : tie.After-header_in) → header_in (header_line (start c).args.text.now) ≡ c.header_in.result
 header c =
     let e = c.before.before in
-    sym (c.header-in.ensures ∙ ap header_in (line_is (start c).args.text.now e.before.header-place.ensures e.line-end.ensures))
+    sym (c.header_in.ensures ∙ ap header_in (line_is (start c).args.text.now e.before.header_place-start.ensures e.line_end-end.ensures))
 
-returns : tie.Need-returns
+returns : tie.Need-returns-then-not-good
 returns c =
     let g = c.before.before in
     let s = entry g in
-    let spoilt = sym g.good2.ensures ∙ not-true _ c.before.if1.true in
-    let all = read_spoilt s.args.table.now s.args.board s.args.text.now spoilt in
+    let spoilt = sym g.good2.ensures ∙ not-true _ c.before.if-not-good.true-raw in
+    let all = read_spoilt s.args.table-1.now s.args.board s.args.text.now spoilt in
     (c.refused.ensures ∙ all.0, all.1)
 
-add_clauses_requires : tie.Need-add-clauses-requires
+add_clauses_requires : tie.Need-add_clauses-requires
 add_clauses_requires c κs =
     let w = c.before.before in
     let h = w.before.before in
     let e = h.before.before in (
-      (good e.before.before, e.line-end.ensures.within),
-      parsed_by (start h).args.text.now e.before.header-place.ensures e.line-end.ensures (header h ∙ w.variables.given.1),
+      (good e.before.before, e.line_end-end.ensures.within),
+      parsed_by (start h).args.text.now e.before.header_place-start.ensures e.line_end-end.ensures (header h ∙ w.variables-1.given.1),
     )
 
-returns_2 : tie.Need-returns-2
+returns_2 : tie.Need-returns-in-Broken
 returns_2 c =
     let t = c.before in
     let h = t.before.before in
     let e = h.before.before in
     let a = (start h).args in
-    let all = read_broken a.table.now a.board a.text.now (good e.before.before)
-    (parsed_by a.text.now e.before.header-place.ensures e.line-end.ensures (header h ∙ t.enum_told.given.1)) in
-    (c.refused2.ensures ∙ all.0, all.1)
+    let all = read_broken a.table-1.now a.board a.text.now (good e.before.before)
+    (parsed_by a.text.now e.before.header_place-start.ensures e.line_end-end.ensures (header h ∙ t.enum_told-1.given.1)) in
+    (c.refused-in-Broken.ensures ∙ all.0, all.1)
 
 pub read_spec : {M : Type 1} → statement M
 read_spec = tie.close (tie.spec
-    (λ c κs. search rules) (λ c κs. search rules) (λ c. search rules) returns (λ c κs. search rules) (λ c κs. c.header-place.ensures.within) onward
-    onward (λ c. c.line-end.ensures.within) (λ c κs. search rules) (λ c. search rules) (λ c κs. search rules) (λ c. search rules)
+    (λ c κs. search rules) (λ c κs. search rules) (λ c. search rules) returns (λ c κs. search rules) (λ c κs. c.header_place-start.ensures.within) onward
+    onward (λ c. c.line_end-end.ensures.within) (λ c κs. search rules) (λ c. search rules) (λ c κs. search rules) (λ c. search rules)
     add_clauses_requires (λ c. search rules) returns_2 (λ c. search rules) (λ c. search rules))

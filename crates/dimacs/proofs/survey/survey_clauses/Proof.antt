@@ -11,18 +11,18 @@ use Rattle.dimacs.proofs.Surveying.{Sofar, sofar_none, sofar_broken, sofar_end, 
 use Rattle.dimacs.proofs.survey.survey_clauses.Statement.{statement}
 use Rattle.dimacs.proofs.survey.survey_clauses.Tie as tie
 
-abbrev invariant_loop : tie.invariant-loop
+abbrev invariant_loop : tie.invariant-loop-row
 invariant_loop text at variables clauses symbols used rules lent row₀ found₀ count₀ i₀ row found count i =
     (length row ≡ 8) × (i ≤ length text) × (count ≤ i)
     × Sofar symbols used rules lent clauses (clauses_in variables [] (words (drop at text))) (clauses_in variables [] (words (drop i text))) count found
 
-abbrev decreases_loop : tie.decreases-loop
+abbrev decreases_loop : tie.decreases-loop-row
 decreases_loop text at variables clauses symbols used rules lent row₀ found₀ count₀ i₀ row found count i = length text - i
 
-abbrev start : tie.At-loop invariant_loop decreases_loop → tie.Start invariant_loop decreases_loop
+abbrev start : tie.At-loop-row invariant_loop decreases_loop → tie.Start invariant_loop decreases_loop
 start l = l.before.before
 
-loop_holds : tie.Need-loop-init invariant_loop decreases_loop
+loop_holds : tie.Need-loop-row-init invariant_loop decreases_loop
 loop_holds c =
     let s = c.before in
     let a = s.args in
@@ -31,103 +31,103 @@ loop_holds c =
 
 -- ---- no word is left
 
-none : (c : tie.Then1 invariant_loop decreases_loop) → let l = c.before.before in words (drop l.loop.i (start l).args.text.now) ≡ []
-none c = words_end c.before.before.loop.i c.before.next_word.ensures c.if1.true
+none : (c : tie.Then-here-text invariant_loop decreases_loop) → let l = c.before.before in words (drop l.loop-row.i (start l).args.text.now) ≡ []
+none c = words_end c.before.before.loop-row.i c.before.next_word-here.ensures c.if-here-text.true
 
-returns : tie.Need-returns invariant_loop decreases_loop
+returns : tie.Need-returns-then-count-clauses invariant_loop decreases_loop
 returns c =
     let t = c.before in
     let l = t.before.before in
-    sofar_end l.loop.invariant.3 (no_clause (start l).args.variables _ (none t)) c.if2.true
+    sofar_end l.loop-row.invariant.3 (no_clause (start l).args.variables _ (none t)) c.if-count-clauses.true
 
-returns_2 : tie.Need-returns-2 invariant_loop decreases_loop
+returns_2 : tie.Need-returns-then-here-text invariant_loop decreases_loop
 returns_2 c =
     let t = c.before.before in
     let l = t.before.before in
-    c.broken.ensures ∙ sofar_other l.loop.invariant.3 (no_clause (start l).args.variables _ (none t)) c.before.if2.false
+    c.broken.ensures ∙ sofar_other l.loop-row.invariant.3 (no_clause (start l).args.variables _ (none t)) c.before.if-count-clauses.false
 
 -- ---- a clause begins
 
-abbrev at : tie.Else1 invariant_loop decreases_loop → tie.At-loop invariant_loop decreases_loop
+abbrev at : tie.Else-here-text invariant_loop decreases_loop → tie.At-loop-row invariant_loop decreases_loop
 at c = c.before.before
 
-more : (c : tie.Else1 invariant_loop decreases_loop) → c.before.next_word.result < length (start (at c)).args.text.now
-more c = omega (arith, c.before.next_word.ensures.within, c.if1.false)
+more : (c : tie.Else-here-text invariant_loop decreases_loop) → c.before.next_word-here.result < length (start (at c)).args.text.now
+more c = omega (arith, c.before.next_word-here.ensures.within, c.if-here-text.false)
 
-onward : (c : tie.Else1 invariant_loop decreases_loop) → (at c).loop.i ≤ c.before.next_word.result
-onward c = place_after in_word (at c).loop.i c.before.next_word.ensures (at c).loop.invariant.1
+onward : (c : tie.Else-here-text invariant_loop decreases_loop) → (at c).loop-row.i ≤ c.before.next_word-here.result
+onward c = place_after in_word (at c).loop-row.i c.before.next_word-here.ensures (at c).loop-row.invariant.1
 
 -- the words from it on
-abbrev left : tie.Else1 invariant_loop decreases_loop → List (List ℕ)
-left c = words (drop c.before.next_word.result (start (at c)).args.text.now)
+abbrev left : tie.Else-here-text invariant_loop decreases_loop → List (List ℕ)
+left c = words (drop c.before.next_word-here.result (start (at c)).args.text.now)
 
-first : (c : tie.Else1 invariant_loop decreases_loop) → let v = (start (at c)).args.variables in
-    clauses_in v [] (words (drop (at c).loop.i (start (at c)).args.text.now))
+first : (c : tie.Else-here-text invariant_loop decreases_loop) → let v = (start (at c)).args.variables in
+    clauses_in v [] (words (drop (at c).loop-row.i (start (at c)).args.text.now))
     ≡ cond (keeps_form v (left c)) (clause_then (next_clause (left c)) (clauses_in v [] (past_clause (left c)))) broken
 first c =
-    let p = c.before.next_word.ensures in
-    let same = words_same (at c).loop.i p in
-    let some = ap length (sym same ∙ words_some (at c).loop.i p (more c)) in
+    let p = c.before.next_word-here.ensures in
+    let same = words_same (at c).loop-row.i p in
+    let some = ap length (sym same ∙ words_some (at c).loop-row.i p (more c)) in
     let v = (start (at c)).args.variables in
     ap (λ (ws : List (List ℕ)). clauses_in v [] ws) same ∙ first_clause v (left c) (omega (arith, some))
 
-abbrev here : tie.After-gather invariant_loop decreases_loop → tie.Else1 invariant_loop decreases_loop
+abbrev here : tie.After-gather-c invariant_loop decreases_loop → tie.Else-here-text invariant_loop decreases_loop
 here g = g.before.before
 
-returns_3 : tie.Need-returns-3 invariant_loop decreases_loop
+returns_3 : tie.Need-returns-then-not-c invariant_loop decreases_loop
 returns_3 c =
     let t = c.before in
     let g = t.before.before.before in
-    let breaks = sym g.gather.ensures.is_kept ∙ not-true _ t.if3.true in
-    c.broken2.ensures ∙ sofar_broken (at (here g)).loop.invariant.3 (first (here g) ∙ rw breaks)
+    let breaks = sym g.gather-c.ensures.is_kept ∙ not-true _ t.if-not-c.true in
+    c.broken-then-not-c.ensures ∙ sofar_broken (at (here g)).loop-row.invariant.3 (first (here g) ∙ rw breaks)
 
 -- ---- it keeps the form
 
-abbrev gathered : tie.Else3 invariant_loop decreases_loop → tie.After-gather invariant_loop decreases_loop
+abbrev gathered : tie.Else-not-c invariant_loop decreases_loop → tie.After-gather-c invariant_loop decreases_loop
 gathered c = c.before.before.before
 
-keeps : (c : tie.Else3 invariant_loop decreases_loop) → (gathered c).gather.result.keeps ≡ true
-keeps c = not-false _ c.if3.false
+keeps : (c : tie.Else-not-c invariant_loop decreases_loop) → (gathered c).gather-c.result.keeps ≡ true
+keeps c = not-false _ c.if-not-c.false
 
-clause : (c : tie.Else3 invariant_loop decreases_loop) → let g = gathered c in let a = (start (at (here g))).args in
-    clauses_in a.variables [] (words (drop (at (here g)).loop.i a.text.now))
-    ≡ clause_then (next_clause (left (here g))) (clauses_in a.variables [] (words (drop g.gather.result.end a.text.now)))
+clause : (c : tie.Else-not-c invariant_loop decreases_loop) → let g = gathered c in let a = (start (at (here g))).args in
+    clauses_in a.variables [] (words (drop (at (here g)).loop-row.i a.text.now))
+    ≡ clause_then (next_clause (left (here g))) (clauses_in a.variables [] (words (drop g.gather-c.result.end a.text.now)))
 clause c =
     let g = gathered c in
-    let good = sym g.gather.ensures.is_kept ∙ keeps c in
-    first (here g) ∙ rw (good, g.gather.ensures.rest (keeps c))
+    let good = sym g.gather-c.ensures.is_kept ∙ keeps c in
+    first (here g) ∙ rw (good, g.gather-c.ensures.rest (keeps c))
 
-with_clause_requires : tie.Need-with-clause-requires invariant_loop decreases_loop
+with_clause_requires : tie.Need-with_clause-found-requires invariant_loop decreases_loop
 with_clause_requires c κs =
     let e = here (gathered c) in
     let s = start (at e) in
-    let fits = (at e).loop.invariant.3.fits in
+    let fits = (at e).loop-row.invariant.3.fits in
     (fits.0, s.requires.3, fits.1)
 
-add_count : tie.Need-overflow-add-count invariant_loop decreases_loop
-add_count c = let e = here (gathered c.before) in omega (arith, (at e).loop.invariant.2, onward e, more e, (start (at e)).good)
+add_count : tie.Need-overflow_add-count invariant_loop decreases_loop
+add_count c = let e = here (gathered c.before) in omega (arith, (at e).loop-row.invariant.2, onward e, more e, (start (at e)).good)
 
-loop_less : tie.Need-loop-smaller invariant_loop decreases_loop
+loop_less : tie.Need-loop-row-smaller invariant_loop decreases_loop
 loop_less c =
-    let g = (gathered c.before).gather.ensures in
+    let g = (gathered c.before).gather-c.ensures in
     let k = keeps c.before in
     omega (arith, onward (here (gathered c.before)), g.onward k, g.within k)
 
-loop_again : tie.Need-loop-preserved invariant_loop decreases_loop
+loop_again : tie.Need-loop-row-preserved invariant_loop decreases_loop
 loop_again c =
     let g = gathered c.before in
     let e = here g in
-    let r = g.gather.ensures in
+    let r = g.gather-c.ensures in
     let k = keeps c.before in
-    let next = c.with_clause.ensures.with_clause (start (at e)).args.symbols (next_clause (left e)) _ (r.holds k) in (
-      g.gather.kept.0 ∙ (at e).loop.invariant.0,
+    let next = c.with_clause-found.ensures.with_clause-found (start (at e)).args.symbols (next_clause (left e)) _ (r.holds k) in (
+      g.gather-c.kept.0 ∙ (at e).loop-row.invariant.0,
       r.within k,
-      omega (arith, (at e).loop.invariant.2, onward e, r.onward k),
-      sofar_more (at e).loop.invariant.3 (next_clause (left e)) (clause c.before) next,
+      omega (arith, (at e).loop-row.invariant.2, onward e, r.onward k),
+      sofar_more (at e).loop-row.invariant.3 (next_clause (left e)) (clause c.before) next,
     )
 
 pub survey_clauses_spec : {M : Type 1} → statement M
 survey_clauses_spec = tie.close (tie.spec
-    invariant_loop decreases_loop loop_holds (λ c κs. c.loop.invariant.1) returns (λ c κs. tt) returns_2 (λ c. sym c.before.before.before.loop.invariant.0)
-    (λ c κs. let n = c.before.before in (n.next_word.ensures.within, n.before.loop.invariant.0)) (λ c κs. tt) returns_3 with_clause_requires
+    invariant_loop decreases_loop loop_holds (λ c κs. c.loop-row.invariant.1) returns (λ c κs. tt) returns_2 (λ c. sym c.before.before.before.loop-row.invariant.0)
+    (λ c κs. let n = c.before.before in (n.next_word-here.ensures.within, n.before.loop-row.invariant.0)) (λ c κs. tt) returns_3 with_clause_requires
     add_count loop_less loop_again)

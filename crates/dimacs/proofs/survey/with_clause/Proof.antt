@@ -5,34 +5,34 @@ use Rattle.dimacs.proofs.Judging.{with_refused, with_fault, with_done}
 use Rattle.dimacs.proofs.survey.with_clause.Statement.{statement}
 use Rattle.dimacs.proofs.survey.with_clause.Tie as tie
 
-abbrev done : tie.After-judge → tie.After-enum-told2
+abbrev done : tie.After-judge → tie.In-Done
 done j = j.before.before.before
 
 abbrev start : tie.After-judge → tie.Start
 start j = (done j).before.before
 
-abbrev judged : tie.After-struct-known5 → tie.After-judge
+abbrev judged : tie.After-struct_known-in-Done-judge-3-1 → tie.After-judge
 judged c = c.before.before.before.before.before
 
 one : (b : Bool) → bool_byte b ≤ 1
 one true = omega arith
 one false = omega arith
 
-returns_2 : tie.Need-returns-2
+returns_2 : tie.Need-returns-in-Refused-judge
 returns_2 c =
     let w = c.before in
     let j = w.before.before in
-    with_fault (done j).enum-told2.given.1 (rw w.why.given.1 at j.judge.ensures)
+    with_fault (done j).enum_told-in-Done-1.given.1 (rw w.why-1.given.1 at j.judge.ensures)
 
-returns_3 : tie.Need-returns-3
+returns_3 : tie.Need-returns-in-Done-judge
 returns_3 c =
     let t = c.before.before.before in
     let j = t.before.before in
-    with_done (done j).enum-told2.given.1 (rw t.enum-told3.given.1 at j.judge.ensures)
+    with_done (done j).enum_told-in-Done-1.given.1 (rw t.enum_told-in-Done-judge-1.given.1 at j.judge.ensures)
 
 pub with_clause_spec : {M : Type 1} → statement M
 with_clause_spec = tie.close (tie.spec
     (λ c. search rules) (λ c. search rules) (λ c. omega arith) (λ c. omega arith) (λ c κs. omega arith) (λ c. search rules) (λ c. search rules)
     (λ c. omega arith) (λ c. omega arith)
     (λ c. let s = start (judged c) in omega (arith, s.requires.0, s.requires.1, one (not s.args.k.always)))
-    (λ c. with_refused c.enum_told.given.1) returns_2 returns_3)
+    (λ c. with_refused c.enum_told-1.given.1) returns_2 returns_3)

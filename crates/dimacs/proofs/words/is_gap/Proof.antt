@@ -5,4 +5,4 @@ use Rattle.dimacs.proofs.words.is_gap.Tie as tie
 
 pub is_gap_spec : {M : Type 1} → statement M
 is_gap_spec = tie.close (tie.spec
-    (λ c. rw (eq-eqb _ 32 c.if1.true)) (λ c. rw (ne_eqb _ 32 c.if1.false)))
+    (λ c. rw (eq-eqb _ 32 c.if-byte-eq32.true)) (λ c. rw (ne_eqb _ 32 c.if-byte-eq32.false)))

@@ -5,27 +5,27 @@ use Rattle.dimacs.proofs.words.literal_at.Statement.{statement}
 use Rattle.dimacs.proofs.words.literal_at.Tie as tie
 
 -- a minus sign stands there
-abbrev start : tie.Then1 → tie.Start
+abbrev start : tie.Then-text-at-eq45 → tie.Start
 start m = m.before.before.before
 
-returns : tie.Need-returns
+returns : tie.Need-returns-then-n-eq0
 returns c =
     let n = c.before.before in
     let s = start n.before in
-    minus_zero s.args.text.now s.args.at s.requires n.before.if1.true n.number-at.ensures c.if2.true
+    minus_zero s.args.text.now s.args.at s.requires n.before.if-text-at-eq45.true n.number_at-n.ensures c.if-n-eq0.true
 
-returns_2 : tie.Need-returns-2
+returns_2 : tie.Need-returns-then-text-at-eq45
 returns_2 c =
     let n = c.before.before in
     let s = start n.before in
-    minus_some s.args.text.now s.args.at s.requires n.before.if1.true n.number-at.ensures c.if2.false
+    minus_some s.args.text.now s.args.at s.requires n.before.if-text-at-eq45.true n.number_at-n.ensures c.if-n-eq0.false
 
-returns_3 : tie.Need-returns-3
+returns_3 : tie.Need-returns
 returns_3 c =
-    let n = c.number-at2.ensures in
+    let n = c.number_at-n-2.ensures in
     let e = c.before in
     let s = e.before.before.before in
-    (plain s.args.text.now s.args.at s.requires e.if1.false n.0, n.1)
+    (plain s.args.text.now s.args.at s.requires e.if-text-at-eq45.false n.0, n.1)
 
 pub literal_at_spec : {M : Type 1} → statement M
 literal_at_spec =

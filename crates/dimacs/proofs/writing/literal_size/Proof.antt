@@ -6,19 +6,19 @@ use Rattle.dimacs.proofs.writing.literal_size.Statement.{statement}
 use Rattle.dimacs.proofs.writing.literal_size.Tie as tie
 
 -- what is known at the entry
-abbrev start : tie.After-natural-size → tie.Start
+abbrev start : tie.After-natural_size-size → tie.Start
 start n = n.before.before
 
 -- a negative literal has its sign besides
-with_sign : (c : tie.Then1) → length (literal (start c.before).args.l) ≡ c.before.natural-size.result + 1
+with_sign : (c : tie.Then-l-lt0) → length (literal (start c.before).args.l) ≡ c.before.natural_size-size.result + 1
 with_sign c =
     let n = c.before in
-    omega (arith, n.natural-size.ensures, ap length (literal_neg (start n).ranges.l _ n.before.symbol.ensures c.if1.true))
+    omega (arith, n.natural_size-size.ensures, ap length (literal_neg (start n).ranges.l _ n.before.symbol-n.ensures c.if-l-lt0.true))
 
-returns_2 : tie.Need-returns-2
+returns_2 : tie.Need-returns
 returns_2 c =
     let n = c.before in
-    omega (arith, n.natural-size.ensures, ap length (literal_pos (start n).ranges.l _ n.before.symbol.ensures c.if1.false))
+    omega (arith, n.natural_size-size.ensures, ap length (literal_pos (start n).ranges.l _ n.before.symbol-n.ensures c.if-l-lt0.false))
 
 pub literal_size_spec : {M : Type 1} → statement M
 literal_size_spec = tie.close (tie.spec

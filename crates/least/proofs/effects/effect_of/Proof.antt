@@ -8,7 +8,7 @@ use Rattle.least.proofs.effects.effect_of.Statement.{statement}
 use Rattle.least.proofs.effects.effect_of.Tie as tie
 
 -- where blame was asked, and where the call began
-abbrev asked : tie.After-marks3 → tie.After-blame
+abbrev asked : tie.After-marks-in-Done-1 → tie.After-blame
 asked c = c.before.before.before.before
 
 abbrev start : tie.After-blame → tie.Start
@@ -28,26 +28,26 @@ unmarked = replicate 400 0
 marked_requires : tie.Need-marked-requires
 marked_requires c κs =
     let s = start (asked c) in
-    let long = (asked c).blame.auto.1.1.1.0 in
+    let long = (asked c).blame.auto.marks in
     (s.requires.1.0, subst (λ (n : ℕ). all (λ p. ltb p n) s.args.places.now ≡ true) (sym long) (low s))
 
-returns : tie.Need-returns
+returns : tie.Need-returns-in-Done
 returns c =
     let b = asked c.before in
     let t = b.before.before in
     let s = start b in
     let a = s.args in
     leaves_told a.table.now a.board a.furnace a.places.now a.set s.requires.0.0 s.requires.0.1 s.requires.1.1 unmarked refl
-    t.struck-off.ensures b.blame.ensures.0 c.before.before.enum_told.given.1 b.blame.ensures.1 c.marked.ensures
+    t.struck_off.ensures b.blame.ensures.0 c.before.before.enum_told-1.given.1 b.blame.ensures.1 c.marked.ensures
 
-returns_2 : tie.Need-returns-2
+returns_2 : tie.Need-returns-in-Refused
 returns_2 c =
     let b = c.before.before.before in
     let t = b.before.before in
     let s = start b in
     let a = s.args in
     ends_told a.table.now a.board a.furnace a.places.now a.set s.requires.0.0 s.requires.0.1 s.requires.1.1 unmarked refl
-    t.struck-off.ensures b.blame.ensures.0 c.enum-told2.given.1
+    t.struck_off.ensures b.blame.ensures.0 c.enum_told-in-Refused-1.given.1
 
 pub effect_of_spec : {M : Type 1} → statement M
 effect_of_spec = tie.close (tie.spec

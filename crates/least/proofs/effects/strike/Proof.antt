@@ -7,28 +7,28 @@ use Rattle.candidates.proofs.Places.{low_at}
 use Rattle.least.proofs.effects.strike.Statement.{statement}
 use Rattle.least.proofs.effects.strike.Tie as tie
 
-abbrev invariant_loop : tie.invariant-loop
+abbrev invariant_loop : tie.invariant-loop-i
 invariant_loop places set left₀ rest₀ i₀ left rest i =
     (i ≤ length places) × (struck_off left (chosen (drop i places) rest) ≡ struck_off left₀ (chosen places set))
 
-abbrev decreases_loop : tie.decreases-loop
+abbrev decreases_loop : tie.decreases-loop-i
 decreases_loop places set left₀ rest₀ i₀ left rest i = length places - i
 
-loop_again : tie.Need-loop-preserved invariant_loop decreases_loop
+loop_again : tie.Need-loop-i-preserved invariant_loop decreases_loop
 loop_again c =
     let l = c.before.before in (
       omega arith,
-      marked_turn l.before.args.places.now l.loop.i l.loop.rest struck_off false (λ h p ps. refl) (omega arith) l.loop.invariant.1
-          (⊎_elim (λ w. inl (w.0.true, w.2)) (λ w. inr (w.0.false, w.1)) c.if1.branch),
+      marked_turn l.before.args.places.now l.loop-i.i l.loop-i.rest struck_off false (λ h p ps. refl) (omega arith) l.loop-i.invariant.1
+          (⊎_elim (λ w. inl (w.0.true, w.2)) (λ w. inr (w.0.false, w.1)) c.if-rest-eq1.branch),
     )
 
 returns : tie.Need-returns invariant_loop decreases_loop
 returns c =
     let l = c.before in
-    sym (ap (struck_off l.loop.false) (chosen_end l.before.args.places.now l.loop.i l.loop.rest (omega arith))) ∙ l.loop.invariant.1
+    sym (ap (struck_off l.loop-i.false) (chosen_end l.before.args.places.now l.loop-i.i l.loop-i.rest (omega arith))) ∙ l.loop-i.invariant.1
 
 pub strike_spec : {M : Type 1} → statement M
 strike_spec = tie.close (tie.spec
     invariant_loop decreases_loop (λ c. (omega arith, refl)) (λ c. omega arith) (λ c. omega arith)
-    (λ c. (let l = c.before.before.before in omega (arith, low_at 400 l.before.args.places.now l.loop.i l.before.requires (omega arith))))
+    (λ c. (let l = c.before.before.before in omega (arith, low_at 400 l.before.args.places.now l.loop-i.i l.before.requires (omega arith))))
     (λ c. omega arith) (λ c. omega arith) loop_again returns)

@@ -4,12 +4,12 @@ use lib.Seq.{set_out}
 use Rattle.least.proofs.search.keep.Statement.{statement}
 use Rattle.least.proofs.search.keep.Tie as tie
 
-returns : tie.Need-returns
+returns : tie.Need-returns-then-known-cores
 returns c =
     let a = c.before.args in
-    (sym (ap (λ (t : Bool). cond t (a.known + 1) a.known) (lt-ltb a.known (length a.cores.now) c.if1.true)), refl)
+    (sym (ap (λ (t : Bool). cond t (a.known + 1) a.known) (lt-ltb a.known (length a.cores.now) c.if-known-cores.true)), refl)
 
-returns_2 : tie.Need-returns-2
+returns_2 : tie.Need-returns
 returns_2 c =
     let a = c.before.args in (
       sym (ap (λ (t : Bool). cond t (a.known + 1) a.known) (le-ltb a.known (length a.cores.now) (omega arith))),

@@ -12,59 +12,59 @@ use Rattle.least.proofs.Turns.{passed_over, size_begun, size_searched, searched_
 use Rattle.least.proofs.search.search_size.Statement.{statement}
 use Rattle.least.proofs.search.search_size.Tie as tie
 
-abbrev invariant_loop : tie.invariant-loop
+abbrev invariant_loop : tie.invariant-loop-set
 invariant_loop board table furnace places k known cores₀ n last kept₀ set₀ cores kept set =
     (length cores ≡ length cores₀)
     × Searched (ends (2 * board.symbols) (rows_on table board) (held_by board furnace) places) (length places) k set kept cores
 
-abbrev decreases_loop : tie.decreases-loop
+abbrev decreases_loop : tie.decreases-loop-set
 decreases_loop board table furnace places k known cores₀ n last kept₀ set₀ cores kept set = suc last - set
 
-abbrev start : tie.At-loop invariant_loop decreases_loop → tie.Start invariant_loop decreases_loop
+abbrev start : tie.At-loop-set invariant_loop decreases_loop → tie.Start invariant_loop decreases_loop
 start c = c.before.before.before.before.before.before
 
-abbrev begun : tie.After-power2 invariant_loop decreases_loop → tie.Start invariant_loop decreases_loop
+abbrev begun : tie.After-power-2 invariant_loop decreases_loop → tie.Start invariant_loop decreases_loop
 begun c = c.before.before.before.before
 
-abbrev tried : tie.Then2 invariant_loop decreases_loop → tie.After-try-set invariant_loop decreases_loop
+abbrev tried : tie.Then-tried invariant_loop decreases_loop → tie.After-try_set-tried invariant_loop decreases_loop
 tried c = c.before.before.before.before
 
 abbrev test : tie.Start invariant_loop decreases_loop → ℕ → Bool
 test s = let a = s.args in ends (2 * a.board.symbols) (rows_on a.table.now a.board) (held_by a.board a.furnace) a.places.now
 
 -- a set that is tried has k candidates
-abbrev worth : tie.After-worth-trying invariant_loop decreases_loop → tie.At-loop invariant_loop decreases_loop
+abbrev worth : tie.After-worth_trying invariant_loop decreases_loop → tie.At-loop-set invariant_loop decreases_loop
 worth w = w.before.before.before
 
-has_k : (c : tie.Then1 invariant_loop decreases_loop) → let l = worth c.before in let a = (start l).args in size (length a.places.now) l.loop.set ≡ a.k
+has_k : (c : tie.Then-worth_trying invariant_loop decreases_loop) → let l = worth c.before in let a = (start l).args in size (length a.places.now) l.loop-set.set ≡ a.k
 has_k c =
     let l = worth c.before in
     let a = (start l).args in
     let n = length a.places.now in
-    eqb-true (size n l.loop.set) a.k
-    (both_true (eqb (size n l.loop.set) a.k) (not (misses_one (take l.loop.kept l.loop.cores) l.loop.set))
-    (sym c.before.worth-trying.ensures ∙ c.if1.true)).0
+    eqb-true (size n l.loop-set.set) a.k
+    (both_true (eqb (size n l.loop-set.set) a.k) (not (misses_one (take l.loop-set.kept l.loop-set.cores-1) l.loop-set.set))
+    (sym c.before.worth_trying.ensures ∙ c.if-worth_trying.true)).0
 
 -- the last of those sets, in the powers that code computes
-last_is : (l : tie.At-loop invariant_loop decreases_loop) → let a = (start l).args in let n = length a.places.now in
-    l.before.before.before.power.result - l.before.before.power2.result ≡ 2 ^ n - 2 ^ (n - a.k)
-last_is l = omega (arith, l.before.before.before.power.ensures, l.before.before.power2.ensures)
+last_is : (l : tie.At-loop-set invariant_loop decreases_loop) → let a = (start l).args in let n = length a.places.now in
+    l.before.before.before.power.result - l.before.before.power-2.result ≡ 2 ^ n - 2 ^ (n - a.k)
+last_is l = omega (arith, l.before.before.before.power.ensures, l.before.before.power-2.ensures)
 
-below : (i : tie.In-loop invariant_loop decreases_loop) → i.before.loop.set < 2 ^ length (start i.before).args.places.now
+below : (i : tie.In-loop-set invariant_loop decreases_loop) → i.before.loop-set.set < 2 ^ length (start i.before).args.places.now
 below i =
     let l = i.before in
     let a = (start l).args in
     let n = length a.places.now in
-    omega (arith, i.loop-test.true, last_is l, one-le-pow (n - a.k) 2 (omega arith), one-le-pow n 2 (omega arith))
+    omega (arith, i.loop-set-test.true, last_is l, one-le-pow (n - a.k) 2 (omega arith), one-le-pow n 2 (omega arith))
 
-few : (i : tie.In-loop invariant_loop decreases_loop) → i.before.loop.set < 4096
+few : (i : tie.In-loop-set invariant_loop decreases_loop) → i.before.loop-set.set < 4096
 few i = let s = start i.before in omega (arith, below i, sets_few (length s.args.places.now) s.requires.1.0.0)
 
-past : (c : tie.After-loop invariant_loop decreases_loop) → let a = (start c.before).args in let n = length a.places.now in
-    2 ^ n - 2 ^ (n - a.k) < c.before.loop.set
-past c = omega (arith, c.loop-test.false, last_is c.before)
+past : (c : tie.After-loop-set invariant_loop decreases_loop) → let a = (start c.before).args in let n = length a.places.now in
+    2 ^ n - 2 ^ (n - a.k) < c.before.loop-set.set
+past c = omega (arith, c.loop-set-test.false, last_is c.before)
 
-try_set_requires : tie.Need-try-set-requires invariant_loop decreases_loop
+try_set_requires : tie.Need-try_set-tried-requires invariant_loop decreases_loop
 try_set_requires c κs =
     let t = c.before in
     let i = t.before.before.before in
@@ -74,65 +74,65 @@ try_set_requires c κs =
       s.requires.0,
       (
         (s.requires.1.0.0, s.requires.1.0.1, below i),
-        subst (λ (j : ℕ). Searched (test s) n j l.loop.set l.loop.auto l.loop.cores) (sym (has_k t)) l.loop.invariant.1,
+        subst (λ (j : ℕ). Searched (test s) n j l.loop-set.set l.loop-set.auto l.loop-set.cores-1) (sym (has_k t)) l.loop-set.invariant.1,
       ),
     )
 
-fewer : (c : tie.After-power2 invariant_loop decreases_loop) → let a = (begun c).args in let n = length a.places.now in
+fewer : (c : tie.After-power-2 invariant_loop decreases_loop) → let a = (begun c).args in let n = length a.places.now in
     2 ^ (n - a.k) ≤ 2 ^ n
 fewer c =
     let a = (begun c).args in
     let n = length a.places.now in
     let less : n - a.k ≤ n = omega arith in pow_mono less
 
-loop_holds : tie.Need-loop-init invariant_loop decreases_loop
+loop_holds : tie.Need-loop-set-init invariant_loop decreases_loop
 loop_holds c =
     let s = begun c.before in
     let a = s.args in
     let n = length a.places.now in (
       refl,
-      subst (λ (j : ℕ). Searched (test s) n a.k (j - 1) a.known a.cores.now) (sym c.power3.ensures)
-          (size_begun (test s) n a.k a.known a.cores.now s.requires.1.1),
+      subst (λ (j : ℕ). Searched (test s) n a.k (j - 1) a.known a.cores-1.now) (sym c.power-set.ensures)
+          (size_begun (test s) n a.k a.known a.cores-1.now s.requires.1.1),
     )
 
-returns : tie.Need-returns invariant_loop decreases_loop
-returns c = ⊎_elim (λ x. absurd (c.if2.true x.0)) (λ x. inr x) (tried c).try-set.ensures
+returns : tie.Need-returns-then-tried invariant_loop decreases_loop
+returns c = ⊎_elim (λ x. absurd (c.if-tried.true x.0)) (λ x. inr x) (tried c).try_set-tried.ensures
 
-loop_again : tie.Need-loop-preserved invariant_loop decreases_loop
+loop_again : tie.Need-loop-set-preserved invariant_loop decreases_loop
 loop_again c =
     let w = c.before in
     let l = worth w in
     let s = start l in
     ⊎_elim
     (λ t. (
-      ap length t.7 ∙ t.2.kept.1.1.1.1.1.1.0 ∙ l.loop.invariant.0,
+      ap length t.7 ∙ t.2.kept.1.1.1.1.1.1.0 ∙ l.loop-set.invariant.0,
       searched_as (has_k record { before = w; if1 = t.0 }) t.7 t.8
           (⊎_elim (λ x. x.1) (λ x. absurd (omega (arith, x.0, x.1, t.6.false))) t.2.ensures),
     ))
     (λ t. (
-      ap length t.1 ∙ l.loop.invariant.0,
+      ap length t.1 ∙ l.loop-set.invariant.0,
       searched_as refl t.1 t.2
-          (passed_over (test s) (length s.args.places.now) s.args.k l.loop.set l.loop.kept l.loop.cores l.loop.invariant.1
-          (sym w.worth-trying.ensures ∙ t.0.false)),
+          (passed_over (test s) (length s.args.places.now) s.args.k l.loop-set.set l.loop-set.kept l.loop-set.cores-1 l.loop-set.invariant.1
+          (sym w.worth_trying.ensures ∙ t.0.false)),
     ))
-    c.if1.branch
+    c.if-worth_trying.branch
 
-returns_2 : tie.Need-returns-2 invariant_loop decreases_loop
+returns_2 : tie.Need-returns invariant_loop decreases_loop
 returns_2 c =
     let l = c.before in
     let s = start l in
     let n = length s.args.places.now in
     let end = past c in
-    inl (refl, size_searched (test s) n s.args.k l.loop.auto l.loop.cores l.loop.set end l.loop.invariant.1)
+    inl (refl, size_searched (test s) n s.args.k l.loop-set.auto l.loop-set.cores-1 l.loop-set.set end l.loop-set.invariant.1)
 
 pub search_size_spec : {M : Type 1} → statement M
 search_size_spec = tie.close (tie.spec
     invariant_loop decreases_loop (λ c κs. c.before.before.requires.1.0.0) (λ c. omega (arith, c.before.before.before.requires.1.0.2))
-    (λ c κs. omega (arith, c.before.before.before.requires.1.0.0)) (λ c. omega (arith, c.power2.ensures, c.before.power.ensures, fewer c))
+    (λ c κs. omega (arith, c.before.before.before.requires.1.0.0)) (λ c. omega (arith, c.power-2.ensures, c.before.power.ensures, fewer c))
     (λ c κs. omega (arith, (begun c).requires.1.0))
-    (λ c. omega (arith, c.power3.ensures, one-le-pow (begun c.before).args.k 2 (omega arith))) loop_holds
-    (λ c. c.before.loop.invariant.1.room) (λ c. sym (length-take-le _ _ c.before.before.loop.invariant.1.room))
+    (λ c. omega (arith, c.power-set.ensures, one-le-pow (begun c.before).args.k 2 (omega arith))) loop_holds
+    (λ c. c.before.loop-set.invariant.1.room) (λ c. sym (length-take-le _ _ c.before.before.loop-set.invariant.1.room))
     (λ c κs. (start c.before.before).requires.1.0.0) try_set_requires (λ c. omega arith)
-    (λ c. (let z = tried c in z.try-set.kept.1.1.1.1.1.1.0 ∙ (worth z.before.before.before).loop.invariant.0))
-    returns (λ c. omega (arith, few c.before.before.before)) (λ c. omega arith) loop_again (λ c. omega arith) (λ c. c.before.loop.invariant.0)
+    (λ c. (let z = tried c in z.try_set-tried.kept.1.1.1.1.1.1.0 ∙ (worth z.before.before.before).loop-set.invariant.0))
+    returns (λ c. omega (arith, few c.before.before.before)) (λ c. omega arith) loop_again (λ c. omega arith) (λ c. c.before.loop-set.invariant.0)
     returns_2)

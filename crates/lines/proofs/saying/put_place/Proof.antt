@@ -6,27 +6,27 @@ use Rattle.lines.proofs.saying.put_place.Statement.{statement}
 use Rattle.lines.proofs.saying.put_place.Tie as tie
 
 -- the refusal's number, and that it is 2 at least after the first test
-abbrev number : tie.After-number → ℕ
+abbrev number : tie.After-number-number → ℕ
 number n = number_of n.before.before.args.why
 
-some : (e : tie.Else1) → leb 2 (number e.before) ≡ true
-some e = le-leb 2 (number e.before) (omega (arith, e.before.number.ensures, e.if1.false))
+some : (e : tie.Else-number-lt2) → leb 2 (number e.before) ≡ true
+some e = le-leb 2 (number e.before) (omega (arith, e.before.number-number.ensures, e.if-number-lt2.false))
 
-returns : tie.Need-returns
-returns c = rw (lt-leb 2 (number c.before) (omega (arith, c.before.number.ensures, c.if1.true))) (put_none _ _, omega arith)
+returns : tie.Need-returns-then-number-lt2
+returns c = rw (lt-leb 2 (number c.before) (omega (arith, c.before.number-number.ensures, c.if-number-lt2.true))) (put_none _ _, omega arith)
 
-returns_2 : tie.Need-returns-2
+returns_2 : tie.Need-returns-then-number-gt6
 returns_2 c =
     let n = c.before.before in
-    rw (some c.before, lt-leb (number n) 6 (omega (arith, n.number.ensures, c.if2.true))) (put_none _ _, omega arith)
+    rw (some c.before, lt-leb (number n) 6 (omega (arith, n.number-number.ensures, c.if-number-gt6.true))) (put_none _ _, omega arith)
 
-returns_3 : tie.Need-returns-3
+returns_3 : tie.Need-returns
 returns_3 c =
     let p = c.before.before in
     let f = p.before.before.before in
     let n = f.before.before in
-    let e = p.put-named.ensures in
-    rw (some f.before, le-leb (number n) 6 (omega (arith, n.number.ensures, f.if2.false))) (e.0, omega (arith, e.1))
+    let e = p.put_named.ensures in
+    rw (some f.before, le-leb (number n) 6 (omega (arith, n.number-number.ensures, f.if-number-gt6.false))) (e.0, omega (arith, e.1))
 
 pub put_place_spec : {M : Type 1} → statement M
 put_place_spec = tie.close (tie.spec

@@ -7,8 +7,8 @@ returns : tie.Need-returns
 returns c =
     let p = c.before.before in
     let n = p.before.before.before in
-    let e = p.put-named.ensures in
-    (record { board = refl; used = refl; stops = rw n.number.ensures; put = rw n.number.ensures at e.0 }, omega arith)
+    let e = p.put_named-written.ensures in
+    (record { board = refl; used = refl; stops = rw n.number-number.ensures; put = rw n.number-number.ensures at e.0 }, omega arith)
 
 pub refuse_spec : {M : Type 1} → statement M
 refuse_spec = tie.close (tie.spec

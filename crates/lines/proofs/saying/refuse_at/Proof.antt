@@ -8,10 +8,10 @@ returns : tie.Need-returns
 returns c =
     let p = c.before.before.before in
     let a = p.before in
-    let e = a.before.before.before.refuse.ensures in
+    let e = a.before.before.before.refuse-told.ensures in
     let told = e.0 in (
-      record { board = told.board; used = told.used; stops = told.stops; put = put_put _ _ told.put p.put-place.ensures.0 },
-      omega (arith, e.1, p.put-place.ensures.1),
+      record { board = told.board; used = told.used; stops = told.stops; put = put_put _ _ told.put p.put_place-written.ensures.0 },
+      omega (arith, e.1, p.put_place-written.ensures.1),
     )
 
 pub refuse_at_spec : {M : Type 1} → statement M

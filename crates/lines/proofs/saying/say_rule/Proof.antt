@@ -6,12 +6,12 @@ use Rattle.lines.proofs.saying.say_rule.Statement.{statement}
 use Rattle.lines.proofs.saying.say_rule.Tie as tie
 
 -- the formula's bytes are among those that are left
-size_most : (f : tie.After-formula-length) → f.formula-length.result ≤ length f.before.before.before.args.body.now
+size_most : (f : tie.After-formula_length-size) → f.formula_length-size.result ≤ length f.before.before.before.args.body.now
 size_most f =
     let a = f.before.before.before.args in
-    omega (arith, f.formula-length.ensures, formula_most a.board.symbols a.body.now)
+    omega (arith, f.formula_length-size.ensures, formula_most a.board.symbols a.body.now)
 
-abbrev measured : tie.After-add-rule → tie.After-formula-length
+abbrev measured : tie.After-add_rule-addition → tie.After-formula_length-size
 measured c = c.before.before.before
 
 returns : tie.Need-returns
@@ -19,9 +19,9 @@ unfolding command_table
 returns c =
     let y = c.before.before in
     let a = y.before.before.before in
-    let size = (measured a).formula-length.ensures in
-    let e = y.say-addition.ensures in
-    (rw (a.add-rule.ensures.0, size) at e.0, (rw size at a.add-rule.ensures.1, e.1))
+    let size = (measured a).formula_length-size.ensures in
+    let e = y.say_addition.ensures in
+    (rw (a.add_rule-addition.ensures.0, size) at e.0, (rw size at a.add_rule-addition.ensures.1, e.1))
 
 pub say_rule_spec : {M : Type 1} → statement M
 say_rule_spec = tie.close (tie.spec

@@ -6,58 +6,58 @@ use Rattle.names.proofs.Finding.{slot_ends, slot_part, found_here, found_nowhere
 use Rattle.names.proofs.slots.find.Statement.{statement}
 use Rattle.names.proofs.slots.find.Tie as tie
 
-abbrev invariant_loop : tie.invariant-loop
+abbrev invariant_loop : tie.invariant-loop-k
 invariant_loop slots width count word at₀ k₀ at k = (k ≤ count) × (at ≡ width * k) × ((i : ℕ) → i < k → fits (slot_at width i slots) word ≡ false)
 
-abbrev decreases_loop : tie.decreases-loop
+abbrev decreases_loop : tie.decreases-loop-k
 decreases_loop slots width count word at₀ k₀ at k = count - k
 
-abbrev start : tie.At-loop invariant_loop decreases_loop → tie.Start invariant_loop decreases_loop
+abbrev start : tie.At-loop-k invariant_loop decreases_loop → tie.Start invariant_loop decreases_loop
 start l = l.before.before.before
 
 -- where a slot is looked at
-abbrev at : tie.After-fits2 invariant_loop decreases_loop → tie.In-loop invariant_loop decreases_loop
+abbrev at : tie.After-fits2 invariant_loop decreases_loop → tie.In-loop-k invariant_loop decreases_loop
 at c = c.before.before
 
 -- it ends within the slots
-within : (c : tie.In-loop invariant_loop decreases_loop) → let a = (start c.before).args in c.before.loop.at + a.width ≤ length a.slots.now
+within : (c : tie.In-loop-k invariant_loop decreases_loop) → let a = (start c.before).args in c.before.loop-k.at + a.width ≤ length a.slots.now
 within c =
     let l = c.before in
     let s = start l in
-    omega (arith, slot_ends s.args.width l.loop.k s.args.count c.loop-test.true, l.loop.invariant.1, s.requires.0)
+    omega (arith, slot_ends s.args.width l.loop-k.k s.args.count c.loop-k-test.true, l.loop-k.invariant.1, s.requires.0)
 
 -- and this is told of it
 told : (c : tie.After-fits2 invariant_loop decreases_loop) → let l = (at c).before in let a = (start l).args in
-    c.fits2.result ≡ fits (slot_at a.width l.loop.k a.slots.now) a.word.now
+    c.fits2.result ≡ fits (slot_at a.width l.loop-k.k a.slots.now) a.word.now
 told c =
     let l = (at c).before in
     let a = (start l).args in
-    c.fits2.ensures ∙ ap (λ s. fits s a.word.now) (slot_part a.width l.loop.k l.loop.at a.slots.now l.loop.invariant.1)
+    c.fits2.ensures ∙ ap (λ s. fits s a.word.now) (slot_part a.width l.loop-k.k l.loop-k.at a.slots.now l.loop-k.invariant.1)
 
-returns : tie.Need-returns invariant_loop decreases_loop
+returns : tie.Need-returns-then-fits invariant_loop decreases_loop
 returns c =
     let t = at c.before in
     let l = t.before in
     let s = start l in
     let a = s.args in
-    found_here a.width a.count a.slots.now a.word.now s.requires.1 l.loop.k t.loop-test.true
-    (sym (told c.before) ∙ c.if1.true) l.loop.invariant.2
+    found_here a.width a.count a.slots.now a.word.now s.requires.1 l.loop-k.k t.loop-k-test.true
+    (sym (told c.before) ∙ c.if-fits.true) l.loop-k.invariant.2
 
-loop_again : tie.Need-loop-preserved invariant_loop decreases_loop
+loop_again : tie.Need-loop-k-preserved invariant_loop decreases_loop
 loop_again c =
     let l = (at c.before).before in
     let width = (start l).args.width in (
       omega arith,
-      ap (λ n. n + width) l.loop.invariant.1 ∙ sym (ap (λ n. width * n) (add-one l.loop.k) ∙ mul-suc width l.loop.k),
-      below_more _ _ l.loop.invariant.2 (sym (told c.before) ∙ c.if1.false),
+      ap (λ n. n + width) l.loop-k.invariant.1 ∙ sym (ap (λ n. width * n) (add-one l.loop-k.k) ∙ mul-suc width l.loop-k.k),
+      below_more _ _ l.loop-k.invariant.2 (sym (told c.before) ∙ c.if-fits.false),
     )
 
-returns_2 : tie.Need-returns-2 invariant_loop decreases_loop
+returns_2 : tie.Need-returns invariant_loop decreases_loop
 returns_2 c =
     let l = c.before in
     let s = start l in
     let a = s.args in
-    found_nowhere a.width a.count a.slots.now a.word.now s.requires.1 (λ i h. l.loop.invariant.2 i (omega arith))
+    found_nowhere a.width a.count a.slots.now a.word.now s.requires.1 (λ i h. l.loop-k.invariant.2 i (omega arith))
 
 pub find_spec : {M : Type 1} → statement M
 find_spec = tie.close (tie.spec

@@ -5,42 +5,42 @@ use Rattle.names.proofs.Fitting.{fits_short, fits_goes, fits_differs, fits_whole
 use Rattle.names.proofs.slots.fits.Statement.{statement}
 use Rattle.names.proofs.slots.fits.Tie as tie
 
-abbrev invariant_loop : tie.invariant-loop
+abbrev invariant_loop : tie.invariant-loop-k
 invariant_loop slot word k₀ k = (k ≤ length word) × (fits slot word ≡ fits (drop k slot) (drop k word))
 
-abbrev decreases_loop : tie.decreases-loop
+abbrev decreases_loop : tie.decreases-loop-k
 decreases_loop slot word k₀ k = length word - k
 
 -- where two bytes were looked at
-abbrev at : tie.After-shared-slice-known2 invariant_loop decreases_loop → tie.At-loop invariant_loop decreases_loop
+abbrev at : tie.After-shared_slice_known-in-loop-k-1 invariant_loop decreases_loop → tie.At-loop-k invariant_loop decreases_loop
 at c = c.before.before.before
 
-returns : tie.Need-returns invariant_loop decreases_loop
-returns c = let a = c.before.args in sym (fits_short a.slot.now a.word.now c.if1.true)
+returns : tie.Need-returns-then-slot-word invariant_loop decreases_loop
+returns c = let a = c.before.args in sym (fits_short a.slot.now a.word.now c.if-slot-word.true)
 
-returns_2 : tie.Need-returns-2 invariant_loop decreases_loop
+returns_2 : tie.Need-returns-then-slot-k invariant_loop decreases_loop
 returns_2 c =
     let l = at c.before in
     let a = l.before.before.args in
-    sym (l.loop.invariant.1 ∙ fits_differs a.slot.now a.word.now l.loop.k (omega arith) (omega arith) c.if2.true)
+    sym (l.loop-k.invariant.1 ∙ fits_differs a.slot.now a.word.now l.loop-k.k (omega arith) (omega arith) c.if-slot-k.true)
 
-loop_again : tie.Need-loop-preserved invariant_loop decreases_loop
+loop_again : tie.Need-loop-k-preserved invariant_loop decreases_loop
 loop_again c =
     let l = at c.before in
     let a = l.before.before.args in
-    (omega arith, l.loop.invariant.1 ∙ fits_goes a.slot.now a.word.now l.loop.k (omega arith) (omega arith) c.if2.false)
+    (omega arith, l.loop-k.invariant.1 ∙ fits_goes a.slot.now a.word.now l.loop-k.k (omega arith) (omega arith) c.if-slot-k.false)
 
-returns_3 : tie.Need-returns-3 invariant_loop decreases_loop
+returns_3 : tie.Need-returns-then-k-slot invariant_loop decreases_loop
 returns_3 c =
     let l = c.before.before in
     let a = l.before.before.args in
-    sym (l.loop.invariant.1 ∙ fits_whole a.slot.now a.word.now l.loop.k (omega arith) (omega arith))
+    sym (l.loop-k.invariant.1 ∙ fits_whole a.slot.now a.word.now l.loop-k.k (omega arith) (omega arith))
 
-returns_4 : tie.Need-returns-4 invariant_loop decreases_loop
+returns_4 : tie.Need-returns invariant_loop decreases_loop
 returns_4 c =
     let l = c.before.before.before in
     let a = l.before.before.args in
-    sym (l.loop.invariant.1 ∙ fits_over a.slot.now a.word.now l.loop.k (omega arith) (omega arith))
+    sym (l.loop-k.invariant.1 ∙ fits_over a.slot.now a.word.now l.loop-k.k (omega arith) (omega arith))
 
 pub fits_spec : {M : Type 1} → statement M
 fits_spec = tie.close (tie.spec

@@ -5,33 +5,33 @@ use Rattle.names.proofs.Padding.{written, written_none, written_more, written_al
 use Rattle.names.proofs.slots.put.Statement.{statement}
 use Rattle.names.proofs.slots.put.Tie as tie
 
-abbrev invariant_loop : tie.invariant-loop
+abbrev invariant_loop : tie.invariant-loop-k
 invariant_loop slot₀ word k₀ slot k = (k ≤ length slot) × (length slot ≡ length slot₀) × (padded (length slot₀) word ≡ written slot word k)
 
-abbrev decreases_loop : tie.decreases-loop
+abbrev decreases_loop : tie.decreases-loop-k
 decreases_loop slot₀ word k₀ slot k = length slot₀ - k
 
 -- the byte that is written is the word's, or a zero where it has none
-byte : (c : tie.Joined1 invariant_loop decreases_loop) → let l = c.before.before in c.if1.slot ≡ get_or l.before.args.word.now l.loop.k 0
+byte : (c : tie.Joined-k-word invariant_loop decreases_loop) → let l = c.before.before in c.if-k-word.slot ≡ get_or l.before.args.word.now l.loop-k.k 0
 byte c =
     let l = c.before.before in
-    ⊎_elim (λ w. w.2) (λ w. w.1 ∙ sym (list_get_or_eq_default l.before.args.word.now 0 {n = l.loop.k} w.0.false)) c.if1.branch
+    ⊎_elim (λ w. w.2) (λ w. w.1 ∙ sym (list_get_or_eq_default l.before.args.word.now 0 {n = l.loop-k.k} w.0.false)) c.if-k-word.branch
 
-loop_again : tie.Need-loop-preserved invariant_loop decreases_loop
+loop_again : tie.Need-loop-k-preserved invariant_loop decreases_loop
 loop_again c =
     let at = c.before.before in
-    let l = at.loop in
+    let l = at.loop-k in
     let word = at.before.args.word.now in (
       simp length-set (omega arith),
       simp length-set l.invariant.1,
-      l.invariant.2 ∙ written_more l.slot word l.k c.before.loop-test.true
+      l.invariant.2 ∙ written_more l.slot word l.k c.before.loop-k-test.true
           ∙ ap (λ b. written (set l.slot l.k b) word (l.k + 1)) (sym (byte c)),
     )
 
 returns : tie.Need-returns invariant_loop decreases_loop
 returns c =
     let l = c.before in
-    sym (l.loop.invariant.2 ∙ written_all l.loop.slot l.before.args.word.now l.loop.k c.loop-test.false)
+    sym (l.loop-k.invariant.2 ∙ written_all l.loop-k.slot l.before.args.word.now l.loop-k.k c.loop-k-test.false)
 
 pub put_spec : {M : Type 1} → statement M
 put_spec = tie.close (tie.spec

@@ -6,41 +6,41 @@ use Rattle.orders.proofs.Rows.{rows_none, rows_step, rows_over}
 use Rattle.orders.proofs.marks.are_rows.Statement.{statement}
 use Rattle.orders.proofs.marks.are_rows.Tie as tie
 
-abbrev invariant_loop : tie.invariant-loop
+abbrev invariant_loop : tie.invariant-loop-k
 invariant_loop line from rows count k₀ k = (k ≤ rows) × (are_rows line from rows count ≡ are_rows line (from + k) (rows - k) count)
 
-abbrev decreases_loop : tie.decreases-loop
+abbrev decreases_loop : tie.decreases-loop-k
 decreases_loop line from rows count k₀ k = rows - k
 
 -- what is told of a word
-told : (c : tie.After-are-marks invariant_loop decreases_loop) → let l = c.before.before.before in let a = l.before.before.args in
-    c.are-marks.result ≡ are_marks a.count (word_at (a.from + l.loop.k) a.line.now)
-told c = rw (← c.before.word.ensures) c.are-marks.ensures
+told : (c : tie.After-are_marks invariant_loop decreases_loop) → let l = c.before.before.before in let a = l.before.before.args in
+    c.are_marks.result ≡ are_marks a.count (word_at (a.from + l.loop-k.k) a.line.now)
+told c = rw (← c.before.word.ensures) c.are_marks.ensures
 
 -- and so of the words from it on
-step : (c : tie.After-are-marks invariant_loop decreases_loop) → let l = c.before.before.before in let a = l.before.before.args in
+step : (c : tie.After-are_marks invariant_loop decreases_loop) → let l = c.before.before.before in let a = l.before.before.args in
     are_rows a.line.now a.from a.rows a.count
-    ≡ (c.are-marks.result && are_rows a.line.now (a.from + (l.loop.k + 1)) (a.rows - (l.loop.k + 1)) a.count)
+    ≡ (c.are_marks.result && are_rows a.line.now (a.from + (l.loop-k.k + 1)) (a.rows - (l.loop-k.k + 1)) a.count)
 step c =
     let i = c.before.before in
     let l = i.before in
     let a = l.before.before.args in
-    let k = l.loop.k in
-    l.loop.invariant.1
+    let k = l.loop-k.k in
+    l.loop-k.invariant.1
     ∙ rows_step a.line.now a.from a.rows k (k + 1) (add-one k) (omega arith) a.count
     ∙ ap (λ (b : Bool). b && are_rows a.line.now (a.from + (k + 1)) (a.rows - (k + 1)) a.count) (sym (told c))
 
-returns : tie.Need-returns invariant_loop decreases_loop
-returns c = sym (step c.before ∙ rw (not-true c.before.are-marks.result c.if1.true))
+returns : tie.Need-returns-then-not-are_marks invariant_loop decreases_loop
+returns c = sym (step c.before ∙ rw (not-true c.before.are_marks.result c.if-not-are_marks.true-raw))
 
-loop_again : tie.Need-loop-preserved invariant_loop decreases_loop
-loop_again c = (omega arith, step c.before ∙ rw (not-false c.before.are-marks.result c.if1.false))
+loop_again : tie.Need-loop-k-preserved invariant_loop decreases_loop
+loop_again c = (omega arith, step c.before ∙ rw (not-false c.before.are_marks.result c.if-not-are_marks.false-raw))
 
-returns_2 : tie.Need-returns-2 invariant_loop decreases_loop
+returns_2 : tie.Need-returns invariant_loop decreases_loop
 returns_2 c =
     let l = c.before in
     let a = l.before.before.args in
-    sym (l.loop.invariant.1 ∙ rows_over a.line.now (a.from + l.loop.k) a.rows l.loop.k a.count c.loop-test.false)
+    sym (l.loop-k.invariant.1 ∙ rows_over a.line.now (a.from + l.loop-k.k) a.rows l.loop-k.k a.count c.loop-k-test.false)
 
 pub are_rows_spec : {M : Type 1} → statement M
 are_rows_spec = tie.close (tie.spec

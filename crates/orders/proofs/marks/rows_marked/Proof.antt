@@ -8,48 +8,48 @@ use Rattle.orders.proofs.Rows.{marked_rows_none, marked_rows_step, marked_rows_a
 use Rattle.orders.proofs.marks.rows_marked.Statement.{statement}
 use Rattle.orders.proofs.marks.rows_marked.Tie as tie
 
-abbrev invariant_loop : tie.invariant-loop
+abbrev invariant_loop : tie.invariant-loop-k
 invariant_loop line from rows count value₀ k₀ value k = (k ≤ rows) × (value ≡ rows_marked line (from + k) (rows - k)) × (value < 128 ^ (rows - k))
 
-abbrev decreases_loop : tie.decreases-loop
+abbrev decreases_loop : tie.decreases-loop-k
 decreases_loop line from rows count value₀ k₀ value k = k
 
 -- at most six words were read before
-small : (c : tie.In-loop invariant_loop decreases_loop) → c.before.loop.value < 128 ^ 6
+small : (c : tie.In-loop-k invariant_loop decreases_loop) → c.before.loop-k.value < 128 ^ 6
 small c =
     let l = c.before in
-    omega (arith, l.loop.invariant.2, few_below 128 (l.before.before.args.rows - l.loop.k) 6 (omega arith) (omega arith))
+    omega (arith, l.loop-k.invariant.2, few_below 128 (l.before.before.args.rows - l.loop-k.k) 6 (omega arith) (omega arith))
 
-marked_by_requires : tie.Need-marked-by-requires invariant_loop decreases_loop
+marked_by_requires : tie.Need-marked_by-requires invariant_loop decreases_loop
 marked_by_requires c κs =
     let l = c.before.before in
     let s = l.before.before in
     let a = s.args in
-    let size = row_size a.line.now a.from a.rows a.count (l.loop.k - 1) s.requires.3 (omega arith) in
+    let size = row_size a.line.now a.from a.rows a.count (l.loop-k.k - 1) s.requires.3 (omega arith) in
     omega (arith, ap length c.word.ensures, size, s.requires.1)
 
 -- the word that is read
-pairs_are : (c : tie.After-marked-by invariant_loop decreases_loop) → let l = c.before.before.before in let a = l.before.before.args in
-    c.marked_by.result ≡ marked_by (word_at (a.from + (l.loop.k - 1)) a.line.now)
+pairs_are : (c : tie.After-marked_by invariant_loop decreases_loop) → let l = c.before.before.before in let a = l.before.before.args in
+    c.marked_by.result ≡ marked_by (word_at (a.from + (l.loop-k.k - 1)) a.line.now)
 pairs_are c = c.marked_by.ensures.0 ∙ ap marked_by c.before.word.ensures
 
-loop_again : tie.Need-loop-preserved invariant_loop decreases_loop
+loop_again : tie.Need-loop-k-preserved invariant_loop decreases_loop
 loop_again c =
     let l = c.before.before.before in
     let a = l.before.before.args in
-    let k = l.loop.k in
-    let left : a.rows - (k - 1) ≡ suc (a.rows - k) = omega (arith, l.loop.invariant.0) in (
+    let k = l.loop-k.k in
+    let left : a.rows - (k - 1) ≡ suc (a.rows - k) = omega (arith, l.loop-k.invariant.0) in (
       omega arith,
-      omega (arith, l.loop.invariant.1, pairs_are c, marked_rows_step a.line.now a.from a.rows (k - 1) k (omega arith) (omega arith)),
-      rw left (grown_below 128 (a.rows - k) l.loop.value c.marked_by.result l.loop.invariant.2 c.marked_by.ensures.1),
+      omega (arith, l.loop-k.invariant.1, pairs_are c, marked_rows_step a.line.now a.from a.rows (k - 1) k (omega arith) (omega arith)),
+      rw left (grown_below 128 (a.rows - k) l.loop-k.value c.marked_by.result l.loop-k.invariant.2 c.marked_by.ensures.1),
     )
 
 returns : tie.Need-returns invariant_loop decreases_loop
 returns c =
     let l = c.before in
     let a = l.before.before.args in
-    let none : l.loop.k ≡ 0 = omega arith in
-    l.loop.invariant.1
+    let none : l.loop-k.k ≡ 0 = omega arith in
+    l.loop-k.invariant.1
     ∙ ap (λ (k : ℕ). rows_marked a.line.now (a.from + k) (a.rows - k)) none
     ∙ marked_rows_all a.line.now a.from a.rows
 

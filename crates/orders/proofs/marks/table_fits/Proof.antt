@@ -7,42 +7,42 @@ use Rattle.orders.proofs.marks.table_fits.Statement.{statement}
 use Rattle.orders.proofs.marks.table_fits.Tie as tie
 
 -- where the first test is passed, and where the call began
-abbrev start : tie.Else1 → tie.Start
+abbrev start : tie.Else-not-has_count → tie.Start
 start c = c.before.before.before
 
-returns : tie.Need-returns
+returns : tie.Need-returns-then-not-has_count
 unfolding table_fits
-returns c = rw (sym c.before.has-count.ensures ∙ not-true _ c.if1.true)
+returns c = rw (sym c.before.has_count.ensures ∙ not-true _ c.if-not-has_count.true-raw)
 
 -- the first valve has a right number of positions
-rows_right : (c : tie.Else1) → has_count (start c).args.rows ≡ true
-rows_right c = sym c.before.has-count.ensures ∙ not-false _ c.if1.false
+rows_right : (c : tie.Else-not-has_count) → has_count (start c).args.rows ≡ true
+rows_right c = sym c.before.has_count.ensures ∙ not-false _ c.if-not-has_count.false-raw
 
-returns_2 : tie.Need-returns-2
+returns_2 : tie.Need-returns-then-not-has_count-2
 unfolding table_fits
-returns_2 c = rw (rows_right c.before.before, sym c.before.has-count2.ensures ∙ not-true _ c.if2.true)
+returns_2 c = rw (rows_right c.before.before, sym c.before.has_count-2.ensures ∙ not-true _ c.if-not-has_count-2.true-raw)
 
 -- and the second
-count_right : (c : tie.Else2) → has_count (start c.before.before).args.count ≡ true
-count_right c = sym c.before.has-count2.ensures ∙ not-false _ c.if2.false
+count_right : (c : tie.Else-not-has_count-2) → has_count (start c.before.before).args.count ≡ true
+count_right c = sym c.before.has_count-2.ensures ∙ not-false _ c.if-not-has_count-2.false-raw
 
-few : (c : tie.Else1) → (start c).args.rows ≤ 7
+few : (c : tie.Else-not-has_count) → (start c).args.rows ≤ 7
 few c = count_few (start c).args.rows (rows_right c)
 
-returns_3 : tie.Need-returns-3
+returns_3 : tie.Need-returns-then-not-ends_at
 unfolding table_fits
 returns_3 c =
     let e = c.before in
     let r = e.before in
-    rw (rows_right r.before.before, count_right r, sym e.ends_at.ensures ∙ not-true _ c.if3.true)
+    rw (rows_right r.before.before, count_right r, sym e.ends_at.ensures ∙ not-true _ c.if-not-ends_at.true-raw)
 
-returns_4 : tie.Need-returns-4
+returns_4 : tie.Need-returns
 unfolding table_fits
 returns_4 c =
     let t = c.before in
     let e = t.before in
     let r = e.before in
-    c.are-rows.ensures ∙ rw (rows_right r.before.before, count_right r, sym e.ends_at.ensures ∙ not-false _ t.if3.false)
+    c.are_rows.ensures ∙ rw (rows_right r.before.before, count_right r, sym e.ends_at.ensures ∙ not-false _ t.if-not-ends_at.false-raw)
 
 pub table_fits_spec : {M : Type 1} → statement M
 table_fits_spec = tie.close (tie.spec

@@ -4,9 +4,9 @@ use Rattle.orders.proofs.order.order_at.Statement.{statement}
 use Rattle.orders.proofs.order.order_at.Tie as tie
 
 -- a slot beyond the table
-returns_22 : tie.Need-returns-22
+returns_22 : tie.Need-returns-in_default
 returns_22 c =
-    let other = c.match.rest in
+    let other = c.in_default.rest in
     simp (
       ne_eqb _ 0 other.0.0.0.0.0.0.0.0.0.0.0.0.0.0.0.0.0.0.0.0.1,
       ne_eqb _ 1 other.0.0.0.0.0.0.0.0.0.0.0.0.0.0.0.0.0.0.0.1,
@@ -33,8 +33,8 @@ returns_22 c =
 
 pub order_at_spec : {M : Type 1} → statement M
 order_at_spec = tie.close (tie.spec
-    (λ c. rw c.match.keys1) (λ c. rw c.match.keys2) (λ c. rw c.match.keys3) (λ c. rw c.match.keys4) (λ c. rw c.match.keys5)
-    (λ c. rw c.match.keys6) (λ c. rw c.match.keys7) (λ c. rw c.match.keys8) (λ c. rw c.match.keys9) (λ c. rw c.match.keys10)
-    (λ c. rw c.match.keys11) (λ c. rw c.match.keys12) (λ c. rw c.match.keys13) (λ c. rw c.match.keys14) (λ c. rw c.match.keys15)
-    (λ c. rw c.match.keys16) (λ c. rw c.match.keys17) (λ c. rw c.match.keys18) (λ c. rw c.match.keys19) (λ c. rw c.match.keys20)
-    (λ c. rw c.match.keys21) returns_22)
+    (λ c. rw c.in_default.keys1) (λ c. rw c.in_default.keys2) (λ c. rw c.in_default.keys3) (λ c. rw c.in_default.keys4) (λ c. rw c.in_default.keys5)
+    (λ c. rw c.in_default.keys6) (λ c. rw c.in_default.keys7) (λ c. rw c.in_default.keys8) (λ c. rw c.in_default.keys9) (λ c. rw c.in_default.keys10)
+    (λ c. rw c.in_default.keys11) (λ c. rw c.in_default.keys12) (λ c. rw c.in_default.keys13) (λ c. rw c.in_default.keys14) (λ c. rw c.in_default.keys15)
+    (λ c. rw c.in_default.keys16) (λ c. rw c.in_default.keys17) (λ c. rw c.in_default.keys18) (λ c. rw c.in_default.keys19) (λ c. rw c.in_default.keys20)
+    (λ c. rw c.in_default.keys21) returns_22)

@@ -6,27 +6,27 @@ use Rattle.orders.proofs.order.order_of.Statement.{statement}
 use Rattle.orders.proofs.order.order_of.Tie as tie
 
 -- where the first byte is read, and where the call began
-abbrev start : tie.Else2 → tie.Start
+abbrev start : tie.Else-word-eq35 → tie.Start
 start c = c.before.before.before.before
 
-returns : tie.Need-returns
-returns c = order_of_none _ c.if1.true
+returns : tie.Need-returns-then-word-eq0
+returns c = order_of_none _ c.if-word-eq0.true
 
-returns_2 : tie.Need-returns-2
-returns_2 c = order_of_remark _ (omega arith) c.if2.true
+returns_2 : tie.Need-returns-then-word-eq35
+returns_2 c = order_of_remark _ (omega arith) c.if-word-eq35.true
 
-returns_3 : tie.Need-returns-3
+returns_3 : tie.Need-returns-then-run-word
 returns_3 c =
     let r = c.before in
-    order_unknown (start r.before).args.word.now (omega arith) r.before.if2.false (λ e. c.if3.true (r.run.ensures ∙ e))
+    order_unknown (start r.before).args.word.now (omega arith) r.before.if-word-eq35.false (λ e. c.if-run-word.true (r.run.ensures ∙ e))
 
-returns_4 : tie.Need-returns-4
+returns_4 : tie.Need-returns
 returns_4 c =
     let known = c.before.before in
     let r = known.before in
-    c.order-at.ensures
-    ∙ ap order_at c.before.slot-of-order.ensures
-    ∙ order_in_table (start r.before).args.word.now (omega arith) r.before.if2.false (sym r.run.ensures ∙ known.if3.false)
+    c.order_at.ensures
+    ∙ ap order_at c.before.slot_of_order.ensures
+    ∙ order_in_table (start r.before).args.word.now (omega arith) r.before.if-word-eq35.false (sym r.run.ensures ∙ known.if-run-word.false)
 
 pub order_of_spec : {M : Type 1} → statement M
 order_of_spec = tie.close (tie.spec returns (λ c. omega arith) returns_2 (λ c κs. tt) returns_3 (λ c κs. tt) (λ c κs. tt) returns_4)

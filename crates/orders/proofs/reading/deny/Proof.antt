@@ -5,17 +5,17 @@ use Rattle.orders.proofs.Literals.{number_fits, opposite_fits, narrow_number, de
 use Rattle.orders.proofs.reading.deny.Statement.{statement}
 use Rattle.orders.proofs.reading.deny.Tie as tie
 
-cast_t5 : tie.Need-overflow-cast-t5
-cast_t5 c = number_fits _ (narrow_number c.before.found.given.1 c.before.before.before.requires)
+cast_t5 : tie.Need-overflow_cast-result
+cast_t5 c = number_fits _ (narrow_number c.before.found-1.given.1 c.before.before.before.requires)
 
-sub_t6 : tie.Need-overflow-sub-t6
-sub_t6 c = opposite_fits _ (narrow_number c.before.found.given.1 c.before.before.before.requires)
+sub_t6 : tie.Need-overflow_sub-result
+sub_t6 c = opposite_fits _ (narrow_number c.before.found-1.given.1 c.before.before.before.requires)
 
-returns : tie.Need-returns
-returns c = denied_is c.before.found.given.1 c.before.before.before.requires
+returns : tie.Need-returns-in-Of
+returns c = denied_is c.before.found-1.given.1 c.before.before.before.requires
 
-returns_2 : tie.Need-returns-2
-returns_2 c = ap denied (sym c.before.found2.given.1)
+returns_2 : tie.Need-returns-in-Not
+returns_2 c = ap denied (sym c.before.found-in-Not-1.given.1)
 
 pub deny_spec : {M : Type 1} → statement M
 deny_spec = tie.close (tie.spec (λ c. search rules) cast_t5 sub_t6 (λ c. search rules) returns returns_2)

@@ -7,28 +7,28 @@ use Rattle.orders.proofs.reading.literal_in.Statement.{statement}
 use Rattle.orders.proofs.reading.literal_in.Tie as tie
 
 -- where there is a first byte, and where the call began
-abbrev start : tie.Else1 → tie.Start
+abbrev start : tie.Else-word-eq0 → tie.Start
 start c = c.before.before.before
 
-returns : tie.Need-returns
-returns c = literal_of_none _ _ c.if1.true
+returns : tie.Need-returns-then-word-eq0
+returns c = literal_of_none _ _ c.if-word-eq0.true
 
-returns_2 : tie.Need-returns-2
+returns_2 : tie.Need-returns-then-word-eq45
 returns_2 c =
     let t = c.before.before.before in
     let a = (start t.before.before).args in
     c.deny.ensures
-    ∙ ap denied (c.before.symbol-in.ensures ∙ ap (symbol_in a.names.now) (onward_drop 1 a.word.now))
-    ∙ literal_denied a.names.now a.word.now (omega arith) t.if2.true
+    ∙ ap denied (c.before.symbol_in.ensures ∙ ap (symbol_in a.names.now) (onward_drop 1 a.word.now))
+    ∙ literal_denied a.names.now a.word.now (omega arith) t.if-word-eq45.true
 
-returns_3 : tie.Need-returns-3
+returns_3 : tie.Need-returns
 returns_3 c =
     let t = c.before.before in
     let a = (start t.before.before).args in
-    c.affirm.ensures ∙ ap affirmed c.before.symbol-in2.ensures ∙ literal_affirmed a.names.now a.word.now (omega arith) t.if2.false
+    c.affirm.ensures ∙ ap affirmed c.before.symbol_in-2.ensures ∙ literal_affirmed a.names.now a.word.now (omega arith) t.if-word-eq45.false
 
 pub literal_in_spec : {M : Type 1} → statement M
 literal_in_spec = tie.close (tie.spec
     returns (λ c. omega arith) (λ c. omega arith) (λ c. omega arith) (λ c. omega arith) (λ c κs. search rules)
-    (λ c κs. subst Narrow (sym c.symbol-in.ensures) (symbol_narrow _ _)) returns_2 (λ c κs. search rules)
-    (λ c κs. subst Narrow (sym c.symbol-in2.ensures) (symbol_narrow _ _)) returns_3)
+    (λ c κs. subst Narrow (sym c.symbol_in.ensures) (symbol_narrow _ _)) returns_2 (λ c κs. search rules)
+    (λ c κs. subst Narrow (sym c.symbol_in-2.ensures) (symbol_narrow _ _)) returns_3)

@@ -5,30 +5,30 @@ use Rattle.orders.proofs.taking.act.Statement.{statement}
 use Rattle.orders.proofs.taking.act.Tie as tie
 
 -- where a call is made, and where this one began
-abbrev here : tie.After-hold → tie.Start
+abbrev here : tie.After-hold-change → tie.Start
 here c = c.before.before.before.before.before
 
-returns : tie.Need-returns
+returns : tie.Need-returns-then-which-eq-HOLD
 returns c =
     let h = c.before in
-    rw (c.of-step.ensures, h.hold.ensures, to_z-of_z (here h).ranges.l, h.before.if1.true) (held_does _ _ _ _ _)
+    rw (c.of_step.ensures, h.hold-change.ensures, to_z-of_z (here h).ranges.l, h.before.if-which-eq-HOLD.true) (held_does _ _ _ _ _)
 
 -- where the second test was passed or not, and where the call began
-abbrev start : tie.Else1 → tie.Start
+abbrev start : tie.Else-which-eq-HOLD → tie.Start
 start c = c.before.before.before.before
 
-returns_2 : tie.Need-returns-2
+returns_2 : tie.Need-returns-then-which-eq-DROP
 returns_2 c =
     let w = c.before in
     let e = w.before.before in
-    rw (c.of-step2.ensures, w.withdraw.ensures, to_z-of_z (start e).ranges.l, ne_eqb _ 0 e.if1.false, w.before.if2.true)
+    rw (c.of_step-then-which-eq-DROP.ensures, w.withdraw.ensures, to_z-of_z (start e).ranges.l, ne_eqb _ 0 e.if-which-eq-HOLD.false, w.before.if-which-eq-DROP.true)
     (dropped_does _ _ _ _ _)
 
-returns_3 : tie.Need-returns-3
+returns_3 : tie.Need-returns
 returns_3 c =
     let p = c.before in
     let e = p.before.before in
-    rw (c.of-step3.ensures, p.push.ensures, to_z-of_z (start e).ranges.l, ne_eqb _ 0 e.if1.false, ne_eqb _ 1 p.before.if2.false)
+    rw (c.of_step-2.ensures, p.push.ensures, to_z-of_z (start e).ranges.l, ne_eqb _ 0 e.if-which-eq-HOLD.false, ne_eqb _ 1 p.before.if-which-eq-DROP.false)
     (pushed_does _ _ _ _ _)
 
 pub act_spec : {M : Type 1} → statement M

@@ -17,8 +17,8 @@ returns c =
     let k = p.before.before.before in
     let s = k.before.before in
     let a = s.args in
-    rw (c.of-addition.ensures, t.add-text.ensures.0, t.add-text.ensures.1, r.replace.ensures, p.put.ensures, s.requires.1, padded_whole)
-    (ruled_does a.desk a.table.now a.names.now (replaced a.names.now a.typed.now))
+    rw (c.of_addition.ensures, t.add_text-addition.ensures.0, t.add_text-addition.ensures.1, r.replace.ensures, p.put.ensures, s.requires.1, padded_whole)
+    (ruled_does a.desk a.table-1.now a.names.now (replaced a.names.now a.typed.now))
 
 pub add_typed_spec : {M : Type 1} → statement M
 add_typed_spec = tie.close (tie.spec

@@ -7,21 +7,21 @@ use Rattle.orders.proofs.taking.enter_pairs.Statement.{statement}
 use Rattle.orders.proofs.taking.enter_pairs.Tie as tie
 
 -- where the marks are tested, and where the call began
-abbrev start : tie.Else1 → tie.Start
+abbrev start : tie.Else-not-table_fits → tie.Start
 start c = c.before.before.before.before
 
-fits : (c : tie.Else1) → let a = (start c).args in table_fits a.line.now a.count a.others ≡ true
-fits c = sym c.before.table-fits.ensures ∙ not-false _ c.if1.false
+fits : (c : tie.Else-not-table_fits) → let a = (start c).args in table_fits a.line.now a.count a.others ≡ true
+fits c = sym c.before.table_fits.ensures ∙ not-false _ c.if-not-table_fits.false-raw
 
-returns : tie.Need-returns
-returns c = rw (c.slip.ensures, sym c.before.before.table-fits.ensures ∙ not-true _ c.before.if1.true) (slip_does _ _ 5)
+returns : tie.Need-returns-then-not-table_fits
+returns c = rw (c.slip.ensures, sym c.before.before.table_fits.ensures ∙ not-true _ c.before.if-not-table_fits.true-raw) (slip_does _ _ 5)
 
-returns_2 : tie.Need-returns-2
+returns_2 : tie.Need-returns
 returns_2 c =
     let p = c.before.before in
     let i = p.before.before.before in
-    let added = p.add-pairs.ensures in
-    rw (c.of-addition.ensures, added.0, added.1, i.pairs-in.ensures, fits i.before) (entered_does _ _ _ _)
+    let added = p.add_pairs-addition.ensures in
+    rw (c.of_addition.ensures, added.0, added.1, i.pairs_in-allowed.ensures, fits i.before) (entered_does _ _ _ _)
 
 pub enter_pairs_spec : {M : Type 1} → statement M
 enter_pairs_spec = tie.close (tie.spec

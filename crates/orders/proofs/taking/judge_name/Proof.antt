@@ -7,69 +7,69 @@ use Rattle.orders.proofs.taking.judge_name.Statement.{statement}
 use Rattle.orders.proofs.taking.judge_name.Tie as tie
 
 -- where a board is open, and where the call began
-abbrev start : tie.Else1 → tie.Start
+abbrev start : tie.Else-symbols-eq0 → tie.Start
 start c = c.before.before.before
 
-abbrev at : tie.After-slot-of → tie.Else1
+abbrev at : tie.After-slot_of-slot → tie.Else-symbols-eq0
 at c = c.before.before.before.before
 
-returns : tie.Need-returns
+returns : tie.Need-returns-then-symbols-eq0
 unfolding named_reply
-returns c = c.told.ensures ∙ rw c.before.if1.true
+returns c = c.told.ensures ∙ rw c.before.if-symbols-eq0.true
 
-returns_2 : tie.Need-returns-2
+returns_2 : tie.Need-returns-then-symbol-lt1
 unfolding named_reply
 returns_2 c =
     let e = c.before.before in
-    c.told2.ensures ∙ rw (ne_eqb _ 0 e.if1.false, lt-leb 1 e.before.before.before.args.symbol (omega arith))
+    c.told-then-symbol-lt1.ensures ∙ rw (ne_eqb _ 0 e.if-symbols-eq0.false, lt-leb 1 e.before.before.before.args.symbol (omega arith))
 
-returns_3 : tie.Need-returns-3
+returns_3 : tie.Need-returns-then-symbols-symbol
 unfolding named_reply
 returns_3 c =
     let e = c.before.before.before in
     let a = e.before.before.before.args in
-    c.told3.ensures ∙ rw (ne_eqb _ 0 e.if1.false, le-leb 1 a.symbol (omega arith), lt-leb a.symbol a.symbols (omega arith))
+    c.told-then-symbols-symbol.ensures ∙ rw (ne_eqb _ 0 e.if-symbols-eq0.false, le-leb 1 a.symbol (omega arith), lt-leb a.symbol a.symbols (omega arith))
 
-returns_4 : tie.Need-returns-4
+returns_4 : tie.Need-returns-then-symbol-gt-SYMBOLS
 unfolding named_reply
 returns_4 c =
     let e = c.before.before.before in
     let a = (start e.before).args in
     let low = le-leb 1 a.symbol (omega arith) in
-    c.told4.ensures
-    ∙ rw (ne_eqb _ 0 e.before.if1.false, low, le-leb a.symbol a.symbols (omega arith), lt-leb a.symbol 200 (omega arith))
+    c.told-then-symbol-gt-SYMBOLS.ensures
+    ∙ rw (ne_eqb _ 0 e.before.if-symbols-eq0.false, low, le-leb a.symbol a.symbols (omega arith), lt-leb a.symbol 200 (omega arith))
 
 -- where the symbol is one of the board's, and there is a slot for it
-judged : (c : tie.After-slot-of) → let a = (start (at c)).args in
+judged : (c : tie.After-slot_of-slot) → let a = (start (at c)).args in
     named_reply a.symbols a.names.now a.symbol a.given.now
-    ≡ cond (ltb c.slot_of.result 200 && not (eqb (suc c.slot_of.result) a.symbol)) (record { reply = Not NameTaken; place = 2; added = 0 })
+    ≡ cond (ltb c.slot_of-slot.result 200 && not (eqb (suc c.slot_of-slot.result) a.symbol)) (record { reply = Not NameTaken; place = 2; added = 0 })
     (simply Made)
 unfolding named_reply
 judged c =
     let a = (start (at c)).args in
     rw (
-      ne_eqb _ 0 (at c).if1.false,
+      ne_eqb _ 0 (at c).if-symbols-eq0.false,
       le-leb 1 a.symbol (omega arith),
       le-leb a.symbol a.symbols (omega arith),
       le-leb a.symbol 200 (omega arith),
-      ← c.slot_of.ensures,
+      ← c.slot_of-slot.ensures,
     )
 
-returns_5 : tie.Need-returns-5
-returns_5 c = let k = c.before.before in c.told5.ensures ∙ rw (judged k, le-ltb k.slot_of.result 200 (omega arith))
+returns_5 : tie.Need-returns-then-slot-ge-SYMBOLS
+returns_5 c = let k = c.before.before in c.told-then-slot-ge-SYMBOLS.ensures ∙ rw (judged k, le-ltb k.slot_of-slot.result 200 (omega arith))
 
-returns_6 : tie.Need-returns-6
+returns_6 : tie.Need-returns-then-slot-symbol
 returns_6 c =
     let k = c.before.before.before in
-    let slot = k.slot_of.result in
-    c.told6.ensures ∙ rw (judged k, lt-ltb slot 200 (omega arith), eq-eqb (suc slot) (start (at k)).args.symbol (omega arith))
+    let slot = k.slot_of-slot.result in
+    c.told-then-slot-symbol.ensures ∙ rw (judged k, lt-ltb slot 200 (omega arith), eq-eqb (suc slot) (start (at k)).args.symbol (omega arith))
 
-returns_7 : tie.Need-returns-7
+returns_7 : tie.Need-returns
 returns_7 c =
     let k = c.before.before.before in
-    let slot = k.slot_of.result in
-    let other = ne_eqb (suc slot) (start (at k)).args.symbol (λ e. c.before.if6.false (omega (arith, e))) in
-    c.told7.ensures ∙ rw (judged k, lt-ltb slot 200 (omega arith), other)
+    let slot = k.slot_of-slot.result in
+    let other = ne_eqb (suc slot) (start (at k)).args.symbol (λ e. c.before.if-slot-symbol.false (omega (arith, e))) in
+    c.told-2.ensures ∙ rw (judged k, lt-ltb slot 200 (omega arith), other)
 
 pub judge_name_spec : {M : Type 1} → statement M
 judge_name_spec = tie.close (tie.spec

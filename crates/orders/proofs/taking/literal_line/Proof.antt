@@ -8,30 +8,30 @@ use Rattle.orders.proofs.taking.literal_line.Statement.{statement}
 use Rattle.orders.proofs.taking.literal_line.Tie as tie
 
 -- where the word is read, and where the call began
-abbrev start : tie.After-literal-in → tie.Start
+abbrev start : tie.After-literal_in → tie.Start
 start c = c.before.before.before.before
 
 -- where it is looked whether another follows
-abbrev at : tie.After-ends-at → tie.After-literal-in
+abbrev at : tie.After-ends_at → tie.After-literal_in
 at c = c.before.before.before.before
 
-read : (c : tie.After-literal-in) → let a = (start c).args in literal_in a.names.now (word_at 1 a.line.now) ≡ c.literal-in.result
-read c = rw (← c.before.word.ensures) (sym c.literal-in.ensures)
+read : (c : tie.After-literal_in) → let a = (start c).args in literal_in a.names.now (word_at 1 a.line.now) ≡ c.literal_in.result
+read c = rw (← c.before.word.ensures) (sym c.literal_in.ensures)
 
-returns : tie.Need-returns
+returns : tie.Need-returns-then-not-ends_at
 returns c =
     let e = c.before.before in
-    rw (c.slip2.ensures, read (at e) ∙ e.before.before.l.given.1, sym e.ends_at.ensures ∙ not-true _ c.before.if1.true)
+    rw (c.slip-then-not-ends_at.ensures, read (at e) ∙ e.before.before.l-1.given.1, sym e.ends_at.ensures ∙ not-true _ c.before.if-not-ends_at.true-raw)
     (slip_does _ _ 2)
 
-returns_2 : tie.Need-returns-2
-returns_2 c = let w = c.before.before in rw (c.slip.ensures, read w.before.before ∙ w.why.given.1) (slip_does _ _ 1)
+returns_2 : tie.Need-returns-in-Not
+returns_2 c = let w = c.before.before in rw (c.slip.ensures, read w.before.before ∙ w.why-1.given.1) (slip_does _ _ 1)
 
-returns_3 : tie.Need-returns-3
+returns_3 : tie.Need-returns-else-not-ends_at
 returns_3 c =
     let e = c.before.before in
-    let said = read (at e) ∙ e.before.before.l.given.1 in
-    rw (said, sym e.ends_at.ensures ∙ not-false _ c.before.if1.false, ← to_z-of_z (subst Fitting said (literal_fits _ _))) c.act.ensures
+    let said = read (at e) ∙ e.before.before.l-1.given.1 in
+    rw (said, sym e.ends_at.ensures ∙ not-false _ c.before.if-not-ends_at.false-raw, ← to_z-of_z (subst Fitting said (literal_fits _ _))) c.act.ensures
 
 pub literal_line_spec : {M : Type 1} → statement M
 literal_line_spec = tie.close (tie.spec

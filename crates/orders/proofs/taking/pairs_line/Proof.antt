@@ -7,32 +7,32 @@ use Rattle.orders.proofs.taking.pairs_line.Statement.{statement}
 use Rattle.orders.proofs.taking.pairs_line.Tie as tie
 
 -- where the first word is read, and where the call began; where the second is
-abbrev start : tie.After-symbol-in → tie.Start
+abbrev start : tie.After-symbol_in → tie.Start
 start c = c.before.before.before.before
 
-abbrev one : tie.After-number-in → tie.After-symbol-in
+abbrev one : tie.After-number_in → tie.After-symbol_in
 one c = c.before.before.before.before.before
 
-read : (c : tie.After-symbol-in) → let a = (start c).args in symbol_in a.names.now (word_at 1 a.line.now) ≡ c.symbol-in.result
-read c = rw (← c.before.word.ensures) (sym c.symbol-in.ensures)
+read : (c : tie.After-symbol_in) → let a = (start c).args in symbol_in a.names.now (word_at 1 a.line.now) ≡ c.symbol_in.result
+read c = rw (← c.before.word.ensures) (sym c.symbol_in.ensures)
 
-read_next : (c : tie.After-number-in) → number_in (word_at 2 (start (one c)).args.line.now) ≡ c.number_in.result
-read_next c = rw (← c.before.word2.ensures) (sym c.number_in.ensures)
+read_next : (c : tie.After-number_in) → number_in (word_at 2 (start (one c)).args.line.now) ≡ c.number_in.result
+read_next c = rw (← c.before.word-in-Of.ensures) (sym c.number_in.ensures)
 
-returns : tie.Need-returns
-returns c = let w = c.before.before in rw (c.slip.ensures, read w.before.before ∙ w.why.given.1) (slip_does _ _ 1)
+returns : tie.Need-returns-in-Not
+returns c = let w = c.before.before in rw (c.slip.ensures, read w.before.before ∙ w.why-1.given.1) (slip_does _ _ 1)
 
-returns_2 : tie.Need-returns-2
+returns_2 : tie.Need-returns-in-Not-number_in
 returns_2 c =
     let w = c.before.before in
     let m = w.before.before in
-    rw (c.slip2.ensures, read (one m) ∙ m.before.before.before.first.given.1, read_next m ∙ w.why2.given.1) (slip_does _ _ 2)
+    rw (c.slip-in-Not-number_in.ensures, read (one m) ∙ m.before.before.before.first-1.given.1, read_next m ∙ w.why-in-Not-number_in-1.given.1) (slip_does _ _ 2)
 
-returns_3 : tie.Need-returns-3
+returns_3 : tie.Need-returns-in-Of-number_in
 returns_3 c =
     let k = c.before.before.before in
     let m = k.before.before.before in
-    rw (read (one m) ∙ m.before.before.before.first.given.1, read_next m ∙ k.before.count.given.1) c.before.second-valve.ensures
+    rw (read (one m) ∙ m.before.before.before.first-1.given.1, read_next m ∙ k.before.count-1.given.1) c.before.second_valve.ensures
 
 pub pairs_line_spec : {M : Type 1} → statement M
 pairs_line_spec = tie.close (tie.spec

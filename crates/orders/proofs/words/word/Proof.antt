@@ -4,13 +4,13 @@ use Rattle.orders.proofs.WordPlaces.{word_goes_on, word_part}
 use Rattle.orders.proofs.words.word.Statement.{statement}
 use Rattle.orders.proofs.words.word.Tie as tie
 
-goes_on_lem : (c : tie.After-word-end) → c.before.word-place.result ≤ c.word-end.result
-goes_on_lem c = word_goes_on c.before.before.before.args.k c.before.word-place.ensures c.word-end.ensures
+goes_on_lem : (c : tie.After-word_end-to) → c.before.word_place-from.result-1 ≤ c.word_end-to.result-1
+goes_on_lem c = word_goes_on c.before.before.before.args.k c.before.word_place-from.ensures c.word_end-to.ensures
 
 returns : tie.Need-returns
-returns c = let e = c.before in word_part e.before.before.before.args.k e.before.word-place.ensures e.word-end.ensures
+returns c = let e = c.before in word_part e.before.before.before.args.k e.before.word_place-from.ensures e.word_end-to.ensures
 
 pub word_spec : {M : Type 1} → statement M
 word_spec = tie.close (tie.spec
-    (λ c κs. tt) (λ c κs. c.word-place.ensures.within) (λ c. omega (arith, goes_on_lem c)) (λ c. omega (arith, goes_on_lem c))
-    (λ c. omega (arith, c.word-end.ensures.within)) returns)
+    (λ c κs. tt) (λ c κs. c.word_place-from.ensures.within) (λ c. omega (arith, goes_on_lem c)) (λ c. omega (arith, goes_on_lem c))
+    (λ c. omega (arith, c.word_end-to.ensures.within)) returns)

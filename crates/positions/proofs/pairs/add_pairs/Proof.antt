@@ -11,25 +11,25 @@ use Rattle.positions.proofs.pairs.add_pairs.Tie as tie
 abbrev it : tie.Start → Entry
 it s = let a = s.args in pairs_of a.first a.count a.other a.others a.pairs
 
-returns : tie.Need-returns
+returns : tie.Need-returns-then-not-good
 returns c =
     let g = c.before.before in
     let s = g.before.before in
-    let told = told_spoilt s.args.table.now s.args.board (it s) (sym g.good2.ensures ∙ not-true _ c.before.if1.true) in
+    let told = told_spoilt s.args.table-1.now s.args.board (it s) (sym g.good2.ensures ∙ not-true _ c.before.if-not-good.true-raw) in
     (c.refused.ensures ∙ told.answer_is, told.table_is)
 
 -- the board is good
-good : (c : tie.Else1) → let a = c.before.before.before.args in good_board a.table.now a.board ≡ true
-good c = sym c.before.good2.ensures ∙ not-false _ c.if1.false
+good : (c : tie.Else-not-good) → let a = c.before.before.before.args in good_board a.table-1.now a.board ≡ true
+good c = sym c.before.good2.ensures ∙ not-false _ c.if-not-good.false-raw
 
-returns_2 : tie.Need-returns-2
+returns_2 : tie.Need-returns-in-Refused
 returns_2 c =
     let w = c.before.before in
     let j = w.before.before in
     let e = j.before in
     let s = e.before.before.before in
-    let told = told_own s.args.table.now s.args.board (it s) (good e) w.why.given.0.0 (sym j.judge.ensures ∙ w.why.given.1) in
-    (c.refused2.ensures ∙ told.answer_is, told.table_is)
+    let told = told_own s.args.table-1.now s.args.board (it s) (good e) w.why-1.given.0.0 (sym j.judge.ensures ∙ w.why-1.given.1) in
+    (c.refused-in-Refused.ensures ∙ told.answer_is, told.table_is)
 
 enter_requires : tie.Need-enter-requires
 enter_requires c κs =
@@ -37,10 +37,10 @@ enter_requires c κs =
     let j = t.before.before in
     let e = j.before in
     let s = e.before.before.before in
-    (good e, own_passed s.args.board.symbols (it s) (sym j.judge.ensures ∙ t.enum_told.given.1))
+    (good e, own_passed s.args.board.symbols (it s) (sym j.judge.ensures ∙ t.enum_told-1.given.1))
 
 pub add_pairs_spec : {M : Type 1} → statement M
 add_pairs_spec = tie.close (tie.spec
     (λ c κs. search rules) (λ c κs. search rules) (λ c. search rules) returns
-    (λ c κs. (let a = c.before.before.before.args in (good_is a.table.now a.board (good c)).sound.symbols)) (λ c. search rules)
+    (λ c κs. (let a = c.before.before.before.args in (good_is a.table-1.now a.board (good c)).sound.symbols)) (λ c. search rules)
     (λ c κs. search rules) (λ c. search rules) enter_requires (λ c. search rules) returns_2 (λ c. search rules) (λ c. search rules))

@@ -10,27 +10,27 @@ use Rattle.positions.proofs.rows.allows_some.Tie as tie
 abbrev partnered : View → ℕ → Bool
 partnered v i = any ((side_of v).may i) (from 0 v.choices)
 
-abbrev invariant_loop : tie.invariant-loop
+abbrev invariant_loop : tie.invariant-loop-i
 invariant_loop v i₀ i = OneFrom (partnered v) (from 0 v.positions) i
 
-abbrev decreases_loop : tie.decreases-loop
+abbrev decreases_loop : tie.decreases-loop-i
 decreases_loop v i₀ i = v.positions - i
 
-abbrev at : tie.After-has-partner invariant_loop decreases_loop → tie.At-loop invariant_loop decreases_loop
+abbrev at : tie.After-has_partner invariant_loop decreases_loop → tie.At-loop-i invariant_loop decreases_loop
 at c = c.before.before.before
 
-returns : tie.Need-returns invariant_loop decreases_loop
+returns : tie.Need-returns-then-has_partner invariant_loop decreases_loop
 returns c =
     let p = c.before in
-    below_found _ _ _ (at p).loop.invariant p.before.if1.true (sym p.has-partner.ensures ∙ c.if2.true)
+    below_found _ _ _ (at p).loop-i.invariant p.before.loop-i-test.true (sym p.has_partner.ensures ∙ c.if-has_partner.true)
 
-loop_again : tie.Need-loop-preserved invariant_loop decreases_loop
+loop_again : tie.Need-loop-i-preserved invariant_loop decreases_loop
 loop_again c =
     let p = c.before in
-    below_on _ _ _ (at p).loop.invariant p.before.if1.true (sym p.has-partner.ensures ∙ c.if2.false)
+    below_on _ _ _ (at p).loop-i.invariant p.before.loop-i-test.true (sym p.has_partner.ensures ∙ c.if-has_partner.false)
 
 pub allows_some_spec : {M : Type 1} → statement M
 allows_some_spec = tie.close (tie.spec
     invariant_loop decreases_loop (λ c. record { is = refl }) (λ c κs. omega arith) returns
     (λ c. omega arith) (λ c. omega arith) loop_again
-    (λ c. below_none _ _ _ c.before.before.loop.invariant c.if1.false))
+    (λ c. below_none _ _ _ c.before.before.loop-i.invariant c.loop-i-test.false))

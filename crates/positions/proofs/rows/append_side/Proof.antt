@@ -5,24 +5,24 @@ use Rattle.positions.proofs.SideRows.{Written, written_none, written_one, writte
 use Rattle.positions.proofs.rows.append_side.Statement.{statement}
 use Rattle.positions.proofs.rows.append_side.Tie as tie
 
-abbrev invariant_loop : tie.invariant-loop
+abbrev invariant_loop : tie.invariant-loop-i
 invariant_loop table₀ row rules v i₀ table i = Written (side_of v) rules row table₀ table i
 
-abbrev decreases_loop : tie.decreases-loop
+abbrev decreases_loop : tie.decreases-loop-i
 decreases_loop table₀ row rules v i₀ table i = v.positions - i
 
-abbrev start : tie.Then1 invariant_loop decreases_loop → tie.Start invariant_loop decreases_loop
+abbrev start : tie.In-loop-i invariant_loop decreases_loop → tie.Start invariant_loop decreases_loop
 start c = c.before.before.before
 
-loop_again : tie.Need-loop-preserved invariant_loop decreases_loop
+loop_again : tie.Need-loop-i-preserved invariant_loop decreases_loop
 loop_again c =
     let t = c.before.before.before in
-    let l = t.before.before.loop in
-    rw c.before.append-clause.ensures (written_one _ _ _ _ _ _ l.invariant t.if1.true (start t).requires.2)
+    let l = t.before.before.loop-i in
+    rw c.before.append_clause.ensures (written_one _ _ _ _ _ _ l.invariant t.loop-i-test.true (start t).requires.2)
 
 pub append_side_spec : {M : Type 1} → statement M
 append_side_spec = tie.close (tie.spec
-    invariant_loop decreases_loop (λ c. written_none (side_of c.args.v) c.args.rules c.args.row c.args.table.now) (λ c. omega arith)
-    (λ c. omega arith) (λ c. omega arith) (λ c κs. ((start c.before).requires.0, c.before.if1.true, omega arith, omega arith)) (λ c. omega arith)
-    (λ c. omega arith) loop_again (λ c. c.before.before.loop.invariant.same)
-    (λ c. written_all _ _ _ _ _ _ c.before.before.loop.invariant c.if1.false))
+    invariant_loop decreases_loop (λ c. written_none (side_of c.args.v) c.args.rules c.args.row c.args.table-1.now) (λ c. omega arith)
+    (λ c. omega arith) (λ c. omega arith) (λ c κs. ((start c.before).requires.0, c.before.loop-i-test.true, omega arith, omega arith)) (λ c. omega arith)
+    (λ c. omega arith) loop_again (λ c. c.before.before.loop-i.invariant.same)
+    (λ c. written_all _ _ _ _ _ _ c.before.before.loop-i.invariant c.loop-i-test.false))

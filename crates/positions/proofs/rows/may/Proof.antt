@@ -3,11 +3,11 @@ use Rattle.meaning.proofs.Kit.{rules}
 use Rattle.positions.proofs.rows.may.Statement.{statement}
 use Rattle.positions.proofs.rows.may.Tie as tie
 
-returns : tie.Need-returns
-returns c = rw c.before.if1.true c.has.ensures
+returns : tie.Need-returns-then-v
+returns c = rw c.before.if-v.true c.has.ensures
 
-returns_2 : tie.Need-returns-2
-returns_2 c = rw c.before.if1.false c.has2.ensures
+returns_2 : tie.Need-returns
+returns_2 c = rw c.before.if-v.false c.has-2.ensures
 
 pub may_spec : {M : Type 1} → statement M
 may_spec = tie.close (tie.spec

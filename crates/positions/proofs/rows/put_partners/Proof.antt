@@ -5,32 +5,32 @@ use Rattle.positions.proofs.Partners.{Gathered, gathered_none, gathered_one, gat
 use Rattle.positions.proofs.rows.put_partners.Statement.{statement}
 use Rattle.positions.proofs.rows.put_partners.Tie as tie
 
-abbrev invariant_loop : tie.invariant-loop
+abbrev invariant_loop : tie.invariant-loop-j
 invariant_loop row₀ at v i n₀ j₀ row n j = Gathered (side_of v) i at row₀ row n j
 
-abbrev decreases_loop : tie.decreases-loop
+abbrev decreases_loop : tie.decreases-loop-j
 decreases_loop row₀ at v i n₀ j₀ row n j = v.choices - j
 
-abbrev start : tie.At-loop invariant_loop decreases_loop → tie.Start invariant_loop decreases_loop
+abbrev start : tie.At-loop-j invariant_loop decreases_loop → tie.Start invariant_loop decreases_loop
 start c = c.before.before
 
-loop_again : tie.Need-loop-preserved invariant_loop decreases_loop
+loop_again : tie.Need-loop-j-preserved invariant_loop decreases_loop
 loop_again c =
     let m = c.before in
     let t = m.before in
     let l = t.before.before in
     let a = (start l).args in
     ⊎_elim
-    (λ w. subst₂ (λ row n. Gathered (side_of a.v) a.i a.at a.row.now row n (l.loop.j + 1)) (sym w.2) (sym w.3)
-    (gathered_one _ _ _ _ _ _ _ l.loop.invariant t.if1.true (sym m.may.ensures ∙ w.0.true) (omega arith)))
-    (λ w. subst₂ (λ row n. Gathered (side_of a.v) a.i a.at a.row.now row n (l.loop.j + 1)) (sym w.1) (sym w.2)
-    (gathered_passed _ _ _ _ _ _ _ l.loop.invariant t.if1.true (sym m.may.ensures ∙ w.0.false)))
-    c.if2.branch
+    (λ w. subst₂ (λ row n. Gathered (side_of a.v) a.i a.at a.row.now row n (l.loop-j.j + 1)) (sym w.2) (sym w.3)
+    (gathered_one _ _ _ _ _ _ _ l.loop-j.invariant t.loop-j-test.true (sym m.may.ensures ∙ w.0.true) (omega arith)))
+    (λ w. subst₂ (λ row n. Gathered (side_of a.v) a.i a.at a.row.now row n (l.loop-j.j + 1)) (sym w.1) (sym w.2)
+    (gathered_passed _ _ _ _ _ _ _ l.loop-j.invariant t.loop-j-test.true (sym m.may.ensures ∙ w.0.false)))
+    c.if-may.branch
 
 returns : tie.Need-returns invariant_loop decreases_loop
 returns c =
-    let g = c.before.before.loop.invariant in
-    (g.long, omega (arith, g.few, g.within), gathered_all _ _ _ _ _ _ _ g c.if1.false)
+    let g = c.before.before.loop-j.invariant in
+    (g.long, omega (arith, g.few, g.within), gathered_all _ _ _ _ _ _ _ g c.loop-j-test.false)
 
 pub put_partners_spec : {M : Type 1} → statement M
 put_partners_spec = tie.close (tie.spec
@@ -38,4 +38,4 @@ put_partners_spec = tie.close (tie.spec
     (λ c. gathered_none (side_of c.before.args.v) c.before.args.i c.before.args.at c.before.args.row.now c.before.requires.3)
     (λ c κs. (omega arith, omega arith)) (λ c. omega arith) (λ c. omega arith) (λ c. omega arith) (λ c. omega arith) (λ c. omega arith)
     (λ c. omega arith) (λ c. omega arith) (λ c. omega arith) loop_again
-    (λ c. (let l = c.before.before in l.loop.invariant.long ∙ sym (start l).requires.3)) returns)
+    (λ c. (let l = c.before.before in l.loop-j.invariant.long ∙ sym (start l).requires.3)) returns)

@@ -11,11 +11,11 @@ one s = record { first = s.args.first; count = s.args.count }
 abbrev two : tie.Start → Variable
 two s = record { first = s.args.other; count = s.args.others }
 
-returns : tie.Need-returns
-returns c = let s = c.before in sym (apart_share (one s) (two s) (inl c.if1.true))
+returns : tie.Need-returns-then-first-count
+returns c = let s = c.before in sym (apart_share (one s) (two s) (inl c.if-first-count.true))
 
-returns_2 : tie.Need-returns-2
-returns_2 c = let s = c.before in sharing (one s) (two s) s.requires.2 s.requires.3 (omega (arith, c.if1.false))
+returns_2 : tie.Need-returns
+returns_2 c = let s = c.before in sharing (one s) (two s) s.requires.2 s.requires.3 (omega (arith, c.if-first-count.false))
 
 pub overlap_spec : {M : Type 1} → statement M
 overlap_spec = tie.close (tie.spec (λ c. search rules) returns (λ c. search rules) returns_2)

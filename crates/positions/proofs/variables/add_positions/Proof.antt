@@ -9,46 +9,46 @@ use Rattle.positions.proofs.Answers.{told_spoilt, told_own}
 use Rattle.positions.proofs.variables.add_positions.Statement.{statement}
 use Rattle.positions.proofs.variables.add_positions.Tie as tie
 
-abbrev start : tie.Else1 → tie.Start
+abbrev start : tie.Else-not-good → tie.Start
 start c = c.before.before.before
 
-returns : tie.Need-returns
+returns : tie.Need-returns-then-not-good
 returns c =
     let g = c.before.before in
     let a = g.before.before.args in
-    let spoilt = sym g.good2.ensures ∙ not-true _ c.before.if1.true in
-    let told = told_spoilt a.table.now a.board (variable_of a.first a.count) spoilt in
+    let spoilt = sym g.good2.ensures ∙ not-true _ c.before.if-not-good.true-raw in
+    let told = told_spoilt a.table-1.now a.board (variable_of a.first a.count) spoilt in
     (c.refused.ensures ∙ told.answer_is, told.table_is)
 
 -- the board is good
-good : (c : tie.Else1) → let a = (start c).args in good_board a.table.now a.board ≡ true
-good c = sym c.before.good2.ensures ∙ not-false _ c.if1.false
+good : (c : tie.Else-not-good) → let a = (start c).args in good_board a.table-1.now a.board ≡ true
+good c = sym c.before.good2.ensures ∙ not-false _ c.if-not-good.false-raw
 
-returns_2 : tie.Need-returns-2
+returns_2 : tie.Need-returns-then-not-on_board
 unfolding symbols_fit
 returns_2 c =
     let o = c.before.before in
     let e = o.before in
     let a = (start e).args in
-    let off = sym o.on-board.ensures ∙ not-true _ c.before.if2.true in
-    let told = told_own a.table.now a.board (variable_of a.first a.count) (good e) BadLiteral (rw off) in
-    (c.refused2.ensures ∙ told.answer_is, told.table_is)
+    let off = sym o.on_board.ensures ∙ not-true _ c.before.if-not-on_board.true-raw in
+    let told = told_own a.table-1.now a.board (variable_of a.first a.count) (good e) BadLiteral (rw off) in
+    (c.refused-then-not-on_board.ensures ∙ told.answer_is, told.table_is)
 
 -- the variable is one of the board's
-on : (c : tie.Else2) → let a = (start c.before.before).args in
+on : (c : tie.Else-not-on_board) → let a = (start c.before.before).args in
     on_board a.board.symbols (record { first = a.first; count = a.count }) ≡ true
-on c = sym c.before.on-board.ensures ∙ not-false _ c.if2.false
+on c = sym c.before.on_board.ensures ∙ not-false _ c.if-not-on_board.false-raw
 
-returns_3 : tie.Need-returns-3
+returns_3 : tie.Need-returns-then-not-has_count
 unfolding symbols_fit well_formed
 returns_3 c =
     let h = c.before.before in
     let o = h.before in
     let e = o.before.before in
     let a = (start e).args in
-    let few = sym h.has-count.ensures ∙ not-true _ c.before.if3.true in
-    let told = told_own a.table.now a.board (variable_of a.first a.count) (good e) BadPositions (rw (on o, few)) in
-    (c.refused3.ensures ∙ told.answer_is, told.table_is)
+    let few = sym h.has_count.ensures ∙ not-true _ c.before.if-not-has_count.true-raw in
+    let told = told_own a.table-1.now a.board (variable_of a.first a.count) (good e) BadPositions (rw (on o, few)) in
+    (c.refused-then-not-has_count.ensures ∙ told.answer_is, told.table_is)
 
 enter_requires : tie.Need-enter-requires
 unfolding symbols_fit well_formed possible
@@ -56,7 +56,7 @@ enter_requires c κs =
     let t = c.before in
     let o = t.before.before in
     let e = o.before.before in
-    let right = sym t.before.has-count.ensures ∙ not-false _ t.if3.false in
+    let right = sym t.before.has_count.ensures ∙ not-false _ t.if-not-has_count.false-raw in
     (good e, rw (on o, right))
 
 pub add_positions_spec : {M : Type 1} → statement M

@@ -13,10 +13,10 @@ use Rattle.positions.proofs.variables.append.Statement.{statement}
 use Rattle.positions.proofs.variables.append.Tie as tie
 
 -- where the call began, and where the symbols are listed
-abbrev start : tie.After-names → tie.Start
+abbrev start : tie.After-names-1 → tie.Start
 start c = c.before.before.before.before
 
-abbrev listing : tie.After-append-rule-arg → tie.After-list-symbols
+abbrev listing : tie.After-append_rule-arg-1 → tie.After-list_symbols
 listing c = c.before.before.before.before
 
 -- how many values the truth table has
@@ -34,14 +34,14 @@ falses : (s : tie.Start) → take (values s) (replicate 128 false) ≡ replicate
 falses s = take_same (values s) 128 false (room s)
 
 -- the truth table, where it comes back
-table_long : (c : tie.After-mark-single) → length c.mark-single.new.0 ≡ values c.before.before
-table_long c = let s = c.before.before in ap length c.mark-single.ensures ∙ length_only s.args.count ∙ sym (values_is s)
+table_long : (c : tie.After-mark_single) → length c.mark_single.new.truth ≡ values c.before.before
+table_long c = let s = c.before.before in ap length c.mark_single.ensures ∙ length_only s.args.count ∙ sym (values_is s)
 
-table : (c : tie.After-mark-single) → let s = c.before.before in
-    take (values s) (c.mark-single.new.0 ++ drop (values s) (replicate 128 false)) ≡ only_one s.args.count
+table : (c : tie.After-mark_single) → let s = c.before.before in
+    take (values s) (c.mark_single.new.truth ++ drop (values s) (replicate 128 false)) ≡ only_one s.args.count
 table c =
     let s = c.before.before in
-    take_at c.mark-single.new.0 (drop (values s) (replicate 128 false)) (values s) (table_long c) ∙ c.mark-single.ensures
+    take_at c.mark_single.new.truth (drop (values s) (replicate 128 false)) (values s) (table_long c) ∙ c.mark_single.ensures
 
 -- places for the symbols, as many as there are
 abbrev places : List ℕ
@@ -51,18 +51,18 @@ names : (s : tie.Start) → length (take s.args.count places) ≡ s.args.count
 names s = length-take-le s.args.count places (rw length-replicate s.requires.2)
 
 -- the symbols, where they come back
-listed_is : (c : tie.After-list-symbols) → let a = (start c.before).args in
-    c.list-symbols.new.0 ≡ from a.first a.count
-listed_is c = let s = start c.before in c.list-symbols.ensures ∙ ap (from s.args.first) (names s)
+listed_is : (c : tie.After-list_symbols) → let a = (start c.before).args in
+    c.list_symbols.new.names ≡ from a.first a.count
+listed_is c = let s = start c.before in c.list_symbols.ensures ∙ ap (from s.args.first) (names s)
 
-listed_long : (c : tie.After-list-symbols) → length c.list-symbols.new.0 ≡ (start c.before).args.count
+listed_long : (c : tie.After-list_symbols) → length c.list_symbols.new.names ≡ (start c.before).args.count
 listed_long c = let a = (start c.before).args in ap length (listed_is c) ∙ length_from a.first a.count
 
-listed : (c : tie.After-list-symbols) → let a = (start c.before).args in
-    take a.count (c.list-symbols.new.0 ++ drop a.count places) ≡ from a.first a.count
+listed : (c : tie.After-list_symbols) → let a = (start c.before).args in
+    take a.count (c.list_symbols.new.names ++ drop a.count places) ≡ from a.first a.count
 listed c =
     let a = (start c.before).args in
-    take_at c.list-symbols.new.0 (drop a.count places) a.count (listed_long c) ∙ listed_is c
+    take_at c.list_symbols.new.names (drop a.count places) a.count (listed_long c) ∙ listed_is c
 
 -- every symbol is 1 at least
 positive : (s : tie.Start) → all (leb 1) (from s.args.first s.args.count) ≡ true
@@ -70,45 +70,45 @@ positive s =
     all_of (leb 1) (from s.args.first s.args.count)
     (λ t m. le-leb 1 t (omega (arith, s.requires.0, (from_in s.args.first s.args.count t m).0)))
 
-slice_aggregate_mark_single : tie.Need-slice-aggregate-mark-single
+slice_aggregate_mark_single : tie.Need-slice_bounds-mark_single-end
 slice_aggregate_mark_single c = sym (ap length (falses c.before) ∙ length-replicate (values c.before) false)
 
-mark_single_requires : tie.Need-mark-single-requires
+mark_single_requires : tie.Need-mark_single-requires
 mark_single_requires c κs = (c.before.requires.2, falses c.before ∙ ap (λ (n : ℕ). replicate n false) (values_is c.before))
 
-list_symbols_requires : tie.Need-list-symbols-requires
+list_symbols_requires : tie.Need-list_symbols-requires
 list_symbols_requires c κs = let s = start c in omega (arith, names s, s.requires.1)
 
-array_share_prefix_names : tie.Need-array-share-prefix-names
+array_share_prefix_names : tie.Need-slice_bounds-names-end-2
 array_share_prefix_names c =
     let l = listing c in
     let a = (start l.before).args in
-    omega (arith, listed_long l, length-append l.list-symbols.last.0 (drop a.count places))
+    omega (arith, listed_long l, length-append l.list_symbols.last.0 (drop a.count places))
 
-slice_aggregate_append_rule : tie.Need-slice-aggregate-append-rule
+slice_aggregate_append_rule : tie.Need-slice_bounds-append_rule-end
 slice_aggregate_append_rule c =
     let l = listing c.before in
     let s = start l.before in
     sym (ap length (listed l) ∙ length_from s.args.first s.args.count)
 
-array_share_prefix_truth : tie.Need-array-share-prefix-truth
+array_share_prefix_truth : tie.Need-slice_bounds-truth-end-2
 array_share_prefix_truth c =
     let m = (listing c.before).before.before.before in
-    omega (arith, table_long m, length-append m.mark-single.last.0 (drop (values m.before.before) (replicate 128 false)))
+    omega (arith, table_long m, length-append m.mark_single.last.0 (drop (values m.before.before) (replicate 128 false)))
 
-slice_aggregate_append_rule_2 : tie.Need-slice-aggregate-append-rule-2
+slice_aggregate_append_rule_2 : tie.Need-slice_bounds-append_rule-end-2
 slice_aggregate_append_rule_2 c =
     let m = (listing c.before.before).before.before.before in
     let s = m.before.before in
     sym (ap length (table m) ∙ length_only s.args.count ∙ sym (values_is s))
 
-append_rule_requires : tie.Need-append-rule-requires
+append_rule_requires : tie.Need-append_rule-requires
 append_rule_requires c κs =
     let r = c.before.before.before in
     let l = r.before.before.before in
     let m = l.before.before.before in
     let s = m.before.before in
-    let lent : r.rows-lent.result ≡ rows_lent s.args.table.now = r.rows-lent.ensures in
+    let lent : r.rows_lent-lent.result ≡ rows_lent s.args.table-1.now = r.rows_lent-lent.ensures in
     let long = length_from s.args.first s.args.count in (
       (
         omega (arith, ap length (listed l) ∙ long, s.requires.2),
@@ -120,13 +120,13 @@ append_rule_requires c κs =
 
 returns : tie.Need-returns
 returns c =
-    let a = c.before.append-rule in
+    let a = c.before.append_rule in
     let h = c.before.before in
     let r = h.before.before.before in
     let l = r.before.before.before in
     let m = l.before.before.before in
     let s = m.before.before in
-    let lent : r.rows-lent.result ≡ rows_lent s.args.table.now = r.rows-lent.ensures in
+    let lent : r.rows_lent-lent.result ≡ rows_lent s.args.table-1.now = r.rows_lent-lent.ensures in
     (a.ensures.0 ∙ rw (listed l, table m, lent), a.ensures.1 ∙ rw (listed l, table m, lent))
 
 pub append_spec : {M : Type 1} → statement M

@@ -14,70 +14,70 @@ use Rattle.smallest.proofs.call.smallest.Statement.{statement}
 use Rattle.smallest.proofs.call.smallest.Tie as tie
 
 -- where the test of the board has passed, and where the call began
-abbrev start : tie.Else1 → tie.Start
+abbrev start : tie.Else-not-good → tie.Start
 start c = c.before.before.before
 
-is_good_lem : (c : tie.Else1) → let a = (start c).args in good_board a.table.now a.board ≡ true
-is_good_lem c = sym c.before.good2.ensures ∙ not-false _ c.if1.false
+is_good_lem : (c : tie.Else-not-good) → let a = (start c).args in good_board a.table.now a.board ≡ true
+is_good_lem c = sym c.before.good2.ensures ∙ not-false _ c.if-not-good.false-raw
 
 -- whether the literal to explain is the board's, and whether the candidates are too
-literal : (c : tie.After-in-range) → let a = (start c.before).args in in_range a.board.symbols a.l ≡ c.in_range_lem.result
-literal c = let s = start c.before in range_is s.fits.l s.args.board.symbols c.in_range_lem.result c.in_range_lem.ensures
+literal : (c : tie.After-in_range) → let a = (start c.before).args in in_range a.board.symbols a.l ≡ c.in_range.result
+literal c = let s = start c.before in range_is s.ranges.l.fits s.args.board.symbols c.in_range.result c.in_range.ensures
 
-given : (c : tie.After-all-literals) → let a = (start c.before.before.before).args in
-    all (in_range a.board.symbols) (a.l ∷ a.candidates.now) ≡ c.all-literals.result
+given : (c : tie.After-all_literals) → let a = (start c.before.before.before).args in
+    all (in_range a.board.symbols) (a.l ∷ a.candidates.now) ≡ c.all_literals.result
 given c =
     let a = (start c.before.before.before).args in
     let rest = all (in_range a.board.symbols) a.candidates.now in
-    ap (λ (b : Bool). b && rest) (literal c.before.before ∙ not-false _ c.before.if2.false) ∙ sym c.all-literals.ensures
+    ap (λ (b : Bool). b && rest) (literal c.before.before ∙ not-false _ c.before.if-not-in_range.false-raw) ∙ sym c.all_literals.ensures
 
-returns : tie.Need-returns
+returns : tie.Need-returns-then-not-good
 returns c =
     let g = c.before.before in
     let a = g.before.before.args in
-    let bad = bad_board a.table.now a.board a.candidates.now a.l a.sets.now
-    (sym g.good2.ensures ∙ not-true _ c.before.if1.true) in
-    let t = told_refused BadBoard (smallest_on a.table.now a.board a.candidates.now a.l) a.sets.now bad in
-    let w = contract a.table.now a.board a.candidates.now a.l a.sets.now t in
+    let bad = bad_board a.table.now a.board a.candidates.now a.l a.sets-1.now
+    (sym g.good2.ensures ∙ not-true _ c.before.if-not-good.true-raw) in
+    let t = told_refused BadBoard (smallest_on a.table.now a.board a.candidates.now a.l) a.sets-1.now bad in
+    let w = contract a.table.now a.board a.candidates.now a.l a.sets-1.now t in
     (c.refused.ensures ∙ w.0, w.1)
 
 -- where a literal is not the board's
-other : (e : tie.Else1) → let a = (start e).args in all (in_range a.board.symbols) (a.l ∷ a.candidates.now) ≡ false
-    → Told (smallest_outcome a.table.now a.board a.candidates.now a.l a.sets.now)
-    (smallest_on a.table.now a.board a.candidates.now a.l) a.sets.now a.sets.now
+other : (e : tie.Else-not-good) → let a = (start e).args in all (in_range a.board.symbols) (a.l ∷ a.candidates.now) ≡ false
+    → Told (smallest_outcome a.table.now a.board a.candidates.now a.l a.sets-1.now)
+    (smallest_on a.table.now a.board a.candidates.now a.l) a.sets-1.now a.sets-1.now
     (record { outcome = Refused BadLiteral; count = 0 })
 other e h =
     let a = (start e).args in
-    told_refused BadLiteral (smallest_on a.table.now a.board a.candidates.now a.l) a.sets.now
-    (bad_literal a.table.now a.board a.candidates.now a.l a.sets.now (is_good_lem e) h)
+    told_refused BadLiteral (smallest_on a.table.now a.board a.candidates.now a.l) a.sets-1.now
+    (bad_literal a.table.now a.board a.candidates.now a.l a.sets-1.now (is_good_lem e) h)
 
-returns_2 : tie.Need-returns-2
+returns_2 : tie.Need-returns-then-not-in_range
 returns_2 c =
     let t = c.before.before in
     let a = (start t.before).args in
     let rest = all (in_range a.board.symbols) a.candidates.now in
-    let told = other t.before (ap (λ (b : Bool). b && rest) (literal t ∙ not-true _ c.before.if2.true)) in
-    let w = contract a.table.now a.board a.candidates.now a.l a.sets.now told in
-    (c.refused2.ensures ∙ w.0, w.1)
+    let told = other t.before (ap (λ (b : Bool). b && rest) (literal t ∙ not-true _ c.before.if-not-in_range.true-raw)) in
+    let w = contract a.table.now a.board a.candidates.now a.l a.sets-1.now told in
+    (c.refused-then-not-in_range.ensures ∙ w.0, w.1)
 
-returns_3 : tie.Need-returns-3
+returns_3 : tie.Need-returns-then-not-all_literals
 returns_3 c =
     let t = c.before.before in
     let e = t.before.before.before in
     let a = (start e).args in
-    let w = contract a.table.now a.board a.candidates.now a.l a.sets.now (other e (given t ∙ not-true _ c.before.if3.true)) in
-    (c.refused3.ensures ∙ w.0, w.1)
+    let w = contract a.table.now a.board a.candidates.now a.l a.sets-1.now (other e (given t ∙ not-true _ c.before.if-not-all_literals.true-raw)) in
+    (c.refused-then-not-all_literals.ensures ∙ w.0, w.1)
 
-list_given_requires : tie.Need-list-given-requires
+list_given_requires : tie.Need-list_given-requires
 list_given_requires c κs =
     let t = c.before.before in
     let e = t.before.before.before in
     let s = start e in
     let a = s.args in
-    let all-given = ap (λ (z : ℤ). all (in_range a.board.symbols) (z ∷ a.candidates.now)) (to_z-of_z s.fits.l) in
-    (is_good_lem e, all-given ∙ given t ∙ not-false _ c.before.if3.false)
+    let all-given = ap (λ (z : ℤ). all (in_range a.board.symbols) (z ∷ a.candidates.now)) (to_z-of_z s.ranges.l.fits) in
+    (is_good_lem e, all-given ∙ given t ∙ not-false _ c.before.if-not-all_literals.false-raw)
 
-returns_4 : tie.Need-returns-4
+returns_4 : tie.Need-returns
 returns_4 c =
     let n = c.before.before in
     let f = n.before.before in
@@ -85,14 +85,14 @@ returns_4 c =
     let e = t.before.before.before in
     let s = start e in
     let a = s.args in
-    let read = to_z-of_z s.fits.l in
+    let read = to_z-of_z s.ranges.l.fits in
     let by =
-    literals_given a.table.now a.board a.candidates.now a.l a.sets.now (is_good_lem e) (given t ∙ not-false _ f.if3.false) in
+    literals_given a.table.now a.board a.candidates.now a.l a.sets-1.now (is_good_lem e) (given t ∙ not-false _ f.if-not-all_literals.false-raw) in
     let first : ℤ → Outcome = λ z.
-    first_fault (candidate_faults (too_many a.candidates.now) a.table.now a.board a.candidates.now z (length a.sets.now)) in
-    contract a.table.now a.board a.candidates.now a.l a.sets.now
+    first_fault (candidate_faults (too_many a.candidates.now) a.table.now a.board a.candidates.now z (length a.sets-1.now)) in
+    contract a.table.now a.board a.candidates.now a.l a.sets-1.now
     (told_as (ap first read ∙ sym by) (ap (smallest_on a.table.now a.board a.candidates.now) read)
-    record { answered = n.list-given.ensures.0; written = n.list-given.ensures.1 })
+    record { answered = n.list_given.ensures.0; written = n.list_given.ensures.1 })
 
 pub smallest_spec : {M : Type 1} → statement M
 smallest_spec = tie.close (tie.spec

@@ -8,33 +8,33 @@ use Rattle.smallest.proofs.Turns.{board_alone}
 use Rattle.smallest.proofs.search.alone.Statement.{statement}
 use Rattle.smallest.proofs.search.alone.Tie as tie
 
-abbrev invariant_loop : tie.invariant-loop
+abbrev invariant_loop : tie.invariant-loop-i
 invariant_loop board places set first₀ rest₀ i₀ first rest i =
     (i ≤ length places) × (length first ≡ 400)
     × (holding first (chosen (drop i places) rest) ≡ holding (replicate 400 false) (chosen places set))
 
-abbrev decreases_loop : tie.decreases-loop
+abbrev decreases_loop : tie.decreases-loop-i
 decreases_loop board places set first₀ rest₀ i₀ first rest i = length places - i
 
-loop_again : tie.Need-loop-preserved invariant_loop decreases_loop
+loop_again : tie.Need-loop-i-preserved invariant_loop decreases_loop
 loop_again c =
     let l = c.before.before in (
       omega arith,
-      ⊎_elim (λ w. ap length w.2 ∙ simp length-set l.loop.invariant.1) (λ w. ap length w.1 ∙ l.loop.invariant.1) c.if1.branch,
-      marked_turn l.before.args.places.now l.loop.i l.loop.rest holding true (λ h p ps. refl) (omega arith) l.loop.invariant.2
-          (⊎_elim (λ w. inl (w.0.true, w.2)) (λ w. inr (w.0.false, w.1)) c.if1.branch),
+      ⊎_elim (λ w. ap length w.2 ∙ simp length-set l.loop-i.invariant.1) (λ w. ap length w.1 ∙ l.loop-i.invariant.1) c.if-rest-eq1.branch,
+      marked_turn l.before.args.places.now l.loop-i.i l.loop-i.rest holding true (λ h p ps. refl) (omega arith) l.loop-i.invariant.2
+          (⊎_elim (λ w. inl (w.0.true, w.2)) (λ w. inr (w.0.false, w.1)) c.if-rest-eq1.branch),
     )
 
 returns : tie.Need-returns invariant_loop decreases_loop
 returns c =
     let l = c.before in
     let a = l.before.args in
-    board_alone a.board a.places.now a.set l.loop.first
-    (sym (ap (holding l.loop.first) (chosen_end a.places.now l.loop.i l.loop.rest (omega arith))) ∙ l.loop.invariant.2)
+    board_alone a.board a.places.now a.set l.loop-i.first
+    (sym (ap (holding l.loop-i.first) (chosen_end a.places.now l.loop-i.i l.loop-i.rest (omega arith))) ∙ l.loop-i.invariant.2)
 
 pub alone_spec : {M : Type 1} → statement M
 alone_spec = tie.close (tie.spec
     invariant_loop decreases_loop (λ c. (omega arith, refl, refl)) (λ c. omega arith) (λ c. omega arith)
     (λ c. (let l = c.before.before.before in
-    omega (arith, low_at 400 l.before.args.places.now l.loop.i l.before.requires.1 (omega arith))))
+    omega (arith, low_at 400 l.before.args.places.now l.loop-i.i l.before.requires.1 (omega arith))))
     (λ c. omega arith) (λ c. omega arith) loop_again returns)

@@ -13,11 +13,11 @@ halted b n e = rw e
 free : (b : Bool) (m n : ℕ) → b ≡ false → m ≡ n → m ≡ cond b 1 n
 free b m n e h = rw e h
 
-abbrev start : tie.Else1 → tie.Start
+abbrev start : tie.Else-stops_fewer → tie.Start
 start c = c.before.before.before.before
 
 -- where no set with one candidate fewer stops it: how the literal stands tells the note
-told : (c : tie.After-ask-whole) → let a = (start c.before.before).args in
+told : (c : tie.After-ask_whole) → let a = (start c.before.before).args in
     standing_note c.ask_whole.result
     ≡ cond (stops_fewer a.notes.now (length a.places.now) a.set) 1
     (standing_note (asked_whole a.table.now (alone_on a.board a.places.now a.set) 1 a.l))
@@ -26,15 +26,15 @@ told c =
     let s = start e in
     let a = s.args in
     let board = ap (λ (b : Board). asked_whole a.table.now b 1 (back a.l)) c.before.alone.ensures in
-    let literal = ap (asked_whole a.table.now (alone_on a.board a.places.now a.set) 1) (to_z-of_z s.fits.l) in
-    free _ _ _ (sym e.before.stops-fewer.ensures ∙ e.if1.false) (ap standing_note (c.ask_whole.ensures ∙ board ∙ literal))
+    let literal = ap (asked_whole a.table.now (alone_on a.board a.places.now a.set) 1) (to_z-of_z s.ranges.l.fits) in
+    free _ _ _ (sym e.before.stops_fewer.ensures ∙ e.if-stops_fewer.false) (ap standing_note (c.ask_whole.ensures ∙ board ∙ literal))
 
 pub note_spec : {M : Type 1} → statement M
 note_spec = tie.close (tie.spec
-    (λ c κs. search rules) (λ c. halted _ _ (sym c.before.stops-fewer.ensures ∙ c.if1.true))
+    (λ c κs. search rules) (λ c. halted _ _ (sym c.before.stops_fewer.ensures ∙ c.if-stops_fewer.true))
     (λ c κs. search rules) (λ c κs. search rules) (λ c. search rules) (λ c. search rules) (λ c. search rules) (λ c. search rules) (λ c. search rules)
-    (λ c. sym (ap standing_note c.enum_told.given.1) ∙ told c.before.before)
-    (λ c. sym (ap standing_note c.enum-told2.given.1) ∙ told c.before.before)
-    (λ c. sym (ap standing_note c.enum-told3.given.1) ∙ told c.before.before)
-    (λ c. sym (ap standing_note c.enum-told4.given.1) ∙ told c.before.before)
-    (λ c. sym (ap standing_note c.enum-told5.given.1) ∙ told c.before.before))
+    (λ c. sym (ap standing_note c.enum_told-1.given.1) ∙ told c.before.before)
+    (λ c. sym (ap standing_note c.enum_told-in-Stands-1.given.1) ∙ told c.before.before)
+    (λ c. sym (ap standing_note c.enum_told-in-RuledOut-1.given.1) ∙ told c.before.before)
+    (λ c. sym (ap standing_note c.enum_told-in-Open-1.given.1) ∙ told c.before.before)
+    (λ c. sym (ap standing_note c.enum_told-in-Refused-1.given.1) ∙ told c.before.before))

@@ -14,15 +14,15 @@ use Rattle.smallest.proofs.Notes.{note_is}
 use Rattle.smallest.proofs.search.note_sets.Statement.{statement}
 use Rattle.smallest.proofs.search.note_sets.Tie as tie
 
-abbrev invariant_loop : tie.invariant-loop
+abbrev invariant_loop : tie.invariant-loop-set
 invariant_loop board table places l notes₀ set₀ notes set =
     (set ≤ length notes₀) × (length notes ≡ length notes₀)
     × ((m : ℕ) → m < set → get_or notes m 0 ≡ note_of (2 * board.symbols) (rows_on table board) places (place_of (to_z w16 l)) m)
 
-abbrev decreases_loop : tie.decreases-loop
+abbrev decreases_loop : tie.decreases-loop-set
 decreases_loop board table places l notes₀ set₀ notes set = length notes₀ - set
 
-abbrev start : tie.At-loop invariant_loop decreases_loop → tie.Start invariant_loop decreases_loop
+abbrev start : tie.At-loop-set invariant_loop decreases_loop → tie.Start invariant_loop decreases_loop
 start l = l.before.before.before
 
 -- every place of the candidates is one of the flags
@@ -32,23 +32,23 @@ low s =
     let high = (good_is a.table.now a.board s.requires.0.0).sound.symbols in
     low_more (2 * a.board.symbols) 400 a.places.now (omega arith) s.requires.1.1
 
-loop_again : tie.Need-loop-preserved invariant_loop decreases_loop
+loop_again : tie.Need-loop-set-preserved invariant_loop decreases_loop
 loop_again c =
     let l = c.before.before.before in
     let s = start l in
     let a = s.args in
     let rows = rows_on a.table.now a.board in
-    let m = l.loop.set in
+    let m = l.loop-set.set in
     let p = place_of (back a.l) in
-    let range = ap (in_range a.board.symbols) (to_z-of_z s.fits.l) ∙ s.requires.0.1 in
+    let range = ap (in_range a.board.symbols) (to_z-of_z s.ranges.l.fits) ∙ s.requires.0.1 in
     let stood = asked_alone a.table.now a.board a.places.now m s.requires.1.1 s.requires.0.0 (back a.l) range in
     let noted : c.note.result ≡ note_of (2 * a.board.symbols) rows a.places.now p m =
     c.note.ensures
-    ∙ ap (λ (k : ℕ). cond (stops_fewer l.loop.notes (length a.places.now) m) 1 k) (ap standing_note stood)
-    ∙ note_is (2 * a.board.symbols) rows a.places.now p l.loop.notes m (omega (arith, s.requires.1.2)) l.loop.invariant.2 in (
+    ∙ ap (λ (k : ℕ). cond (stops_fewer l.loop-set.notes (length a.places.now) m) 1 k) (ap standing_note stood)
+    ∙ note_is (2 * a.board.symbols) rows a.places.now p l.loop-set.notes m (omega (arith, s.requires.1.2)) l.loop-set.invariant.2 in (
       omega arith,
-      simp length-set l.loop.invariant.1,
-      filled_more 0 (note_of (2 * a.board.symbols) rows a.places.now p) l.loop.notes m _ (omega (arith, l.loop.invariant.1)) l.loop.invariant.2
+      simp length-set l.loop-set.invariant.1,
+      filled_more 0 (note_of (2 * a.board.symbols) rows a.places.now p) l.loop-set.notes m _ (omega (arith, l.loop-set.invariant.1)) l.loop-set.invariant.2
           noted,
     )
 
@@ -59,13 +59,13 @@ returns c =
     let s = start l in
     let a = s.args in
     let rows = rows_on a.table.now a.board in
-    tabulate_ext 0 (2 ^ length a.places.now) (note_of (2 * a.board.symbols) rows a.places.now (place_of (back a.l))) l.loop.notes
-    (l.loop.invariant.1 ∙ s.requires.1.2) (λ m h. l.loop.invariant.2 m (omega (arith, s.requires.1.2)))
-    ∙ ap (λ (z : ℤ). notes_of (2 * a.board.symbols) rows a.places.now (place_of z)) (to_z-of_z s.fits.l)
+    tabulate_ext 0 (2 ^ length a.places.now) (note_of (2 * a.board.symbols) rows a.places.now (place_of (back a.l))) l.loop-set.notes
+    (l.loop-set.invariant.1 ∙ s.requires.1.2) (λ m h. l.loop-set.invariant.2 m (omega (arith, s.requires.1.2)))
+    ∙ ap (λ (z : ℤ). notes_of (2 * a.board.symbols) rows a.places.now (place_of z)) (to_z-of_z s.ranges.l.fits)
 
 pub note_sets_spec : {M : Type 1} → statement M
 note_sets_spec = tie.close (tie.spec
     invariant_loop decreases_loop (λ c. (omega arith, refl, λ m h. absurd (not-suc-le-zero h)))
-    (λ c κs. let l = c.before.before in ((start l).requires.1.0, low (start l), omega (arith, l.loop.invariant.1)))
-    (λ c. let l = c.before.before.before in omega (arith, l.loop.invariant.1)) (λ c. omega arith) (λ c. omega arith) loop_again
-    (λ c. c.before.loop.invariant.1) returns)
+    (λ c κs. let l = c.before.before in ((start l).requires.1.0, low (start l), omega (arith, l.loop-set.invariant.1)))
+    (λ c. let l = c.before.before.before in omega (arith, l.loop-set.invariant.1)) (λ c. omega arith) (λ c. omega arith) loop_again
+    (λ c. c.before.loop-set.invariant.1) returns)

@@ -7,30 +7,30 @@ use Rattle.smallest.proofs.Turns.{count_next}
 use Rattle.smallest.proofs.writing.count_listed.Statement.{statement}
 use Rattle.smallest.proofs.writing.count_listed.Tie as tie
 
-abbrev invariant_loop : tie.invariant-loop
+abbrev invariant_loop : tie.invariant-loop-set
 invariant_loop notes count₀ set₀ count set =
     (set ≤ length notes) × (count ≤ set) × (count ≡ length (keep (listed_in notes) (take set (from 0 (length notes)))))
 
-abbrev decreases_loop : tie.decreases-loop
+abbrev decreases_loop : tie.decreases-loop-set
 decreases_loop notes count₀ set₀ count set = length notes - set
 
-loop_again : tie.Need-loop-preserved invariant_loop decreases_loop
+loop_again : tie.Need-loop-set-preserved invariant_loop decreases_loop
 loop_again c =
     let l = c.before.before.before in
     let notes = l.before.args.notes.now in
-    let turn = count_next notes (length notes) l.loop.set (omega arith) in
+    let turn = count_next notes (length notes) l.loop-set.set (omega arith) in
     ⊎_elim
-    (λ w. let one = ap tally (eq-eqb _ 2 w.0.true) in (omega arith, omega arith, omega (arith, turn, one, w.1, l.loop.invariant.2)))
-    (λ w. let none = ap tally (ne_eqb _ 2 w.0.false) in (omega arith, omega arith, omega (arith, turn, none, w.1, l.loop.invariant.2)))
-    c.if1.branch
+    (λ w. let one = ap tally (eq-eqb _ 2 w.0.true) in (omega arith, omega arith, omega (arith, turn, one, w.1, l.loop-set.invariant.2)))
+    (λ w. let none = ap tally (ne_eqb _ 2 w.0.false) in (omega arith, omega arith, omega (arith, turn, none, w.1, l.loop-set.invariant.2)))
+    c.if-notes-set-eq-LISTED.branch
 
 returns : tie.Need-returns invariant_loop decreases_loop
 returns c =
     let l = c.before in
     let notes = l.before.args.notes.now in
-    l.loop.invariant.2
+    l.loop-set.invariant.2
     ∙ ap (λ (ms : List ℕ). length (keep (listed_in notes) ms))
-    (take_all l.loop.set (from 0 (length notes)) (omega (arith, length_from 0 (length notes))))
+    (take_all l.loop-set.set (from 0 (length notes)) (omega (arith, length_from 0 (length notes))))
 
 pub count_listed_spec : {M : Type 1} → statement M
 count_listed_spec = tie.close (tie.spec

@@ -4,19 +4,19 @@ use Rattle.candidates.specs.Sets.{size}
 use Rattle.smallest.proofs.writing.listed_of_size.Statement.{statement}
 use Rattle.smallest.proofs.writing.listed_of_size.Tie as tie
 
-abbrev start : tie.After-size-of → tie.Start
+abbrev start : tie.After-size_of → tie.Start
 start c = c.before.before.before.before
 
-returns : tie.Need-returns
+returns : tie.Need-returns-then-notes-set-ne-LISTED
 returns c =
     let a = c.before.before.before.args in
-    sym (ap (λ (b : Bool). eqb (size a.n a.set) a.k && b) (ne_eqb _ 2 c.if1.true) ∙ and-false (eqb (size a.n a.set) a.k))
+    sym (ap (λ (b : Bool). eqb (size a.n a.set) a.k && b) (ne_eqb _ 2 c.if-notes-set-ne-LISTED.true) ∙ and-false (eqb (size a.n a.set) a.k))
 
-returns_2 : tie.Need-returns-2
+returns_2 : tie.Need-returns
 returns_2 c =
     let a = (start c).args in
     let same = ap (λ (s : ℕ). eqb s a.k) c.type_size.ensures in
-    same ∙ sym (ap (λ (b : Bool). eqb (size a.n a.set) a.k && b) (eq-eqb _ 2 c.before.if1.false)
+    same ∙ sym (ap (λ (b : Bool). eqb (size a.n a.set) a.k && b) (eq-eqb _ 2 c.before.if-notes-set-ne-LISTED.false)
     ∙ and-true (eqb (size a.n a.set) a.k))
 
 pub listed_of_size_spec : {M : Type 1} → statement M

@@ -3,11 +3,11 @@ use Rattle.meaning.proofs.Kit.{◌≤◌, arith, rules}
 use Rattle.stack.proofs.record.less_top.Statement.{statement}
 use Rattle.stack.proofs.record.less_top.Tie as tie
 
-some : (c : tie.After-stack-of) → (1 ≤ c.stack_of.result.count) × (c.stack_of.result.count ≤ 400)
-some c = rw c.stack_of.ensures c.before.requires
+some : (c : tie.After-stack_of-stack) → (1 ≤ c.stack_of-stack.result.count) × (c.stack_of-stack.result.count ≤ 400)
+some c = rw c.stack_of-stack.ensures c.before.requires
 
 returns : tie.Need-returns
-returns c = rw (← c.before.stack_of.ensures) c.with-stack.ensures
+returns c = rw (← c.before.stack_of-stack.ensures) c.with_stack.ensures
 
 pub less_top_spec : {M : Type 1} → statement M
 less_top_spec = tie.close (tie.spec

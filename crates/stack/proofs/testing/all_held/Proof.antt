@@ -11,66 +11,66 @@ use Rattle.stack.proofs.Struck.{struck_drop}
 use Rattle.stack.proofs.testing.all_held.Statement.{statement}
 use Rattle.stack.proofs.testing.all_held.Tie as tie
 
-abbrev invariant_loop : tie.invariant-loop
+abbrev invariant_loop : tie.invariant-loop-k
 invariant_loop on symbols left₀ k₀ left k = (k ≤ length on) × (length left ≡ 400) × (all_struck symbols left (drop k on) ≡ all_struck symbols left₀ on)
 
-abbrev decreases_loop : tie.decreases-loop
+abbrev decreases_loop : tie.decreases-loop-k
 decreases_loop on symbols left₀ k₀ left k = length on - k
 
 -- the literal that is tested
-abbrev here : tie.At-loop invariant_loop decreases_loop → ℤ
-here l = get_or l.before.args.on.now l.loop.k (pos 0)
+abbrev here : tie.At-loop-k invariant_loop decreases_loop → ℤ
+here l = get_or l.before.args.on.now l.loop-k.k (pos 0)
 
-fits : (c : tie.After-l invariant_loop decreases_loop) → SFits w16 (here c.before.before)
-fits c = record { sfits = c.l.given }
+fits : (c : tie.After-l-1 invariant_loop decreases_loop) → SFits w16 (here c.before.before)
+fits c = record { sfits = c.l-1.given }
 
 -- where it is tested
-abbrev at : tie.After-is-flagged invariant_loop decreases_loop → tie.At-loop invariant_loop decreases_loop
+abbrev at : tie.After-is_flagged invariant_loop decreases_loop → tie.At-loop-k invariant_loop decreases_loop
 at c = c.before.before.before.before
 
 -- what the literals after it tell, with its flag struck off
-abbrev rest : tie.At-loop invariant_loop decreases_loop → Bool
-rest l = let a = l.before.args in all_struck a.symbols (set l.loop.false (place_of (here l)) false) (drop (l.loop.k + 1) a.on.now)
+abbrev rest : tie.At-loop-k invariant_loop decreases_loop → Bool
+rest l = let a = l.before.args in all_struck a.symbols (set l.loop-k.false (place_of (here l)) false) (drop (l.loop-k.k + 1) a.on.now)
 
-next : (c : tie.After-is-flagged invariant_loop decreases_loop) → let a = (at c).before.args in
-    all_struck a.symbols a.held a.on.now ≡ (c.is-flagged.result && rest (at c))
+next : (c : tie.After-is_flagged invariant_loop decreases_loop) → let a = (at c).before.args in
+    all_struck a.symbols a.held a.on.now ≡ (c.is_flagged.result && rest (at c))
 next c =
     let l = at c in
     let a = l.before.args in
-    let test : ℤ → Bool = λ m. in_range a.symbols m && has l.loop.false (place_of m) in
-    sym l.loop.invariant.2 ∙ struck_drop a.symbols l.loop.false a.on.now l.loop.k (omega arith)
-    ∙ ap (λ (b : Bool). b && rest l) (sym (c.is-flagged.ensures ∙ ap test (to_z-of_z (fits c.before.before))))
+    let test : ℤ → Bool = λ m. in_range a.symbols m && has l.loop-k.false (place_of m) in
+    sym l.loop-k.invariant.2 ∙ struck_drop a.symbols l.loop-k.false a.on.now l.loop-k.k (omega arith)
+    ∙ ap (λ (b : Bool). b && rest l) (sym (c.is_flagged.ensures ∙ ap test (to_z-of_z (fits c.before.before))))
 
-within : (c : tie.Else1 invariant_loop decreases_loop) → in_range 200 (back (here (at c.before))) ≡ true
+within : (c : tie.Else-not-is_flagged invariant_loop decreases_loop) → in_range 200 (back (here (at c.before))) ≡ true
 within c =
     let f = c.before in
     let l = at f in
-    flag_within l.before.args.symbols 200 l.loop.false (back (here l)) l.loop.invariant.1
-    (sym f.is-flagged.ensures ∙ not-false _ c.if1.false)
+    flag_within l.before.args.symbols 200 l.loop-k.false (back (here l)) l.loop-k.invariant.1
+    (sym f.is_flagged.ensures ∙ not-false _ c.if-not-is_flagged.false-raw)
 
-returns : tie.Need-returns invariant_loop decreases_loop
-returns c = let f = c.before in sym (next f ∙ ap (λ (b : Bool). b && rest (at f)) (not-true f.is-flagged.result c.if1.true))
+returns : tie.Need-returns-then-not-is_flagged invariant_loop decreases_loop
+returns c = let f = c.before in sym (next f ∙ ap (λ (b : Bool). b && rest (at f)) (not-true f.is_flagged.result c.if-not-is_flagged.true-raw))
 
-array_write_left : tie.Need-array-write-left invariant_loop decreases_loop
+array_write_left : tie.Need-bounds-left-place invariant_loop decreases_loop
 array_write_left c = let e = c.before in omega (arith, c.place.ensures, place_fits 200 (back (here (at e.before))) (within e))
 
-loop_again : tie.Need-loop-preserved invariant_loop decreases_loop
+loop_again : tie.Need-loop-k-preserved invariant_loop decreases_loop
 loop_again c =
     let f = c.before.before in
     let l = at f in
     let a = l.before.args in (
       omega arith,
-      simp length-set l.loop.invariant.1,
-      ap (λ p. all_struck a.symbols (set l.loop.false p false) (drop (l.loop.k + 1) a.on.now))
+      simp length-set l.loop-k.invariant.1,
+      ap (λ p. all_struck a.symbols (set l.loop-k.false p false) (drop (l.loop-k.k + 1) a.on.now))
           (c.place.ensures ∙ ap place_of (to_z-of_z (fits f.before.before)))
-          ∙ sym (next f ∙ ap (λ (b : Bool). b && rest l) (not-false f.is-flagged.result c.before.if1.false)),
+          ∙ sym (next f ∙ ap (λ (b : Bool). b && rest l) (not-false f.is_flagged.result c.before.if-not-is_flagged.false-raw)),
     )
 
-returns_2 : tie.Need-returns-2 invariant_loop decreases_loop
+returns_2 : tie.Need-returns invariant_loop decreases_loop
 returns_2 c =
     let l = c.before in
     let a = l.before.args in
-    sym (ap (all_struck a.symbols l.loop.false) (drop_of_length-le a.on.now {i = l.loop.k} (omega arith))) ∙ l.loop.invariant.2
+    sym (ap (all_struck a.symbols l.loop-k.false) (drop_of_length-le a.on.now {i = l.loop-k.k} (omega arith))) ∙ l.loop-k.invariant.2
 
 pub all_held_spec : {M : Type 1} → statement M
 all_held_spec = tie.close (tie.spec

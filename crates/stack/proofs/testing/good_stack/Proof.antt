@@ -6,35 +6,35 @@ use Rattle.stack.proofs.Struck.{good_struck}
 use Rattle.stack.proofs.testing.good_stack.Statement.{statement}
 use Rattle.stack.proofs.testing.good_stack.Tie as tie
 
-abbrev start : tie.Joined2 → tie.Start
+abbrev start : tie.Joined-count-lt400 → tie.Start
 start c = c.before.before.before
 
-long : (c : tie.Joined2) → length (start c).args.stack.literals ≡ 400
+long : (c : tie.Joined-count-lt400) → length (start c).args.stack.literals ≡ 400
 long c = search rules
 
-short : (c : tie.Joined2) → c.if2.on ≤ 400
-short c = ⊎_elim (λ t. omega (arith, t.0.true, t.1)) (λ t. omega (arith, t.1)) c.if2.branch
+short : (c : tie.Joined-count-lt400) → c.if-count-lt400.on ≤ 400
+short c = ⊎_elim (λ t. omega (arith, t.0.true, t.1)) (λ t. omega (arith, t.1)) c.if-count-lt400.branch
 
 -- the literals that are looked at are those on the stack
-same : (c : tie.Joined2) → take c.if2.on (start c).args.stack.literals ≡ on_stack (start c).args.stack
+same : (c : tie.Joined-count-lt400) → take c.if-count-lt400.on (start c).args.stack.literals ≡ on_stack (start c).args.stack
 same c =
     let s = (start c).args.stack in
     let whole : (n : ℕ) → 400 ≤ n → take n s.literals ≡ s.literals = λ n h. take_all n s.literals (omega (arith, long c, h)) in
     ⊎_elim
     (λ t. ap (λ n. take n s.literals) t.1)
-    (λ t. whole c.if2.on (omega (arith, t.1)) ∙ sym (whole s.count t.0.false))
-    c.if2.branch
+    (λ t. whole c.if-count-lt400.on (omega (arith, t.1)) ∙ sym (whole s.count t.0.false))
+    c.if-count-lt400.branch
 
-returns : tie.Need-returns
+returns : tie.Need-returns-then-symbols-count
 unfolding good_stack
-returns c = let a = c.before.before.args in rw (lt-leb a.stack.count (2 * a.symbols) (omega (arith, c.if1.true)))
+returns c = let a = c.before.before.args in rw (lt-leb a.stack.count (2 * a.symbols) (omega (arith, c.if-symbols-count.true)))
 
-returns_2 : tie.Need-returns-2
+returns_2 : tie.Need-returns
 returns_2 c =
     let j = c.before.before.before in
     let a = (start j).args in
     c.all_held.ensures ∙ ap (all_struck a.symbols a.held) (same j)
-    ∙ sym (good_struck a.symbols a.held a.stack (omega (arith, j.before.if1.false)))
+    ∙ sym (good_struck a.symbols a.held a.stack (omega (arith, j.before.if-symbols-count.false)))
 
 pub good_stack_spec : {M : Type 1} → statement M
 good_stack_spec = tie.close (tie.spec

@@ -7,19 +7,19 @@ use Rattle.stack.specs.Stacking.{on_stack}
 use Rattle.stack.proofs.testing.is_stacked.Statement.{statement}
 use Rattle.stack.proofs.testing.is_stacked.Tie as tie
 
-abbrev start : tie.After-places → tie.Start
+abbrev start : tie.After-places-1 → tie.Start
 start c = c.before.before
 
-long : (c : tie.After-places) → length (start c).args.stack.literals ≡ 400
+long : (c : tie.After-places-1) → length (start c).args.stack.literals ≡ 400
 long c = search rules
 
-is_on_requires : tie.Need-is-on-requires
-is_on_requires c κs = let s = start c.before in (s.requires.1, ap (in_range 200) (to_z-of_z s.fits.l) ∙ s.requires.2)
+is_on_requires : tie.Need-is_on-requires
+is_on_requires c κs = let s = start c.before in (s.requires.1, ap (in_range 200) (to_z-of_z s.ranges.l.fits) ∙ s.requires.2)
 
 returns : tie.Need-returns
 returns c =
     let s = start c.before.before in
-    c.is-on.ensures ∙ ap (λ l. member (place_of l) (places_of (on_stack s.args.stack))) (to_z-of_z s.fits.l)
+    c.is_on.ensures ∙ ap (λ l. member (place_of l) (places_of (on_stack s.args.stack))) (to_z-of_z s.ranges.l.fits)
 
 pub is_stacked_spec : {M : Type 1} → statement M
 is_stacked_spec = tie.close (tie.spec

@@ -6,43 +6,43 @@ use Rattle.text.proofs.RuledText.{text_bytes, text_table, text_broken, board_spo
 use Rattle.text.proofs.adding.add_text.Statement.{statement}
 use Rattle.text.proofs.adding.add_text.Tie as tie
 
-abbrev start : tie.After-read-text → tie.Start
+abbrev start : tie.After-read_text → tie.Start
 start c = c.before.before
 
 -- the text keeps the form
-keeps : (c : tie.After-enum-told) → is_good (whole_text (start c.before.before).args.text.now) ≡ true
+keeps : (c : tie.In-Used) → is_good (whole_text (start c.before.before).args.text.now) ≡ true
 keeps c =
     let r = c.before.before in
-    ap is_good (answer_good (whole_text (start r).args.text.now) (sym r.read_text.ensures ∙ c.enum_told.given.1)).1
+    ap is_good (answer_good (whole_text (start r).args.text.now) (sym r.read_text.ensures ∙ c.enum_told-1.given.1)).1
 
-returns_2 : tie.Need-returns-2
+returns_2 : tie.Need-returns-in-Used
 returns_2 c =
     let f = c.before in
     let t = f.before.before in
     let a = (start t.before.before).args in
-    let bytes = text_bytes a.table.now a.board a.text.now (keeps t) in
-    let table = text_table a.table.now a.board a.text.now (keeps t) in
-    (f.add-formula.ensures.0 ∙ sym bytes, f.add-formula.ensures.1 ∙ sym table)
+    let bytes = text_bytes a.table-1.now a.board a.text.now (keeps t) in
+    let table = text_table a.table-1.now a.board a.text.now (keeps t) in
+    (f.add_formula.ensures.0 ∙ sym bytes, f.add_formula.ensures.1 ∙ sym table)
 
-returns : tie.Need-returns
+returns : tie.Need-returns-then-good
 returns c =
     let then = c.before in
     let g = then.before in
     let w = g.before.before.before in
     let r = w.before.before in
     let a = (start r).args in
-    let e = answer_bad (whole_text a.text.now) (sym r.read_text.ensures ∙ w.why.given.1) in
-    let all = text_broken a.table.now a.board a.text.now e (sym g.good2.ensures ∙ then.if1.true) in
+    let e = answer_bad (whole_text a.text.now) (sym r.read_text.ensures ∙ w.why-1.given.1) in
+    let all = text_broken a.table-1.now a.board a.text.now e (sym g.good2.ensures ∙ then.if-good.true) in
     (c.refused.ensures ∙ all.0, all.1)
 
-returns_3 : tie.Need-returns-3
+returns_3 : tie.Need-returns-else-good
 returns_3 c =
     let else = c.before in
     let g = else.before in
     let w = g.before.before.before in
     let a = (start w.before.before).args in
-    let all = board_spoilt a.table.now a.board a.text.now (sym g.good2.ensures ∙ else.if1.false) in
-    (c.refused2.ensures ∙ all.0, all.1)
+    let all = board_spoilt a.table-1.now a.board a.text.now (sym g.good2.ensures ∙ else.if-good.false) in
+    (c.refused-in-Refused.ensures ∙ all.0, all.1)
 
 pub add_text_spec : {M : Type 1} → statement M
 add_text_spec = tie.close (tie.spec

@@ -5,17 +5,17 @@ use Rattle.text.proofs.Rooms.{all_fit, all_held}
 use Rattle.text.proofs.reading.judge_short.Statement.{statement}
 use Rattle.text.proofs.reading.judge_short.Tie as tie
 
-fits : (e : tie.After-emit) → e.emit.result ≤ length e.emit.new.1.0
-fits e = let s = e.before.before.before in all_fit s.args.text.now e.emit.ensures s.requires.1 (omega (arith, s.requires.0))
+fits : (e : tie.After-emit-size) → e.emit-size.result ≤ length e.emit-size.new.out
+fits e = let s = e.before.before.before in all_fit s.args.text.now e.emit-size.ensures s.requires.1 (omega (arith, s.requires.0))
 
-slice_aggregate_read_whole : tie.Need-slice-aggregate-read-whole
-slice_aggregate_read_whole c = let e = c.before.before in sym (length-take-le e.emit.result e.emit.new.1.0 (fits e))
+slice_aggregate_read_whole : tie.Need-slice_bounds-read_whole-end
+slice_aggregate_read_whole c = let e = c.before.before in sym (length-take-le e.emit-size.result e.emit-size.new.out (fits e))
 
 returns : tie.Need-returns
 returns c =
     let e = c.before.before.before in
     let s = e.before.before.before in
-    let held = all_held s.args.text.now e.emit.ensures s.requires.1 (omega (arith, s.requires.0)) in
+    let held = all_held s.args.text.now e.emit-size.ensures s.requires.1 (omega (arith, s.requires.0)) in
     c.read_whole.ensures ∙ ap (λ l. read_of (whole_of s.args.symbols l)) held
 
 pub judge_short_spec : {M : Type 1} → statement M

@@ -11,54 +11,54 @@ use Rattle.text.proofs.WrittenText.{write_refused, write_by_room}
 use Rattle.text.proofs.writing.write.Statement.{statement}
 use Rattle.text.proofs.writing.write.Tie as tie
 
-abbrev start : tie.Else1 → tie.Start
+abbrev start : tie.Else-not-good → tie.Start
 start c = c.before.before.before.before
 
-abbrev begun : tie.After-enum-told → tie.Start
+abbrev begun : tie.In-Used → tie.Start
 begun c = start c.before.before.before
 
 -- the board is good
-good : (c : tie.Else1) → good_board (start c).args.table.now (start c).args.board ≡ true
-good c = sym c.before.good2.ensures ∙ not-false _ c.if1.false
+good : (c : tie.Else-not-good) → good_board (start c).args.table.now (start c).args.board ≡ true
+good c = sym c.before.good2.ensures ∙ not-false _ c.if-not-good.false-raw
 
-returns : tie.Need-returns
+returns : tie.Need-returns-then-not-good
 unfolding write_text_outcome write_text_faults
 returns c =
     let g = c.before.before in
     let a = g.before.before.before.args in
-    let spoilt = sym g.good2.ensures ∙ not-true _ c.before.if1.true in
-    write_refused a.table.now a.board a.bytes.now a.out.now BadBoard (rw spoilt) refl c.refused.ensures
+    let spoilt = sym g.good2.ensures ∙ not-true _ c.before.if-not-good.true-raw in
+    write_refused a.table.now a.board a.bytes.now a.out-1.now BadBoard (rw spoilt) refl c.refused.ensures
 
 -- the formula is read
-read : (c : tie.After-enum-told) → is_good (whole_of (begun c).args.board.symbols (begun c).args.bytes.now) ≡ true
+read : (c : tie.In-Used) → is_good (whole_of (begun c).args.board.symbols (begun c).args.bytes.now) ≡ true
 read c =
     let a = (begun c).args in
-    ap is_good (answer_good (whole_of a.board.symbols a.bytes.now) (sym c.before.before.read_whole.ensures ∙ c.enum_told.given.1)).1
+    ap is_good (answer_good (whole_of a.board.symbols a.bytes.now) (sym c.before.before.read_whole.ensures ∙ c.enum_told-1.given.1)).1
 
-write_formula_requires : tie.Need-write-formula-requires
+write_formula_requires : tie.Need-write_formula-requires
 write_formula_requires c κs =
     let t = c.before in
     let a = (begun t).args in
     ((good_is a.table.now a.board (good t.before.before.before)).sound.symbols, read t)
 
-returns_2 : tie.Need-returns-2
+returns_2 : tie.Need-returns-in-Refused
 unfolding write_text_outcome write_text_faults
 returns_2 c =
     let w = c.before.before in
     let r = w.before.before in
     let a = (start r.before).args in
-    let e = answer_bad (whole_of a.board.symbols a.bytes.now) (sym r.read_whole.ensures ∙ w.why.given.1) in
-    write_refused a.table.now a.board a.bytes.now a.out.now w.why.given.0.0 (rw (good r.before, e))
-    (place_told_lem a.board.symbols a.bytes.now e) c.refused2.ensures
+    let e = answer_bad (whole_of a.board.symbols a.bytes.now) (sym r.read_whole.ensures ∙ w.why-1.given.1) in
+    write_refused a.table.now a.board a.bytes.now a.out-1.now w.why-1.given.0.0 (rw (good r.before, e))
+    (place_told_lem a.board.symbols a.bytes.now e) c.refused-in-Refused.ensures
 
-returns_3 : tie.Need-returns-3
+returns_3 : tie.Need-returns-in-Used
 unfolding write_text_answer write_text_bytes
 returns_3 c =
     let f = c.before.before in
     let t = f.before.before in
     let g = t.before.before.before in
     let a = (begun t).args in
-    rw (write_by_room a.table.now a.board a.bytes.now a.out.now (good g) (read t)) f.write-formula.ensures
+    rw (write_by_room a.table.now a.board a.bytes.now a.out-1.now (good g) (read t)) f.write_formula.ensures
 
 pub write_spec : {M : Type 1} → statement M
 write_spec = tie.close (tie.spec

@@ -15,28 +15,28 @@ spelt S bytes e = ap (λ p. spelled (formula_of p)) (sym (whole_is S bytes e))
 reads : (S : ℕ) (bytes : List ℕ) → is_good (whole_of S bytes) ≡ true → is_good (parse S levels bytes) ≡ true
 reads S bytes e = ap is_good (sym (whole_is S bytes e)) ∙ e
 
-abbrev start : tie.After-spell → tie.Start
+abbrev start : tie.After-spell-size → tie.Start
 start c = c.before.before.before.before
 
-spell_requires : tie.Need-spell-requires
+spell_requires : tie.Need-spell-size-requires
 spell_requires c κs =
     let s = c.before.before.before in
     (s.requires.0, reads s.args.symbols s.args.bytes.now s.requires.1)
 
-returns : tie.Need-returns
+returns : tie.Need-returns-then-out-size
 returns c =
     let p = c.before.before.before in
     let s = start p in
     let bytes = s.args.bytes.now in
     let same = ap length (spelt s.args.symbols bytes s.requires.1) in
-    too_short s.args.symbols bytes s.args.out.now (omega (arith, p.spell.ensures.ends, same, c.before.if1.true)) c.refused.ensures
+    too_short s.args.symbols bytes s.args.out-1.now (omega (arith, p.spell-size.ensures.ends, same, c.before.if-out-size.true)) c.refused.ensures
 
-spell_requires_2 : tie.Need-spell-requires-2
+spell_requires_2 : tie.Need-spell-requires
 spell_requires_2 c κs =
     let s = start c.before.before.before in
     (s.requires.0, reads s.args.symbols s.args.bytes.now s.requires.1)
 
-returns_2 : tie.Need-returns-2
+returns_2 : tie.Need-returns
 returns_2 c =
     let w = c.before.before in
     let else = w.before.before in
@@ -44,10 +44,10 @@ returns_2 c =
     let s = start p in
     let bytes = s.args.bytes.now in
     let same = spelt s.args.symbols bytes s.requires.1 in
-    fitting s.args.symbols bytes s.args.out.now (omega (arith, p.spell.ensures.ends, ap length same, else.if1.false))
-    (rw same at w.spell2.ensures) refl
+    fitting s.args.symbols bytes s.args.out-1.now (omega (arith, p.spell-size.ensures.ends, ap length same, else.if-out-size.false))
+    (rw same at w.spell.ensures) refl
 
 pub write_formula_spec : {M : Type 1} → statement M
 write_formula_spec = tie.close (tie.spec
     (λ c. search rules) (λ c. search rules) spell_requires (λ c κs. search rules) returns spell_requires_2
-    (λ c. put_length c.before.before.spell2.ensures) returns_2)
+    (λ c. put_length c.before.before.spell.ensures) returns_2)
