@@ -7,7 +7,7 @@ use Rattle.findings.proofs.Filling.{part_long, part_same}
 use Rattle.rounds.proofs.propagation.propagate_few.Statement.{statement}
 use Rattle.rounds.proofs.propagation.propagate_few.Tie as tie
 
-abbrev start : tie.After-heads → tie.Start
+abbrev start : tie.After-heads-1 → tie.Start
 start c = c.before.before.before.before.before.before.before.before
 
 -- one link for each cell, and one count for each row
@@ -17,7 +17,7 @@ links s = part_long _ 512 0 (omega (arith, s.requires.1))
 counts : (s : tie.Start) → length (take s.args.rows (replicate {A = ℕ} 64 0)) ≡ s.args.rows
 counts s = part_long _ 64 0 s.requires.1
 
-propagate_in_requires : tie.Need-propagate-in-requires
+propagate_in_requires : tie.Need-propagate_in-requires
 propagate_in_requires c κs =
     let s = start c.before.before.before in
     let few = few_places s.requires.0.fit in
