@@ -33,7 +33,7 @@ returns c =
     )
 
 propagate_all_requires : tie.Need-propagate_all-requires
-propagate_all_requires c κs = let p = (entry c).requires in record { fit = p.0; flags = p.1.0; inside = p.1.1; unset = λ e. rw (← e) }
+propagate_all_requires c κs = let s = entry c in (s.requires.0, (s.requires.1, λ e. rw (← e)))
 
 pub propagate_spec : {M : Type 1} → statement M
 propagate_spec = tie.close (tie.spec

@@ -11,7 +11,7 @@ use Rattle.rounds.proofs.propagation.propagate_in.Tie as tie
 
 -- there is a head for each place
 long : (s : tie.Start) → length s.args.heads.now ≡ length s.args.ranks.now
-long s = ap length s.requires.1.0 ∙ length-replicate _ _
+long s = ap length s.requires.1.1.1.0 ∙ length-replicate _ _
 
 abbrev entry : tie.After-fill-arg-3-1 → tie.Start
 entry c = c.before.before.before.before.before.before.before.before.before.before.before
@@ -58,14 +58,15 @@ marked c = c.before.before
 fill_requires : tie.Need-fill-requires
 fill_requires c κs =
     let s = entry c in
-    let fit : Fit (length s.args.heads.now) s.args.rows s.args.table.now = rw (long s) s.requires.0.fit in
-    (fit, ((s.requires.1.1.0, s.requires.1.1.2), rw (long s) s.requires.1.0))
+    let fit : Fit (length s.args.heads.now) s.args.rows s.args.table.now = rw (long s) s.requires.0 in
+    let p = s.requires.1.1.1 in
+    (fit, ((p.1.0, p.1.2), rw (long s) p.0))
 
 rank_all_requires : tie.Need-rank_all-end-requires
 rank_all_requires c κs =
     let f = indexed c in
     let p = (start f).requires in
-    (p.0.fit, (index f, ((p.0.flags, p.1.1.1), f.fill.ensures.1.1)))
+    (p.0, (index f, ((p.1.0.0, p.1.1.1.1.1), f.fill.ensures.1.1)))
 
 reach_asked_requires : tie.Need-reach_asked-requires
 reach_asked_requires c κs =
@@ -75,18 +76,18 @@ reach_asked_requires c κs =
     let s = start f in
     let a = s.args in
     let l : length a.marks.now ≡ length a.ranks.now = t.if-marks-ranks.true ∙ same r in
-    let fit : Fit (length a.marks.now) a.rows a.table.now = rw l s.requires.0.fit in
-    (fit, (rw l (index f), (omega (arith, l, s.requires.0.flags), (rw l r.rank_all-end.ensures.0, rw l (s.requires.0.unset l)))))
+    let fit : Fit (length a.marks.now) a.rows a.table.now = rw l s.requires.0 in
+    (fit, (rw l (index f), (omega (arith, l, s.requires.1.0.0), (rw l r.rank_all-end.ensures.0, rw l (s.requires.1.1.0 l)))))
 
 write_supports_requires : tie.Need-write_supports-requires
 write_supports_requires c κs =
     let r = ranked c in
     let f = filling r in
     let s = start f in
-    let fit : Fit (length r.rank_all-end.new.ranks) s.args.rows s.args.table.now = rw (same r) s.requires.0.fit in
+    let fit : Fit (length r.rank_all-end.new.ranks) s.args.rows s.args.table.now = rw (same r) s.requires.0 in
     let all = r.rank_all-end.ensures.1 in
     let queue = r.rank_all-end.auto.queue in
-    (fit, (rw (same r) (index f), (omega (arith, s.requires.0.inside, same r), (all, omega (arith, all.few, same r, s.requires.1.1.1, queue)))))
+    (fit, (rw (same r) (index f), (omega (arith, s.requires.1.0.1, same r), (all, omega (arith, all.few, same r, s.requires.1.1.1.1.1, queue)))))
 
 same_length_3 : tie.Need-shape_of-marks
 same_length_3 c = ⊎_elim (λ y. ap length y.marks-is ∙ y.reach_asked.auto.marks) (λ n. ap length n.marks-is) (marked c.before.before).if-marks-ranks.branch-raw
@@ -99,17 +100,17 @@ returns c =
     let a = s.args in
     let places = length a.ranks.now in
     let rows = rows_in a.rows a.table.now in
-    let ranks = r.rank_all-end.ensures.0 in
-    let small = few_places s.requires.0.fit in
-    record {
-      ranks_are = ranks;
-      supports_are = w.write_supports.ensures
-          ∙ supports_are places rows a.held.now (omega (arith, small)) ranks (length a.supports.now) a.from s.requires.0.inside;
-      marks_are = λ all. ⊎_elim
-          (λ y. y.marks-is ∙ y.reach_asked.ensures ∙ ap (λ n. reached_asked n rows a.held.now a.p) all)
-          (λ n. absurd (n.if-marks-ranks.false (all ∙ sym (same r))))
-          (marked w).if-marks-ranks.branch-raw;
-    }
+    let ranks = r.rank_all-end.ensures.0 in (
+      ranks,
+      (
+        w.write_supports.ensures
+            ∙ supports_are places rows a.held.now (omega (arith, few_places s.requires.0)) ranks (length a.supports.now) a.from s.requires.1.0.1,
+        λ all. ⊎_elim
+            (λ y. y.marks-is ∙ y.reach_asked.ensures ∙ ap (λ n. reached_asked n rows a.held.now a.p) all)
+            (λ n. absurd (n.if-marks-ranks.false (all ∙ sym (same r))))
+            (marked w).if-marks-ranks.branch-raw,
+      ),
+    )
 
 pub propagate_in_spec : {M : Type 1} → statement M
 propagate_in_spec = tie.close (tie.spec

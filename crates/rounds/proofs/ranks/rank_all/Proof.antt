@@ -9,10 +9,10 @@ use Rattle.literals.proofs.Scanning.{few_places}
 use Rattle.index.specs.Index.{Index}
 use Rattle.findings.specs.Queue.{Room, AllQueued}
 use Rattle.findings.proofs.Queueing.{counted_le, room_after, queued_same}
-use Rattle.rounds.specs.Ranks.{start_ranks, ranks_after}
+use Rattle.rounds.specs.Ranks.{start_ranks, ranks_after, ranks_by}
 use Rattle.rounds.specs.Queue.{ranked, Frontier}
 use Rattle.rounds.specs.Visits.{Counts}
-use Rattle.rounds.proofs.RankTables.{ranks_by, start_ranks_is, Turn, round_ranks, round_last, round_low, round_new, round_old, round_settled}
+use Rattle.rounds.proofs.RankTables.{start_ranks_is, Turn, round_ranks, round_last, round_low, round_new, round_old, round_settled}
 use Rattle.rounds.proofs.Counting.{counts_start, counts_long}
 use Rattle.rounds.proofs.Frontiers.{frontier_kept, frontier_next, frontier_all, premises_all}
 use Rattle.rounds.proofs.ranks.rank_all.Statement.{statement}
