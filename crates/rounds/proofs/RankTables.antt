@@ -10,15 +10,11 @@ use Rattle.meaning.proofs.Rounds.{reached_length, earlier}
 use Rattle.meaning.proofs.Ranks.{after_start, after_more, rank_by_is, rank_by_below, rank_by_next, rank_by_final}
 use Rattle.findings.specs.Ranks.{below}
 use Rattle.findings.proofs.RankTables.{below_tabulate}
-use Rattle.rounds.specs.Ranks.{mark, ranks_after, start_ranks}
+use Rattle.rounds.specs.Ranks.{mark, ranks_after, start_ranks, ranks_by}
 use Rattle.rounds.specs.Visits.{Settled}
 use Rattle.rounds.proofs.Marking.{get_d_mark, mark_never}
 
 -- ---- round by round
-
--- the ranks as far as k rounds tell
-pub ranks_by : ℕ → List (List ℕ) → List Bool → ℕ → List ℕ
-ranks_by places rows held k = tabulate places (rank_by places rows held k)
 
 -- what is lower than the rank that is written stays
 low_stays : (k r : ℕ) (t : Bool) → cond t k r < k → cond t k r ≡ r

@@ -2,7 +2,7 @@
 use Rattle.std.specs.Prelude.{Bool, cond, ◌&&◌, List, [], ◌∷◌, ℕ, eqb, length, get_or}
 use Rattle.meaning.specs.Tests.{tabulate, none}
 use Rattle.meaning.specs.Literals.{opp, has}
-use Rattle.meaning.specs.Rounds.{by_rows}
+use Rattle.meaning.specs.Rounds.{by_rows, rank_by}
 use Rattle.findings.specs.Ranks.{below}
 use Rattle.rounds.specs.declared.marks.Open.{Open}
 use Rattle.rounds.specs.declared.marks.Open.TheVariants.{Nothing, One, More}
@@ -28,3 +28,7 @@ ranks_after k rows ranks = mark k (by_rows rows (below k ranks)) ranks
 -- the ranks before the first round
 unfoldable pub start_ranks : ℕ → List Bool → List ℕ
 start_ranks places held = tabulate places (λ p. cond (has held p) 0 none)
+
+-- the ranks as far as k rounds tell
+unfoldable pub ranks_by : ℕ → List (List ℕ) → List Bool → ℕ → List ℕ
+ranks_by places rows held k = tabulate places (rank_by places rows held k)

@@ -5,7 +5,6 @@ ghost use Rattle.meaning.specs.Tests.{none, tabulate};
 ghost use Rattle.meaning.specs.Rounds.{ranks_of, support_of};
 ghost use Rattle.literals.specs.Row.{most_literals, rows_in, Fit};
 ghost use Rattle.findings.specs.Reach.{reached_asked};
-ghost use Rattle.rounds.specs.Propagation.{Lent, Propagated};
 
 use crate::ranks::{rank_all, start_ranks};
 use findings::reach::reach_asked;
@@ -38,11 +37,16 @@ fn propagate_in(
     queue: &mut [u16],
     counts: &mut [u8],
 )
-    requires lent { Lent rows table.now held.now ranks.old from supports.old marks.old }
+    requires fit { Fit (length ranks.old) rows table.now }
+    requires ranks_in_bounds { (length ranks.old ≤ length held.now) × (from + length supports.old ≤ length ranks.old) }
+    requires marks_value { length marks.old ≡ length ranks.old → marks.old ≡ replicate (length ranks.old) false }
     requires heads_value { heads.old ≡ replicate (length ranks.old) none }
     requires links_len { (length links.old ≡ most_literals * rows) × (length ranks.old ≤ length queue.old) × (length counts.old ≡ rows) }
-    ensures { Propagated (length ranks.old) rows table.now held.now from (length supports.old) p
-        (length marks.old) ranks.new supports.new marks.new }
+    ensures ranks_after { ranks.new ≡ ranks_of (length ranks.old) (rows_in rows table.now) held.now }
+    ensures supports_after { supports.new ≡ tabulate (length supports.old)
+        (λ i. support_of (length ranks.old) (rows_in rows table.now) held.now (from + i)) }
+    ensures marks_after { length marks.old ≡ length ranks.old →
+        marks.new ≡ reached_asked (length ranks.old) (rows_in rows table.now) held.now p }
 {
     index::fill(table, rows, heads, links, counts);
     let end = rank_all(table, rows, heads, links, held, ranks, queue, counts);
@@ -63,10 +67,15 @@ fn propagate_few(
     p: usize,
     marks: &mut [bool],
 )
-    requires lent { Lent rows table.now held.now ranks.old from supports.old marks.old }
+    requires fit { Fit (length ranks.old) rows table.now }
+    requires ranks_in_bounds { (length ranks.old ≤ length held.now) × (from + length supports.old ≤ length ranks.old) }
+    requires marks_value { length marks.old ≡ length ranks.old → marks.old ≡ replicate (length ranks.old) false }
     requires rows_bound { rows ≤ 64 }
-    ensures { Propagated (length ranks.old) rows table.now held.now from (length supports.old) p
-        (length marks.old) ranks.new supports.new marks.new }
+    ensures ranks_after { ranks.new ≡ ranks_of (length ranks.old) (rows_in rows table.now) held.now }
+    ensures supports_after { supports.new ≡ tabulate (length supports.old)
+        (λ i. support_of (length ranks.old) (rows_in rows table.now) held.now (from + i)) }
+    ensures marks_after { length marks.old ≡ length ranks.old →
+        marks.new ≡ reached_asked (length ranks.old) (rows_in rows table.now) held.now p }
 {
     let places = ranks.len();
     let cells = MOST_LITERALS * rows;
@@ -102,9 +111,14 @@ fn propagate_all(
     p: usize,
     marks: &mut [bool],
 )
-    requires { Lent rows table.now held.now ranks.old from supports.old marks.old }
-    ensures { Propagated (length ranks.old) rows table.now held.now from (length supports.old) p
-        (length marks.old) ranks.new supports.new marks.new }
+    requires fit { Fit (length ranks.old) rows table.now }
+    requires ranks_in_bounds { (length ranks.old ≤ length held.now) × (from + length supports.old ≤ length ranks.old) }
+    requires marks_value { length marks.old ≡ length ranks.old → marks.old ≡ replicate (length ranks.old) false }
+    ensures ranks_after { ranks.new ≡ ranks_of (length ranks.old) (rows_in rows table.now) held.now }
+    ensures supports_after { supports.new ≡ tabulate (length supports.old)
+        (λ i. support_of (length ranks.old) (rows_in rows table.now) held.now (from + i)) }
+    ensures marks_after { length marks.old ≡ length ranks.old →
+        marks.new ≡ reached_asked (length ranks.old) (rows_in rows table.now) held.now p }
 {
     if rows <= FEW_ROWS {
         propagate_few(table, rows, held, ranks, from, supports, p, marks);

@@ -8,17 +8,17 @@ use Rattle.rounds.proofs.propagation.propagate.Statement.{statement}
 use Rattle.rounds.proofs.propagation.propagate.Tie as tie
 
 -- without rows
-abbrev start : tie.Then1 → tie.Start
+abbrev start : tie.Then-rows-eq0 → tie.Start
 start c = c.before.before.before.before
 
-abbrev begun : tie.After-clear → tie.After-start-ranks
+abbrev begun : tie.After-clear → tie.After-start_ranks
 begun c = c.before.before.before.before
 
 -- with rows
-abbrev entry : tie.After-none → tie.Start
+abbrev entry : tie.After-none-1 → tie.Start
 entry c = c.before.before.before.before.before.before.before
 
-returns : tie.Need-returns
+returns : tie.Need-returns-then-rows-eq0
 unfolding rows_in
 returns c =
     let e = c.before.before in
@@ -27,13 +27,13 @@ returns c =
     let s = start t in
     let a = s.args in
     let places = length a.ranks.now in
-    rw t.if1.true (
-      r.start-ranks.ensures ∙ no_rows places a.held.now (omega (arith, few_places s.requires.0)),
+    rw t.if-rows-eq0.true (
+      r.start_ranks.ensures ∙ no_rows places a.held.now (omega (arith, few_places s.requires.0)),
       e.clear.ensures ∙ no_supports places a.held.now (length a.supports.now) a.from,
     )
 
-propagate_all_requires : tie.Need-propagate-all-requires
-propagate_all_requires c κs = let p = (entry c).requires in record { fit = p.0; flags = p.1.0; inside = p.1.1; unset = λ e. rw (← e) }
+propagate_all_requires : tie.Need-propagate_all-requires
+propagate_all_requires c κs = let s = entry c in (s.requires.0, (s.requires.1, λ e. rw (← e)))
 
 pub propagate_spec : {M : Type 1} → statement M
 propagate_spec = tie.close (tie.spec
