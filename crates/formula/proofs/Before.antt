@@ -111,13 +111,13 @@ module _ {S : ℕ} (some : 1 ≤ S) where
   begins (suc d) room deeper (unknown e) = nothing_yet d
   begins (suc d) room deeper (missing e) = kind_only d e
   begins (suc d) room deeper (beyond e fits) = kind_only d e
-  begins (suc d) room deeper (inner {at = at} {body = body} e m) =
-      rw (one_more at) (by_not at body e (begins d (omega arith) (λ five. omega (arith, deeper five)) m))
-  begins (suc d) room deeper (left {at = at} {body = body} e m) =
-      rw (one_more at) (by_first at body e (begins d (omega arith) (λ five. omega (arith, deeper five)) m))
-  begins (suc d) room deeper (right {used = used} {at = at} {body = body} e t m) =
+  begins (suc d) room deeper (inner {d = d'} {at = at} {body = body} e m) =
+      rw (one_more at) (by_not at body e (begins {depth = d'} d (omega arith) (λ five. omega (arith, deeper five)) m))
+  begins (suc d) room deeper (left {d = d'} {at = at} {body = body} e m) =
+      rw (one_more at) (by_first at body e (begins {depth = d'} d (omega arith) (λ five. omega (arith, deeper five)) m))
+  begins (suc d) room deeper (right {d = d'} {used = used} {at = at} {body = body} e t m) =
       rw (add_assoc 1 used at, one_more (used + at))
-      (by_second at body e (wider S S (omega arith) d (omega arith) t) (begins d (omega arith) (λ five. omega (arith, deeper five)) m))
+      (by_second at body e (wider S S (omega arith) d (omega arith) t) (begins {depth = d'} d (omega arith) (λ five. omega (arith, deeper five)) m))
 
   -- and those before the kind byte that leads to a fault of depth, with the levels there are
   pub nearly : {depth at : ℕ} {bytes : List ℕ} (n : ℕ) → at ≡ suc n → Met S depth bytes TooDeep at → Goes S depth (take n bytes)

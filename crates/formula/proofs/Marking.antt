@@ -11,7 +11,10 @@ Marks p before used after = (used ≡ used_of p) × (after ≡ marks_of p before
 
 marked_joined : (join : Join) (f g : Formula) (m : List Bool) → marked g (marked f m) ≡ marked (joined join f g) m
 unfolding marked
-marked_joined join f g m = elim join [ And ↦ refl | Or ↦ refl | Implies ↦ refl | Same ↦ refl ]
+marked_joined And f g m = refl
+marked_joined Or f g m = refl
+marked_joined Implies f g m = refl
+marked_joined Same f g m = refl
 
 module _ {depth : ℕ} {bytes : List ℕ} (m : List Bool) where
   pub leaves_symbol : Walk depth bytes Symbol → Marks (parse 255 depth bytes) m 2 (set m (get_or (onward 1 bytes) 0 0) true)

@@ -38,11 +38,17 @@ kind_byte : (k : ℕ) (kind : Kind) → 1 ≤ byte_for kind → kind_of k ≡ ki
 kind_byte k kind some e = known k (λ u. omega (arith, ap byte_for (sym e ∙ u))) ∙ ap byte_for e
 
 join_some : (join : Join) → 1 ≤ byte_for (Two join)
-join_some join = elim join [ And ↦ omega arith | Or ↦ omega arith | Implies ↦ omega arith | Same ↦ omega arith ]
+join_some And = omega arith
+join_some Or = omega arith
+join_some Implies = omega arith
+join_some Same = omega arith
 
 joined_bytes : (join : Join) (f g : Formula) → bytes_of (joined join f g) ≡ byte_for (Two join) ∷ bytes_of f ++ bytes_of g
 unfolding bytes_of
-joined_bytes join f g = elim join [ And ↦ refl | Or ↦ refl | Implies ↦ refl | Same ↦ refl ]
+joined_bytes And f g = refl
+joined_bytes Or f g = refl
+joined_bytes Implies f g = refl
+joined_bytes Same f g = refl
 
 taken_bytes : {S depth used : ℕ} {bytes : List ℕ} {f : Formula} → S ≤ 255 → Taken S depth bytes f used → take used bytes ≡ bytes_of f
 unfolding bytes_of

@@ -15,7 +15,10 @@ joining join v w = record { holds = joined_value join v.holds w.holds; used = 1 
 module _ (a : ℕ → Bool) where
   value_joined : (join : Join) (f g : Formula) → joined_value join (value a f) (value a g) ≡ value a (joined join f g)
   unfolding value
-  value_joined join f g = elim join [ And ↦ refl | Or ↦ refl | Implies ↦ refl | Same ↦ refl ]
+  value_joined And f g = refl
+  value_joined Or f g = refl
+  value_joined Implies f g = refl
+  value_joined Same f g = refl
 
   module _ {depth : ℕ} {bytes : List ℕ} where
     pub means_symbol : Walk depth bytes Symbol

@@ -22,8 +22,8 @@ module _ (few more : ℕ) (h : few ≤ more) where
   wider zero d (not e t) = absurd (omega arith)
   wider zero d (two e t u) = absurd (omega arith)
   wider (suc deep) d (one {s = s} e fits) = one e (number_wider s fits)
-  wider (suc deep) d (not e t) = not e (wider deep (omega arith) t)
-  wider (suc deep) d (two e t u) = two e (wider deep (omega arith) t) (wider deep (omega arith) u)
+  wider (suc deep) d (not {d = d'} e t) = not e (wider {depth = d'} deep (omega arith) t)
+  wider (suc deep) d (two {d = d'} e t u) = two e (wider {depth = d'} deep (omega arith) t) (wider {depth = d'} deep (omega arith) u)
 
 -- a formula of the board's symbols is the same where every byte but 0 is a symbol's number, as the walks over it have it
 module _ (S : ℕ) (h : S ≤ 200) (depth : ℕ) (bytes : List ℕ) (well : is_good (parse S depth bytes) ≡ true) where
@@ -41,9 +41,10 @@ module _ (S : ℕ) (h : S ≤ 200) (depth : ℕ) (bytes : List ℕ) (well : is_g
 
 inside_joined : (S : ℕ) (join : Join) (f g : Formula) → inside S f ≡ true → inside S g ≡ true → inside S (joined join f g) ≡ true
 unfolding inside
-inside_joined S join f g =
-    let both = and_intro (inside S f) (inside S g) in
-    elim join [ And ↦ both | Or ↦ both | Implies ↦ both | Same ↦ both ]
+inside_joined S And f g = and_intro (inside S f) (inside S g)
+inside_joined S Or f g = and_intro (inside S f) (inside S g)
+inside_joined S Implies f g = and_intro (inside S f) (inside S g)
+inside_joined S Same f g = and_intro (inside S f) (inside S g)
 
 taken_inside : {S depth used : ℕ} {bytes : List ℕ} {f : Formula} → Taken S depth bytes f used → inside S f ≡ true
 unfolding inside

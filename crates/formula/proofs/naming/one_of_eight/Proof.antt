@@ -16,22 +16,22 @@ any_more test n =
     let here : 0 + n ≡ n = omega arith in
     rw add-one (ap (any test) (rw here at (from_more 0 n)) ∙ any_append test (from 0 n) (n ∷ []) ∙ rw (or-false (test n)))
 
-abbrev invariant_loop : tie.invariant-loop
+abbrev invariant_loop : tie.invariant-loop-k
 invariant_loop marks first marked₀ k₀ marked k = (k ≤ 8) × (marked ≡ any (λ i. get_or marks (first + i) false) (from 0 k))
 
-abbrev decreases_loop : tie.decreases-loop
+abbrev decreases_loop : tie.decreases-loop-k
 decreases_loop marks first marked₀ k₀ marked k = 8 - k
 
-loop_again : tie.Need-loop-preserved invariant_loop decreases_loop
+loop_again : tie.Need-loop-k-preserved invariant_loop decreases_loop
 loop_again c =
     let l = c.before.before in
     let a = l.before.args in
-    (omega arith, rw (any_more (λ i. get_or a.marks.now (a.first + i) false) l.loop.k, l.loop.invariant.1))
+    (omega arith, rw (any_more (λ i. get_or a.marks.now (a.first + i) false) l.loop-k.k, l.loop-k.invariant.1))
 
 returns : tie.Need-returns invariant_loop decreases_loop
 returns c =
-    let all : c.before.loop.k ≡ 8 = omega arith in
-    rw all at c.before.loop.invariant.1
+    let all : c.before.loop-k.k ≡ 8 = omega arith in
+    rw all at c.before.loop-k.invariant.1
 
 pub one_of_eight_spec : {M : Type 1} → statement M
 one_of_eight_spec = tie.close (tie.spec

@@ -20,7 +20,7 @@ returns c =
     let marking = c.before.before.mark in
     let good = wide_well S s.requires.0 levels bytes s.requires.1 in
     c.collect.ensures
-    ∙ names_told S s.requires.0 (parse 255 levels bytes) good marking.new.1.1.0 marking.ensures.1
+    ∙ names_told S s.requires.0 (parse 255 levels bytes) good marking.new.marks marking.ensures.1
     ∙ ap (names_of S) (sym (wide S s.requires.0 levels bytes s.requires.1))
 
 pub symbols_of_spec : {M : Type 1} → statement M
