@@ -6,11 +6,11 @@ use Rattle.names.proofs.naming.is_name.Tie as tie
 
 returns : tie.Need-returns-then-word-lt-FEWEST
 unfolding is_name
-returns c = let n = length c.before.before.args.word.now in rw (lt-leb 3 n (omega arith))
+returns c = let n = length c.args.word.now in rw (lt-leb 3 n (omega arith))
 
 returns_2 : tie.Need-returns-then-word-gt-WIDTH
 unfolding is_name
-returns_2 c = let n = length c.before.before.before.args.word.now in rw (le-leb 3 n (omega arith), lt-leb n 24 (omega arith))
+returns_2 c = let n = length c.args.word.now in rw (le-leb 3 n (omega arith), lt-leb n 24 (omega arith))
 
 -- where the first byte was tested
 abbrev start : tie.After-is_letter → tie.Start
@@ -20,14 +20,14 @@ returns_3 : tie.Need-returns-then-not-is_letter
 unfolding is_name
 returns_3 c =
     let n = length (start c.before).args.word.now in
-    rw (le-leb 3 n (omega arith), le-leb n 24 (omega arith), sym c.before.is_letter.ensures ∙ not-true _ c.if-not-is_letter.true-raw)
+    rw (le-leb 3 n (omega arith), le-leb n 24 (omega arith), sym c.is_letter.ensures ∙ not-true _ c.if-not-is_letter.true-raw)
 
 returns_4 : tie.Need-returns
 unfolding is_name
 returns_4 c =
-    let l = c.before.before in
-    let n = length (start l).args.word.now in
-    rw (le-leb 3 n (omega arith), le-leb n 24 (omega arith), sym l.is_letter.ensures ∙ not-false _ c.before.if-not-is_letter.false-raw, ← c.run.ensures)
+    let l = c in
+    let n = length (start l.before.before).args.word.now in
+    rw (le-leb 3 n (omega arith), le-leb n 24 (omega arith), sym l.is_letter.ensures ∙ not-false _ c.if-not-is_letter.false-raw, ← c.run.ensures)
 
 pub is_name_spec : {M : Type 1} → statement M
 is_name_spec = tie.close (tie.spec returns returns_2 (λ c. omega arith) (λ c κs. tt) returns_3 (λ c κs. tt) returns_4)

@@ -18,19 +18,19 @@ at c = c.before.before.before
 returns : tie.Need-returns-then-not-in_name invariant_loop decreases_loop
 returns c =
     let l = at c.before in
-    sym (l.loop-n.invariant.1 ∙ run_stops l.before.before.args.text.now l.loop-n.n (omega arith)
-    (sym c.before.in_name.ensures ∙ not-true _ c.if-not-in_name.true-raw))
+    sym (l.loop-n.invariant.1 ∙ run_stops l.args.text.now l.loop-n.n (omega arith)
+    (sym c.in_name.ensures ∙ not-true _ c.if-not-in_name.true-raw))
 
 loop_again : tie.Need-loop-n-preserved invariant_loop decreases_loop
 loop_again c =
     let l = at c.before in (
       omega arith,
-      l.loop-n.invariant.1 ∙ run_more l.before.before.args.text.now l.loop-n.n (omega arith)
-          (sym c.before.in_name.ensures ∙ not-false _ c.if-not-in_name.false-raw),
+      l.loop-n.invariant.1 ∙ run_more l.args.text.now l.loop-n.n (omega arith)
+          (sym c.in_name.ensures ∙ not-false _ c.if-not-in_name.false-raw),
     )
 
 returns_2 : tie.Need-returns invariant_loop decreases_loop
-returns_2 c = let l = c.before in sym (l.loop-n.invariant.1 ∙ run_over l.before.before.args.text.now l.loop-n.n (omega arith))
+returns_2 c = let l = c in sym (l.loop-n.invariant.1 ∙ run_over l.args.text.now l.loop-n.n (omega arith))
 
 pub run_spec : {M : Type 1} → statement M
 run_spec = tie.close (tie.spec

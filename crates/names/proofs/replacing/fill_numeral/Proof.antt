@@ -13,7 +13,7 @@ decreases_loop part₀ number rest₀ k₀ part rest k = k
 
 loop_again : tie.Need-loop-k-preserved invariant_loop decreases_loop
 loop_again c =
-    let l = c.before.loop-k in
+    let l = c.loop-k in
     let one : l.k ≡ suc (l.k - 1) = omega arith in (
       simp length-set (omega arith),
       simp length-set l.invariant.1,
@@ -22,7 +22,7 @@ loop_again c =
 
 returns : tie.Need-returns invariant_loop decreases_loop
 returns c =
-    let l = c.before.loop-k in
+    let l = c.loop-k in
     let none : l.k ≡ 0 = omega arith in
     sym (l.invariant.2 ∙ ap (λ n. filled n l.rest l.part) none ∙ filled_all l.rest l.part)
 

@@ -14,28 +14,28 @@ abbrev decreases_loop : tie.decreases-loop-at
 decreases_loop text₀ names at₀ text at = length text₀ - at
 
 abbrev names_at : tie.At-loop-at invariant_loop decreases_loop → List ℕ
-names_at l = l.before.before.before.args.names.now
+names_at l = l.args.names.now
 
 -- where a run is sought
 abbrev at : tie.After-run-n invariant_loop decreases_loop → tie.At-loop-at invariant_loop decreases_loop
-at c = c.before.before.before.before
+at c = c.before.before.before
 
 -- its end, and that it is one
 abbrev end : tie.After-run-n invariant_loop decreases_loop → ℕ
 end c = (at c).loop-at.at + c.run-n.result
 
-runs : (c : tie.After-run-n invariant_loop decreases_loop) → let l = (at c).loop-at in end c - l.at ≡ run (drop l.at l.text-1)
-runs c = let l = (at c).loop-at in omega (arith, c.run-n.ensures, ap run (onward_drop l.at l.text-1))
+runs : (c : tie.After-run-n invariant_loop decreases_loop) → let l = (at c).loop-at in end c - l.at ≡ run (drop l.at l.text)
+runs c = let l = (at c).loop-at in omega (arith, c.run-n.ensures, ap run (onward_drop l.at l.text))
 
 -- it lies within the text
-inside : (c : tie.After-run-n invariant_loop decreases_loop) → end c ≤ length (at c).loop-at.text-1
-inside c = let l = (at c).loop-at in run_inside l.text-1 l.at (end c) (omega arith) l.invariant.0 (runs c)
+inside : (c : tie.After-run-n invariant_loop decreases_loop) → end c ≤ length (at c).loop-at.text
+inside c = let l = (at c).loop-at in run_inside l.text l.at (end c) (omega arith) l.invariant.0 (runs c)
 
 loop_again : tie.Need-loop-at-preserved-then-n-eq0 invariant_loop decreases_loop
 loop_again c =
     let l = at c.before in
     let t = l.loop-at in
-    (omega arith, t.invariant.1, t.invariant.2 ∙ coming_byte (names_at l) t.text-1 t.at (omega arith) (omega (arith, runs c.before)))
+    (omega arith, t.invariant.1, t.invariant.2 ∙ coming_byte (names_at l) t.text t.at (omega arith) (omega (arith, runs c.before)))
 
 -- the run that was renamed
 abbrev here : tie.After-slice_known-else-n-eq0-1 invariant_loop decreases_loop → tie.After-run-n invariant_loop decreases_loop
@@ -46,15 +46,15 @@ loop_again_2 c =
     let f = here c in
     let l = at f in
     let t = l.loop-at in
-    let r = c.before.before.rename in
-    let same = run_length t.text-1 t.at (end f) (omega arith) t.invariant.0 (runs f) (names_at l) r.new.0 r.ensures in (
+    let r = c.rename in
+    let same = run_length t.text t.at (end f) (omega arith) t.invariant.0 (runs f) (names_at l) r.new.part r.ensures in (
       omega (arith, same, inside f),
       same ∙ t.invariant.1,
-      t.invariant.2 ∙ coming_run t.text-1 t.at (end f) (omega arith) t.invariant.0 (runs f) (names_at l) r.new.0 r.ensures,
+      t.invariant.2 ∙ coming_run t.text t.at (end f) (omega arith) t.invariant.0 (runs f) (names_at l) r.new.0 r.ensures,
     )
 
 returns : tie.Need-returns invariant_loop decreases_loop
-returns c = let t = c.before.loop-at in sym (t.invariant.2 ∙ coming_all (names_at c.before) t.text-1 t.at (omega arith))
+returns c = let t = c.loop-at in sym (t.invariant.2 ∙ coming_all (names_at c.before) t.text t.at (omega arith))
 
 pub replace_spec : {M : Type 1} → statement M
 replace_spec = tie.close (tie.spec

@@ -16,30 +16,30 @@ abbrev at : tie.After-shared_slice_known-in-loop-k-1 invariant_loop decreases_lo
 at c = c.before.before.before
 
 returns : tie.Need-returns-then-slot-word invariant_loop decreases_loop
-returns c = let a = c.before.args in sym (fits_short a.slot.now a.word.now c.if-slot-word.true)
+returns c = let a = c.args in sym (fits_short a.slot.now a.word.now c.if-slot-word.true)
 
 returns_2 : tie.Need-returns-then-slot-k invariant_loop decreases_loop
 returns_2 c =
     let l = at c.before in
-    let a = l.before.before.args in
+    let a = l.args in
     sym (l.loop-k.invariant.1 ∙ fits_differs a.slot.now a.word.now l.loop-k.k (omega arith) (omega arith) c.if-slot-k.true)
 
 loop_again : tie.Need-loop-k-preserved invariant_loop decreases_loop
 loop_again c =
     let l = at c.before in
-    let a = l.before.before.args in
+    let a = l.args in
     (omega arith, l.loop-k.invariant.1 ∙ fits_goes a.slot.now a.word.now l.loop-k.k (omega arith) (omega arith) c.if-slot-k.false)
 
 returns_3 : tie.Need-returns-then-k-slot invariant_loop decreases_loop
 returns_3 c =
-    let l = c.before.before in
-    let a = l.before.before.args in
+    let l = c in
+    let a = l.args in
     sym (l.loop-k.invariant.1 ∙ fits_whole a.slot.now a.word.now l.loop-k.k (omega arith) (omega arith))
 
 returns_4 : tie.Need-returns invariant_loop decreases_loop
 returns_4 c =
-    let l = c.before.before.before in
-    let a = l.before.before.args in
+    let l = c in
+    let a = l.args in
     sym (l.loop-k.invariant.1 ∙ fits_over a.slot.now a.word.now l.loop-k.k (omega arith) (omega arith))
 
 pub fits_spec : {M : Type 1} → statement M

@@ -13,24 +13,24 @@ decreases_loop word count k₀ k = length word - k
 
 returns : tie.Need-returns-then-word-k-lt48 invariant_loop decreases_loop
 unfolding are_marks
-returns c = let i = c.before.before in rw (tested_breaks i.before.loop-k.invariant i.loop-k-test.true (too_low 48 49 _ c.if-word-k-lt48.true))
+returns c = let i = c in rw (tested_breaks i.loop-k.invariant i.loop-k-test.true (too_low 48 49 _ c.if-word-k-lt48.true))
 
 returns_2 : tie.Need-returns-then-word-k-gt49 invariant_loop decreases_loop
 unfolding are_marks
 returns_2 c =
-    let low = c.before.before in
-    let i = low.before.before in
-    rw (tested_breaks i.before.loop-k.invariant i.loop-k-test.true (too_high 48 49 _ low.if-word-k-lt48.false c.if-word-k-gt49.true))
+    let low = c in
+    let i = low in
+    rw (tested_breaks i.loop-k.invariant i.loop-k-test.true (too_high 48 49 _ low.if-word-k-lt48.false c.if-word-k-gt49.true))
 
 loop_again : tie.Need-loop-k-preserved invariant_loop decreases_loop
 loop_again c =
-    let low = c.before.before in
-    let i = low.before.before in
-    tested_more i.before.loop-k.invariant i.loop-k-test.true (inside 48 49 _ low.if-word-k-lt48.false c.if-word-k-gt49.false)
+    let low = c in
+    let i = low in
+    tested_more i.loop-k.invariant i.loop-k-test.true (inside 48 49 _ low.if-word-k-lt48.false c.if-word-k-gt49.false)
 
 returns_3 : tie.Need-returns invariant_loop decreases_loop
 unfolding are_marks
-returns_3 c = rw (tested_all c.before.loop-k.invariant c.loop-k-test.false)
+returns_3 c = rw (tested_all c.loop-k.invariant c.loop-k-test.false)
 
 pub are_marks_spec : {M : Type 1} → statement M
 are_marks_spec = tie.close (tie.spec

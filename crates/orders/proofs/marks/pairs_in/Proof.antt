@@ -14,19 +14,19 @@ start c = c.before.before.before
 
 returns : tie.Need-returns-then-not-has_count
 unfolding pairs_in
-returns c = rw (sym c.before.has_count.ensures ∙ not-true _ c.if-not-has_count.true-raw)
+returns c = rw (sym c.has_count.ensures ∙ not-true _ c.if-not-has_count.true-raw)
 
 -- the first valve has a right number of positions
 rows_right : (c : tie.Else-not-has_count) → has_count (start c).args.rows ≡ true
-rows_right c = sym c.before.has_count.ensures ∙ not-false _ c.if-not-has_count.false-raw
+rows_right c = sym c.has_count.ensures ∙ not-false _ c.if-not-has_count.false-raw
 
 returns_2 : tie.Need-returns-then-not-has_count-2
 unfolding pairs_in
-returns_2 c = rw (rows_right c.before.before, sym c.before.has_count-2.ensures ∙ not-true _ c.if-not-has_count-2.true-raw)
+returns_2 c = rw (rows_right c.before.before, sym c.has_count-2.ensures ∙ not-true _ c.if-not-has_count-2.true-raw)
 
 -- and the second
 count_right : (c : tie.Else-not-has_count-2) → has_count (start c.before.before).args.count ≡ true
-count_right c = sym c.before.has_count-2.ensures ∙ not-false _ c.if-not-has_count-2.false-raw
+count_right c = sym c.has_count-2.ensures ∙ not-false _ c.if-not-has_count-2.false-raw
 
 rows_marked_requires : tie.Need-rows_marked-requires
 unfolding table_fits
@@ -39,7 +39,7 @@ rows_marked_requires c κs =
 
 returns_3 : tie.Need-returns
 unfolding pairs_in
-returns_3 c = let e = c.before in c.rows_marked.ensures ∙ rw (rows_right e.before.before, count_right e)
+returns_3 c = let e = c in c.rows_marked.ensures ∙ rw (rows_right e.before.before.before, count_right e.before)
 
 pub pairs_in_spec : {M : Type 1} → statement M
 pairs_in_spec = tie.close (tie.spec (λ c κs. tt) returns (λ c κs. tt) returns_2 rows_marked_requires returns_3)

@@ -15,28 +15,28 @@ abbrev decreases_loop : tie.decreases-loop-k
 decreases_loop line from rows count value₀ k₀ value k = k
 
 -- at most six words were read before
-small : (c : tie.In-loop-k invariant_loop decreases_loop) → c.before.loop-k.value < 128 ^ 6
+small : (c : tie.In-loop-k invariant_loop decreases_loop) → c.loop-k.value < 128 ^ 6
 small c =
-    let l = c.before in
-    omega (arith, l.loop-k.invariant.2, few_below 128 (l.before.before.args.rows - l.loop-k.k) 6 (omega arith) (omega arith))
+    let l = c in
+    omega (arith, l.loop-k.invariant.2, few_below 128 (l.args.rows - l.loop-k.k) 6 (omega arith) (omega arith))
 
 marked_by_requires : tie.Need-marked_by-requires invariant_loop decreases_loop
 marked_by_requires c κs =
-    let l = c.before.before in
-    let s = l.before.before in
+    let l = c in
+    let s = l in
     let a = s.args in
     let size = row_size a.line.now a.from a.rows a.count (l.loop-k.k - 1) s.requires.3 (omega arith) in
     omega (arith, ap length c.word.ensures, size, s.requires.1)
 
 -- the word that is read
-pairs_are : (c : tie.After-marked_by invariant_loop decreases_loop) → let l = c.before.before.before in let a = l.before.before.args in
+pairs_are : (c : tie.After-marked_by invariant_loop decreases_loop) → let l = c in let a = l.args in
     c.marked_by.result ≡ marked_by (word_at (a.from + (l.loop-k.k - 1)) a.line.now)
-pairs_are c = c.marked_by.ensures.0 ∙ ap marked_by c.before.word.ensures
+pairs_are c = c.marked_by.ensures.0 ∙ ap marked_by c.word.ensures
 
 loop_again : tie.Need-loop-k-preserved invariant_loop decreases_loop
 loop_again c =
-    let l = c.before.before.before in
-    let a = l.before.before.args in
+    let l = c in
+    let a = l.args in
     let k = l.loop-k.k in
     let left : a.rows - (k - 1) ≡ suc (a.rows - k) = omega (arith, l.loop-k.invariant.0) in (
       omega arith,
@@ -46,8 +46,8 @@ loop_again c =
 
 returns : tie.Need-returns invariant_loop decreases_loop
 returns c =
-    let l = c.before in
-    let a = l.before.before.args in
+    let l = c in
+    let a = l.args in
     let none : l.loop-k.k ≡ 0 = omega arith in
     l.loop-k.invariant.1
     ∙ ap (λ (k : ℕ). rows_marked a.line.now (a.from + k) (a.rows - k)) none
@@ -55,6 +55,6 @@ returns c =
 
 pub rows_marked_spec : {M : Type 1} → statement M
 rows_marked_spec = tie.close (tie.spec
-    invariant_loop decreases_loop (λ c. let a = c.before.args in (omega arith, marked_rows_none a.line.now a.from a.rows, none_below 128 a.rows))
+    invariant_loop decreases_loop (λ c. let a = c.args in (omega arith, marked_rows_none a.line.now a.from a.rows, none_below 128 a.rows))
     (λ c. omega arith) (λ c. omega (arith, small c)) (λ c. omega arith) (λ c κs. tt) marked_by_requires
     (λ c. omega (arith, small c.before.before, c.marked_by.ensures.1)) (λ c. omega arith) loop_again returns)

@@ -17,16 +17,16 @@ returns_2 c = order_of_remark _ (omega arith) c.if-word-eq35.true
 
 returns_3 : tie.Need-returns-then-run-word
 returns_3 c =
-    let r = c.before in
-    order_unknown (start r.before).args.word.now (omega arith) r.before.if-word-eq35.false (λ e. c.if-run-word.true (r.run.ensures ∙ e))
+    let r = c in
+    order_unknown (start r.before.before).args.word.now (omega arith) r.if-word-eq35.false (λ e. c.if-run-word.true (r.run.ensures ∙ e))
 
 returns_4 : tie.Need-returns
 returns_4 c =
-    let known = c.before.before in
-    let r = known.before in
+    let known = c in
+    let r = known in
     c.order_at.ensures
-    ∙ ap order_at c.before.slot_of_order.ensures
-    ∙ order_in_table (start r.before).args.word.now (omega arith) r.before.if-word-eq35.false (sym r.run.ensures ∙ known.if-run-word.false)
+    ∙ ap order_at c.slot_of_order.ensures
+    ∙ order_in_table (start r.before.before.before.before).args.word.now (omega arith) r.if-word-eq35.false (sym r.run.ensures ∙ known.if-run-word.false)
 
 pub order_of_spec : {M : Type 1} → statement M
 order_of_spec = tie.close (tie.spec returns (λ c. omega arith) returns_2 (λ c κs. tt) returns_3 (λ c κs. tt) (λ c κs. tt) returns_4)

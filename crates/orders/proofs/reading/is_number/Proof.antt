@@ -14,24 +14,24 @@ decreases_loop word k₀ k = length word - k
 
 returns : tie.Need-returns-then-word-k-lt48 invariant_loop decreases_loop
 unfolding is_number
-returns c = let i = c.before.before in rw (tested_breaks i.before.loop-k.invariant i.loop-k-test.true (too_low 48 57 _ c.if-word-k-lt48.true))
+returns c = let i = c in rw (tested_breaks i.loop-k.invariant i.loop-k-test.true (too_low 48 57 _ c.if-word-k-lt48.true))
 
 returns_2 : tie.Need-returns-then-word-k-gt57 invariant_loop decreases_loop
 unfolding is_number
 returns_2 c =
-    let low = c.before.before in
-    let i = low.before.before in
-    rw (tested_breaks i.before.loop-k.invariant i.loop-k-test.true (too_high 48 57 _ low.if-word-k-lt48.false c.if-word-k-gt57.true))
+    let low = c in
+    let i = low in
+    rw (tested_breaks i.loop-k.invariant i.loop-k-test.true (too_high 48 57 _ low.if-word-k-lt48.false c.if-word-k-gt57.true))
 
 loop_again : tie.Need-loop-k-preserved invariant_loop decreases_loop
 loop_again c =
-    let low = c.before.before in
-    let i = low.before.before in
-    tested_more i.before.loop-k.invariant i.loop-k-test.true (inside 48 57 _ low.if-word-k-lt48.false c.if-word-k-gt57.false)
+    let low = c in
+    let i = low in
+    tested_more i.loop-k.invariant i.loop-k-test.true (inside 48 57 _ low.if-word-k-lt48.false c.if-word-k-gt57.false)
 
 returns_3 : tie.Need-returns invariant_loop decreases_loop
 unfolding is_number
-returns_3 c = rw (tested_all c.before.loop-k.invariant c.loop-k-test.false)
+returns_3 c = rw (tested_all c.loop-k.invariant c.loop-k-test.false)
 
 pub is_number_spec : {M : Type 1} → statement M
 is_number_spec = tie.close (tie.spec

@@ -7,11 +7,11 @@ use Rattle.orders.proofs.reading.number_in.Tie as tie
 
 returns : tie.Need-returns-then-is_number
 unfolding number_in
-returns c = let t = c.before in rw (sym t.before.is_number.ensures ∙ t.if-is_number.true) (ap Of c.value_of.ensures)
+returns c = let t = c in rw (sym t.is_number.ensures ∙ t.if-is_number.true) (ap Of c.value_of.ensures)
 
 returns_2 : tie.Need-returns
 unfolding number_in
-returns_2 c = rw (sym c.before.is_number.ensures ∙ c.if-is_number.false)
+returns_2 c = rw (sym c.is_number.ensures ∙ c.if-is_number.false)
 
 pub number_in_spec : {M : Type 1} → statement M
-number_in_spec = tie.close (tie.spec (λ c κs. tt) (λ c κs. sym c.before.is_number.ensures ∙ c.if-is_number.true) returns returns_2)
+number_in_spec = tie.close (tie.spec (λ c κs. tt) (λ c κs. sym c.is_number.ensures ∙ c.if-is_number.true) returns returns_2)

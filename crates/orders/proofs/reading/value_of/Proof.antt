@@ -12,13 +12,13 @@ abbrev decreases_loop : tie.decreases-loop-k
 decreases_loop word value₀ k₀ value k = length word - k
 
 -- the byte that is read is a digit
-digit : (c : tie.In-loop-k invariant_loop decreases_loop) → let b = get_or c.before.before.args.word.now c.before.loop-k.k 0 in (48 ≤ b) × (b ≤ 57)
-digit c = digit_here c.before.loop-k.invariant c.loop-k-test.true
+digit : (c : tie.In-loop-k invariant_loop decreases_loop) → let b = get_or c.args.word.now c.loop-k.k 0 in (48 ≤ b) × (b ≤ 57)
+digit c = digit_here c.loop-k.invariant c.loop-k-test.true
 
 loop_again : tie.Need-loop-k-preserved invariant_loop decreases_loop
 loop_again c =
-    let i = c.before.before in
-    let l = i.before.loop-k in
+    let i = c in
+    let l = i.loop-k in
     valued_more l.invariant i.loop-k-test.true c.if-value-gt-MOST.value
     (⊎_elim (λ w. omega arith) (λ w. omega arith) c.if-value-gt-MOST.branch)
 
@@ -26,4 +26,4 @@ pub value_of_spec : {M : Type 1} → statement M
 value_of_spec = tie.close (tie.spec
     invariant_loop decreases_loop (λ c. valued_none c.args.word.now c.requires) (λ c. omega arith) (λ c. omega arith) (λ c. omega (arith, digit c.before))
     (λ c. omega (arith, digit c.before)) (λ c. omega (arith, digit c.before)) (λ c. omega arith) (λ c. omega arith) loop_again
-    (λ c. valued_all c.before.loop-k.invariant c.loop-k-test.false))
+    (λ c. valued_all c.loop-k.invariant c.loop-k-test.false))

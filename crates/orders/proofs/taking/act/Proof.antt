@@ -10,8 +10,8 @@ here c = c.before.before.before.before.before
 
 returns : tie.Need-returns-then-which-eq-HOLD
 returns c =
-    let h = c.before in
-    rw (c.of_step.ensures, h.hold-change.ensures, to_z-of_z (here h).ranges.l, h.before.if-which-eq-HOLD.true) (held_does _ _ _ _ _)
+    let h = c in
+    rw (c.of_step.ensures, h.hold-change.ensures, to_z-of_z (here h.before).ranges.l, h.if-which-eq-HOLD.true) (held_does _ _ _ _ _)
 
 -- where the second test was passed or not, and where the call began
 abbrev start : tie.Else-which-eq-HOLD → tie.Start
@@ -19,16 +19,16 @@ start c = c.before.before.before.before
 
 returns_2 : tie.Need-returns-then-which-eq-DROP
 returns_2 c =
-    let w = c.before in
-    let e = w.before.before in
-    rw (c.of_step-then-which-eq-DROP.ensures, w.withdraw.ensures, to_z-of_z (start e).ranges.l, ne_eqb _ 0 e.if-which-eq-HOLD.false, w.before.if-which-eq-DROP.true)
+    let w = c in
+    let e = w in
+    rw (c.of_step-then-which-eq-DROP.ensures, w.withdraw.ensures, to_z-of_z (start e.before.before.before).ranges.l, ne_eqb _ 0 e.if-which-eq-HOLD.false, w.if-which-eq-DROP.true)
     (dropped_does _ _ _ _ _)
 
 returns_3 : tie.Need-returns
 returns_3 c =
-    let p = c.before in
-    let e = p.before.before in
-    rw (c.of_step-2.ensures, p.push.ensures, to_z-of_z (start e).ranges.l, ne_eqb _ 0 e.if-which-eq-HOLD.false, ne_eqb _ 1 p.before.if-which-eq-DROP.false)
+    let p = c in
+    let e = p in
+    rw (c.of_step-2.ensures, p.push.ensures, to_z-of_z (start e.before.before.before).ranges.l, ne_eqb _ 0 e.if-which-eq-HOLD.false, ne_eqb _ 1 p.if-which-eq-DROP.false)
     (pushed_does _ _ _ _ _)
 
 pub act_spec : {M : Type 1} → statement M

@@ -8,17 +8,17 @@ use Rattle.orders.proofs.taking.add_typed.Tie as tie
 
 returns : tie.Need-returns
 returns c =
-    let t = c.before.before in
+    let t = c in
     -- where its names are replaced, where it is in its room, and where the call began
-    let m = t.before.before.before in
-    let r = m.before.before.before in
-    let n = r.before.before in
-    let p = n.before.before in
-    let k = p.before.before.before in
-    let s = k.before.before in
+    let m = t in
+    let r = m in
+    let n = r in
+    let p = n in
+    let k = p in
+    let s = k in
     let a = s.args in
     rw (c.of_addition.ensures, t.add_text-addition.ensures.0, t.add_text-addition.ensures.1, r.replace.ensures, p.put.ensures, s.requires.1, padded_whole)
-    (ruled_does a.desk a.table-1.now a.names.now (replaced a.names.now a.typed.now))
+    (ruled_does a.desk a.table.now a.names.now (replaced a.names.now a.typed.now))
 
 pub add_typed_spec : {M : Type 1} → statement M
 add_typed_spec = tie.close (tie.spec

@@ -11,17 +11,17 @@ abbrev start : tie.Else-not-table_fits → tie.Start
 start c = c.before.before.before.before
 
 fits : (c : tie.Else-not-table_fits) → let a = (start c).args in table_fits a.line.now a.count a.others ≡ true
-fits c = sym c.before.table_fits.ensures ∙ not-false _ c.if-not-table_fits.false-raw
+fits c = sym c.table_fits.ensures ∙ not-false _ c.if-not-table_fits.false-raw
 
 returns : tie.Need-returns-then-not-table_fits
-returns c = rw (c.slip.ensures, sym c.before.before.table_fits.ensures ∙ not-true _ c.before.if-not-table_fits.true-raw) (slip_does _ _ 5)
+returns c = rw (c.slip.ensures, sym c.table_fits.ensures ∙ not-true _ c.if-not-table_fits.true-raw) (slip_does _ _ 5)
 
 returns_2 : tie.Need-returns
 returns_2 c =
-    let p = c.before.before in
-    let i = p.before.before.before in
+    let p = c in
+    let i = p in
     let added = p.add_pairs-addition.ensures in
-    rw (c.of_addition.ensures, added.0, added.1, i.pairs_in-allowed.ensures, fits i.before) (entered_does _ _ _ _)
+    rw (c.of_addition.ensures, added.0, added.1, i.pairs_in-allowed.ensures, fits i.before.before.before.before.before.before) (entered_does _ _ _ _)
 
 pub enter_pairs_spec : {M : Type 1} → statement M
 enter_pairs_spec = tie.close (tie.spec

@@ -9,43 +9,43 @@ use Rattle.orders.proofs.taking.name_line.Tie as tie
 
 -- where the symbol is read, and where the call began; where the name is tested
 abbrev start : tie.After-symbol_in → tie.Start
-start c = c.before.before.before.before.before
+start c = c.before.before.before.before
 
 abbrev one : tie.After-is_name → tie.After-symbol_in
 one c = c.before.before.before.before.before
 
-read : (c : tie.After-symbol_in) → let a = (start c).args in symbol_in a.names-1.now (word_at 1 a.line.now) ≡ c.symbol_in.result
-read c = rw (← c.before.word.ensures) (sym c.symbol_in.ensures)
+read : (c : tie.After-symbol_in) → let a = (start c).args in symbol_in a.names.now (word_at 1 a.line.now) ≡ c.symbol_in.result
+read c = rw (← c.word.ensures) (sym c.symbol_in.ensures)
 
 named : (c : tie.After-is_name) → is_name (word_at 2 (start (one c)).args.line.now) ≡ c.is_name.result
-named c = rw (← c.before.word-given.ensures) (sym c.is_name.ensures)
+named c = rw (← c.word-given.ensures) (sym c.is_name.ensures)
 
 returns : tie.Need-returns-then-not-is_name
 returns c =
-    let n = c.before.before in
-    let said = read (one n) ∙ n.before.before.before.symbol-1.given.1 in
-    rw (c.slip-then-not-is_name.ensures, said, named n ∙ not-true _ c.before.if-not-is_name.true-raw) (slip_does _ _ 2)
+    let n = c in
+    let said = read (one n.before.before) ∙ n.symbol-1.given.1 in
+    rw (c.slip-then-not-is_name.ensures, said, named n.before.before ∙ not-true _ c.if-not-is_name.true-raw) (slip_does _ _ 2)
 
 returns_2 : tie.Need-returns-then-not-ends_at
 returns_2 c =
-    let e = c.before.before in
-    let n = e.before.before in
-    let said = read (one n) ∙ n.before.before.before.symbol-1.given.1 in
-    let more = sym e.ends_at.ensures ∙ not-true _ c.before.if-not-ends_at.true-raw in
-    rw (c.slip-then-not-ends_at.ensures, said, named n ∙ not-false _ e.before.if-not-is_name.false-raw, more) (slip_does _ _ 3)
+    let e = c in
+    let n = e in
+    let said = read (one n.before.before.before.before) ∙ n.symbol-1.given.1 in
+    let more = sym e.ends_at.ensures ∙ not-true _ c.if-not-ends_at.true-raw in
+    rw (c.slip-then-not-ends_at.ensures, said, named n.before.before.before.before ∙ not-false _ e.if-not-is_name.false-raw, more) (slip_does _ _ 3)
 
 returns_3 : tie.Need-returns-in-Not
-returns_3 c = let w = c.before.before in rw (c.slip.ensures, read w.before.before ∙ w.why-1.given.1) (slip_does _ _ 1)
+returns_3 c = let w = c in rw (c.slip.ensures, read w.before.before.before.before ∙ w.why-1.given.1) (slip_does _ _ 1)
 
 returns_4 : tie.Need-returns-else-not-ends_at
 returns_4 c =
-    let m = c.before.before in
-    let t = m.before.before in
-    let e = t.before in
-    let n = e.before.before in
-    let said = read (one n) ∙ n.before.before.before.symbol-1.given.1 in
+    let m = c in
+    let t = m in
+    let e = t in
+    let n = e in
+    let said = read (one n.before.before.before.before.before.before.before) ∙ n.symbol-1.given.1 in
     let over = sym e.ends_at.ensures ∙ not-false _ t.if-not-ends_at.false-raw in
-    rw (said, named n ∙ not-false _ e.before.if-not-is_name.false-raw, over, ← n.before.word-given.ensures) m.name.ensures
+    rw (said, named n.before.before.before.before.before.before.before ∙ not-false _ e.if-not-is_name.false-raw, over, ← n.word-given.ensures) m.name.ensures
 
 pub name_line_spec : {M : Type 1} → statement M
 name_line_spec = tie.close (tie.spec

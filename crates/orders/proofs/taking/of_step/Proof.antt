@@ -4,4 +4,4 @@ use Rattle.orders.proofs.taking.of_step.Statement.{statement}
 use Rattle.orders.proofs.taking.of_step.Tie as tie
 
 pub of_step_spec : {M : Type 1} → statement M
-of_step_spec = tie.close (tie.spec (λ c κs. search rules) (λ c κs. search rules) (λ c. rw (c.simple.ensures, c.before.reply_of.ensures)))
+of_step_spec = tie.close (tie.spec (λ c κs. search rules) (λ c κs. search rules) (λ c. rw (c.simple.ensures, c.reply_of.ensures)))

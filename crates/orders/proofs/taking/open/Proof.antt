@@ -6,16 +6,16 @@ use Rattle.orders.proofs.taking.open.Tie as tie
 
 returns : tie.Need-returns-in-Refused
 returns c =
-    let k = c.before.before in
+    let k = c in
     rw c.simple.ensures (unopened_does _ _ _ _ _ (rw (← k.before.before.before.«open».ensures) k.outcome-1.given.1))
 
 returns_2 : tie.Need-returns-in-Done
 returns_2 c =
-    let n = c.before.before in
-    let p = n.before.before.before in
-    let t = p.before.before.before in
-    let o = t.before.before.before in
-    rw (c.simple-in-Done.ensures, p.put.ensures, o.before.before.before.requires, zeros, o.«open».ensures)
+    let n = c in
+    let p = n in
+    let t = p in
+    let o = t in
+    rw (c.simple-in-Done.ensures, p.put.ensures, o.requires, zeros, o.«open».ensures)
     (opened_does _ _ _ _ (rw (← o.«open».ensures) t.enum_told-1.given.1))
 
 pub open_spec : {M : Type 1} → statement M

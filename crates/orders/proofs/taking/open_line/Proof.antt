@@ -15,22 +15,22 @@ abbrev at : tie.After-ends_at → tie.After-number_in
 at c = c.before.before.before.before
 
 read : (c : tie.After-number_in) → let a = (start c).args in number_in (word_at 1 a.line.now) ≡ c.number_in.result
-read c = rw (← c.before.word.ensures) (sym c.number_in.ensures)
+read c = rw (← c.word.ensures) (sym c.number_in.ensures)
 
 returns : tie.Need-returns-then-not-ends_at
 returns c =
-    let e = c.before.before in
-    rw (c.slip-then-not-ends_at.ensures, read (at e) ∙ e.before.before.n-1.given.1, sym e.ends_at.ensures ∙ not-true _ c.before.if-not-ends_at.true-raw)
+    let e = c in
+    rw (c.slip-then-not-ends_at.ensures, read (at e.before.before) ∙ e.n-1.given.1, sym e.ends_at.ensures ∙ not-true _ c.if-not-ends_at.true-raw)
     (slip_does _ _ 2)
 
 returns_2 : tie.Need-returns-in-Not
-returns_2 c = let w = c.before.before in rw (c.slip.ensures, read w.before.before ∙ w.why-1.given.1) (slip_does _ _ 1)
+returns_2 c = let w = c in rw (c.slip.ensures, read w.before.before.before.before ∙ w.why-1.given.1) (slip_does _ _ 1)
 
 returns_3 : tie.Need-returns-else-not-ends_at
 returns_3 c =
-    let o = c.before.before in
-    let e = o.before.before.before in
-    rw (read (at e) ∙ e.before.before.n-1.given.1, sym e.ends_at.ensures ∙ not-false _ o.before.before.if-not-ends_at.false-raw) o.«open».ensures
+    let o = c in
+    let e = o in
+    rw (read (at e.before.before.before.before.before) ∙ e.n-1.given.1, sym e.ends_at.ensures ∙ not-false _ o.if-not-ends_at.false-raw) o.«open».ensures
 
 pub open_line_spec : {M : Type 1} → statement M
 open_line_spec = tie.close (tie.spec

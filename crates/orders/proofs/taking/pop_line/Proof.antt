@@ -6,13 +6,13 @@ use Rattle.orders.proofs.taking.pop_line.Statement.{statement}
 use Rattle.orders.proofs.taking.pop_line.Tie as tie
 
 returns : tie.Need-returns-then-not-ends_at
-returns c = rw (c.slip.ensures, sym c.before.before.ends_at.ensures ∙ not-true _ c.before.if-not-ends_at.true-raw) (slip_does _ _ 1)
+returns c = rw (c.slip.ensures, sym c.ends_at.ensures ∙ not-true _ c.if-not-ends_at.true-raw) (slip_does _ _ 1)
 
 returns_2 : tie.Need-returns
 returns_2 c =
-    let p = c.before in
-    let t = p.before.before.before in
-    rw (c.of_step.ensures, p.pop.ensures, sym t.before.ends_at.ensures ∙ not-false _ t.if-not-ends_at.false-raw) (popped_does _ _ _ _)
+    let p = c in
+    let t = p in
+    rw (c.of_step.ensures, p.pop.ensures, sym t.ends_at.ensures ∙ not-false _ t.if-not-ends_at.false-raw) (popped_does _ _ _ _)
 
 pub pop_line_spec : {M : Type 1} → statement M
 pop_line_spec = tie.close (tie.spec (λ c κs. search rules) (λ c κs. search rules) returns (λ c κs. search rules) (λ c κs. search rules) returns_2)

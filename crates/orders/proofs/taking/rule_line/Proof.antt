@@ -5,13 +5,13 @@ use Rattle.orders.proofs.taking.rule_line.Statement.{statement}
 use Rattle.orders.proofs.taking.rule_line.Tie as tie
 
 short : (c : tie.After-rest-typed) → length c.rest-typed.result.now ≤ 500
-short c = let s = c.before.before.before in omega (arith, ap length c.rest-typed.ensures, rest_within 1 s.args.line.now, s.requires.1)
+short c = let s = c in omega (arith, ap length c.rest-typed.ensures, rest_within 1 s.args.line.now, s.requires.1)
 
 add_typed_requires : tie.Need-add_typed-requires
-add_typed_requires c κs = let r = c.before.before in (r.before.before.before.requires.0, length-take-le _ _ (omega (arith, short r)))
+add_typed_requires c κs = let r = c in (r.requires.0, length-take-le _ _ (omega (arith, short r.before.before)))
 
 returns : tie.Need-returns
-returns c = let t = c.before.before in rw (← t.before.before.before.rest-typed.ensures) t.add_Typed.ensures
+returns c = let t = c in rw (← t.rest-typed.ensures) t.add_Typed.ensures
 
 pub rule_line_spec : {M : Type 1} → statement M
 rule_line_spec = tie.close (tie.spec

@@ -12,16 +12,16 @@ start c = c.before.before.before.before
 returns : tie.Need-returns-then-line-gt-MOST_BYTES
 unfolding line_of
 returns c =
-    let t = c.before in
-    rw (c.slip.ensures, lt-ltb 500 (length t.before.before.before.args.line.now) (omega arith)) (slip_does _ _ 0)
+    let t = c in
+    rw (c.slip.ensures, lt-ltb 500 (length t.args.line.now) (omega arith)) (slip_does _ _ 0)
 
 returns_2 : tie.Need-returns
 unfolding line_of
 returns_2 c =
-    let t = c.before.before.before in
-    let o = t.before.before.before in
-    let w = o.before in
-    rw (le-ltb 500 (length (start w).args.line.now) (omega arith), ← w.word.ensures, ← o.order_of-order.ensures) t.take_order.ensures
+    let t = c in
+    let o = t in
+    let w = o in
+    rw (le-ltb 500 (length (start w.before.before.before.before.before.before.before).args.line.now) (omega arith), ← w.word.ensures, ← o.order_of-order.ensures) t.take_order.ensures
 
 pub take_spec : {M : Type 1} → statement M
 take_spec = tie.close (tie.spec

@@ -15,10 +15,10 @@ abbrev one : tie.After-number_in → tie.After-symbol_in
 one c = c.before.before.before.before.before
 
 read : (c : tie.After-symbol_in) → let a = (start c).args in symbol_in a.names.now (word_at 1 a.line.now) ≡ c.symbol_in.result
-read c = rw (← c.before.word.ensures) (sym c.symbol_in.ensures)
+read c = rw (← c.word.ensures) (sym c.symbol_in.ensures)
 
 read_next : (c : tie.After-number_in) → number_in (word_at 2 (start (one c)).args.line.now) ≡ c.number_in.result
-read_next c = rw (← c.before.word-in-Of.ensures) (sym c.number_in.ensures)
+read_next c = rw (← c.word-in-Of.ensures) (sym c.number_in.ensures)
 
 -- where it is looked whether another follows
 abbrev at : tie.After-ends_at → tie.After-number_in
@@ -26,29 +26,29 @@ at c = c.before.before.before.before
 
 returns : tie.Need-returns-then-not-ends_at
 returns c =
-    let e = c.before.before in
-    let m = at e in
-    let first = read (one m) ∙ m.before.before.before.first-1.given.1 in
-    let count = read_next m ∙ e.before.before.count-1.given.1 in
-    rw (c.slip-then-not-ends_at.ensures, first, count, sym e.ends_at.ensures ∙ not-true _ c.before.if-not-ends_at.true-raw) (slip_does _ _ 3)
+    let e = c in
+    let m = at e.before.before in
+    let first = read (one m) ∙ m.first-1.given.1 in
+    let count = read_next m ∙ e.count-1.given.1 in
+    rw (c.slip-then-not-ends_at.ensures, first, count, sym e.ends_at.ensures ∙ not-true _ c.if-not-ends_at.true-raw) (slip_does _ _ 3)
 
 returns_2 : tie.Need-returns-in-Not
-returns_2 c = let w = c.before.before in rw (c.slip.ensures, read w.before.before ∙ w.why-1.given.1) (slip_does _ _ 1)
+returns_2 c = let w = c in rw (c.slip.ensures, read w.before.before.before.before ∙ w.why-1.given.1) (slip_does _ _ 1)
 
 returns_3 : tie.Need-returns-in-Not-number_in
 returns_3 c =
-    let w = c.before.before in
-    let m = w.before.before in
-    rw (c.slip-in-Not-number_in.ensures, read (one m) ∙ m.before.before.before.first-1.given.1, read_next m ∙ w.why-in-Not-number_in-1.given.1) (slip_does _ _ 2)
+    let w = c in
+    let m = w in
+    rw (c.slip-in-Not-number_in.ensures, read (one m.before.before.before.before) ∙ m.first-1.given.1, read_next m.before.before.before.before ∙ w.why-in-Not-number_in-1.given.1) (slip_does _ _ 2)
 
 returns_4 : tie.Need-returns-else-not-ends_at
 returns_4 c =
-    let p = c.before.before in
-    let t = p.before.before.before in
-    let e = t.before in
-    let m = at e in
-    let first = read (one m) ∙ m.before.before.before.first-1.given.1 in
-    let count = read_next m ∙ e.before.before.count-1.given.1 in
+    let p = c in
+    let t = p in
+    let e = t in
+    let m = at e.before.before.before.before.before.before in
+    let first = read (one m) ∙ m.first-1.given.1 in
+    let count = read_next m ∙ e.count-1.given.1 in
     let added = p.add_positions-addition.ensures in
     rw (c.of_addition.ensures, added.0, added.1, first, count, sym e.ends_at.ensures ∙ not-false _ t.if-not-ends_at.false-raw) (entered_does _ _ _ _)
 

@@ -5,7 +5,7 @@ use Rattle.orders.proofs.words.rest.Statement.{statement}
 use Rattle.orders.proofs.words.rest.Tie as tie
 
 returns : tie.Need-returns
-returns c = let p = c.before.word_place-from in onward_drop p.result-1 c.before.before.before.args.line.now ∙ p.ensures.stands
+returns c = let p = c.word_place-from in onward_drop p.result c.args.line.now ∙ p.ensures.stands
 
 pub rest_spec : {M : Type 1} → statement M
 rest_spec = tie.close (tie.spec

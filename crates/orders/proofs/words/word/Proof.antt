@@ -4,11 +4,11 @@ use Rattle.orders.proofs.WordPlaces.{word_goes_on, word_part}
 use Rattle.orders.proofs.words.word.Statement.{statement}
 use Rattle.orders.proofs.words.word.Tie as tie
 
-goes_on_lem : (c : tie.After-word_end-to) → c.before.word_place-from.result-1 ≤ c.word_end-to.result-1
-goes_on_lem c = word_goes_on c.before.before.before.args.k c.before.word_place-from.ensures c.word_end-to.ensures
+goes_on_lem : (c : tie.After-word_end-to) → c.word_place-from.result ≤ c.word_end-to.result
+goes_on_lem c = word_goes_on c.args.k c.word_place-from.ensures c.word_end-to.ensures
 
 returns : tie.Need-returns
-returns c = let e = c.before in word_part e.before.before.before.args.k e.before.word_place-from.ensures e.word_end-to.ensures
+returns c = let e = c in word_part e.args.k e.word_place-from.ensures e.word_end-to.ensures
 
 pub word_spec : {M : Type 1} → statement M
 word_spec = tie.close (tie.spec

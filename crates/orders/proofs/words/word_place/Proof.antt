@@ -14,17 +14,17 @@ decreases_loop line k at₀ n₀ at n = k - n
 
 loop_again : tie.Need-loop-n-preserved invariant_loop decreases_loop
 loop_again c =
-    let e = c.before in
-    let l = e.before.before.loop-n in
+    let e = c in
+    let l = e.loop-n in
     (omega arith, next_place l.n l.invariant.1 e.word_end.ensures c.next_word-at-in-loop-n.ensures)
 
 returns : tie.Need-returns invariant_loop decreases_loop
 returns c =
-    let l = c.before in
-    let e : l.loop-n.n ≡ l.before.before.before.args.k = omega arith in
+    let l = c in
+    let e : l.loop-n.n ≡ l.args.k = omega arith in
     rw e at l.loop-n.invariant.1
 
 pub word_place_spec : {M : Type 1} → statement M
 word_place_spec = tie.close (tie.spec
-    invariant_loop decreases_loop (λ c κs. omega arith) (λ c. (omega arith, first_place c.next_word-at.ensures)) (λ c κs. c.before.loop-n.invariant.1.within)
+    invariant_loop decreases_loop (λ c κs. omega arith) (λ c. (omega arith, first_place c.next_word-at.ensures)) (λ c κs. c.loop-n.invariant.1.within)
     (λ c κs. c.word_end.ensures.within) (λ c. omega arith) (λ c. omega arith) loop_again returns)

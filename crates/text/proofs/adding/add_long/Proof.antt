@@ -8,26 +8,26 @@ use Rattle.text.proofs.adding.add_long.Statement.{statement}
 use Rattle.text.proofs.adding.add_long.Tie as tie
 
 -- what is kept is in the buffer, and is enough
-kept : (j : tie.Joined-size-lt-ENOUGH) → j.if-size-lt-ENOUGH.auto ≡ min j.before.before.emit-size.result enough
+kept : (j : tie.Joined-size-lt-ENOUGH) → j.if-size-lt-ENOUGH.auto ≡ min j.emit-size.result enough
 kept j = ⊎_elim (λ w. omega (arith, w.1, w.0.true)) (λ w. omega (arith, w.1, w.0.false)) j.if-size-lt-ENOUGH.branch
 
-fits : (j : tie.Joined-size-lt-ENOUGH) → j.if-size-lt-ENOUGH.auto ≤ length j.before.before.emit-size.new.out
+fits : (j : tie.Joined-size-lt-ENOUGH) → j.if-size-lt-ENOUGH.auto ≤ length j.emit-size.new.out
 fits j =
-    let e = j.before.before in
-    kept_fits e.before.before.before.args.text.now e.emit-size.ensures (omega arith) (kept j)
+    let e = j in
+    kept_fits e.args.text.now e.emit-size.ensures (omega arith) (kept j)
 
 slice_aggregate_add_rule : tie.Need-slice_bounds-add_rule-end
-slice_aggregate_add_rule c = let j = c.before.before in sym (length-take-le j.if-size-lt-ENOUGH.auto j.before.before.emit-size.new.out (fits j))
+slice_aggregate_add_rule c = let j = c in sym (length-take-le j.if-size-lt-ENOUGH.auto j.emit-size.new.out (fits j.before.before))
 
 returns : tie.Need-returns
 returns c =
-    let r = c.before in
-    let j = r.before.before.before in
-    let e = j.before.before in
-    let a = e.before.before.before.args in
+    let r = c in
+    let j = r in
+    let e = j in
+    let a = e.args in
     let bytes = bytes_in a.text.now in
-    let done = rw (kept_held a.text.now e.emit-size.ensures (omega arith) (kept j)) at r.add_rule.ensures in
-    (done.0 ∙ front_ruled a.table-1.now a.board bytes, done.1 ∙ front_table a.table-1.now a.board bytes)
+    let done = rw (kept_held a.text.now e.emit-size.ensures (omega arith) (kept j.before.before.before.before)) at r.add_rule.ensures in
+    (done.0 ∙ front_ruled a.table.now a.board bytes, done.1 ∙ front_table a.table.now a.board bytes)
 
 pub add_long_spec : {M : Type 1} → statement M
 add_long_spec = tie.close (tie.spec

@@ -8,24 +8,24 @@ use Rattle.text.proofs.reading.judge_long.Statement.{statement}
 use Rattle.text.proofs.reading.judge_long.Tie as tie
 
 -- what is kept is in the buffer, and is enough
-kept : (j : tie.Joined-size-lt-ENOUGH) → j.if-size-lt-ENOUGH.auto ≡ min j.before.before.emit-size.result enough
+kept : (j : tie.Joined-size-lt-ENOUGH) → j.if-size-lt-ENOUGH.auto ≡ min j.emit-size.result enough
 kept j = ⊎_elim (λ w. omega (arith, w.1, w.0.true)) (λ w. omega (arith, w.1, w.0.false)) j.if-size-lt-ENOUGH.branch
 
-fits : (j : tie.Joined-size-lt-ENOUGH) → j.if-size-lt-ENOUGH.auto ≤ length j.before.before.emit-size.new.out
+fits : (j : tie.Joined-size-lt-ENOUGH) → j.if-size-lt-ENOUGH.auto ≤ length j.emit-size.new.out
 fits j =
-    let e = j.before.before in
-    kept_fits e.before.before.before.args.text.now e.emit-size.ensures (omega arith) (kept j)
+    let e = j in
+    kept_fits e.args.text.now e.emit-size.ensures (omega arith) (kept j)
 
 slice_aggregate_read_whole : tie.Need-slice_bounds-read_whole-end
-slice_aggregate_read_whole c = let j = c.before in sym (length-take-le j.if-size-lt-ENOUGH.auto j.before.before.emit-size.new.out (fits j))
+slice_aggregate_read_whole c = let j = c in sym (length-take-le j.if-size-lt-ENOUGH.auto j.emit-size.new.out (fits j.before))
 
 returns : tie.Need-returns
 returns c =
-    let j = c.before.before in
-    let e = j.before.before in
-    let s = e.before.before.before in
+    let j = c in
+    let e = j in
+    let s = e in
     let S = s.args.symbols in
-    let held = kept_held s.args.text.now e.emit-size.ensures (omega arith) (kept j) in
+    let held = kept_held s.args.text.now e.emit-size.ensures (omega arith) (kept j.before.before) in
     c.read_whole.ensures ∙ ap (λ l. read_of (whole_of S l)) held ∙ ap read_of (front_whole S (bytes_in s.args.text.now))
 
 pub judge_long_spec : {M : Type 1} → statement M

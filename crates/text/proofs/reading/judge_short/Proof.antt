@@ -6,15 +6,15 @@ use Rattle.text.proofs.reading.judge_short.Statement.{statement}
 use Rattle.text.proofs.reading.judge_short.Tie as tie
 
 fits : (e : tie.After-emit-size) → e.emit-size.result ≤ length e.emit-size.new.out
-fits e = let s = e.before.before.before in all_fit s.args.text.now e.emit-size.ensures s.requires.1 (omega (arith, s.requires.0))
+fits e = let s = e in all_fit s.args.text.now e.emit-size.ensures s.requires.1 (omega (arith, s.requires.0))
 
 slice_aggregate_read_whole : tie.Need-slice_bounds-read_whole-end
-slice_aggregate_read_whole c = let e = c.before.before in sym (length-take-le e.emit-size.result e.emit-size.new.out (fits e))
+slice_aggregate_read_whole c = let e = c in sym (length-take-le e.emit-size.result e.emit-size.new.out (fits e.before.before))
 
 returns : tie.Need-returns
 returns c =
-    let e = c.before.before.before in
-    let s = e.before.before.before in
+    let e = c in
+    let s = e in
     let held = all_held s.args.text.now e.emit-size.ensures s.requires.1 (omega (arith, s.requires.0)) in
     c.read_whole.ensures ∙ ap (λ l. read_of (whole_of s.args.symbols l)) held
 

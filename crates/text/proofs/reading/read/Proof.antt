@@ -21,42 +21,42 @@ begun c = start c.before.before.before
 
 -- the board is good
 good : (c : tie.Else-not-good) → good_board (start c).args.table.now (start c).args.board ≡ true
-good c = sym c.before.good2.ensures ∙ not-false _ c.if-not-good.false-raw
+good c = sym c.good.ensures ∙ not-false _ c.if-not-good.false-raw
 
 returns : tie.Need-returns-then-not-good
 unfolding read_text_outcome read_text_faults
 returns c =
-    let g = c.before.before in
-    let a = g.before.before.before.args in
-    let spoilt = sym g.good2.ensures ∙ not-true _ c.before.if-not-good.true-raw in
-    read_refused a.table.now a.board a.text.now a.out-1.now BadBoard (rw spoilt) refl c.refused.ensures
+    let g = c in
+    let a = g.args in
+    let spoilt = sym g.good.ensures ∙ not-true _ c.if-not-good.true-raw in
+    read_refused a.table.now a.board a.text.now a.out.now BadBoard (rw spoilt) refl c.refused.ensures
 
 returns_3 : tie.Need-returns-in-Refused
 unfolding read_text_outcome read_text_faults
 returns_3 c =
-    let w = c.before.before in
-    let r = w.before.before in
-    let a = (start r.before).args in
+    let w = c in
+    let r = w in
+    let a = (start r.before.before.before.before.before).args in
     let why = w.why-1.given.0.0 in
     let e = answer_bad (whole_text a.text.now) (sym r.read_text.ensures ∙ w.why-1.given.1) in
     let only = (first_offence a.text.now why w.why-1.given.0.1.0 e).0 in
-    read_refused a.table.now a.board a.text.now a.out-1.now why (rw (good r.before, e) (ap Refused (sym only)))
+    read_refused a.table.now a.board a.text.now a.out.now why (rw (good r.before.before.before.before.before, e) (ap Refused (sym only)))
     (text_place_lem a.board.symbols a.text.now e) c.refused-in-Refused.ensures
 
 -- the text keeps the form
 keeps : (c : tie.In-Used) → is_good (whole_text (begun c).args.text.now) ≡ true
-keeps c = ap is_good (answer_good (whole_text (begun c).args.text.now) (sym c.before.before.read_text.ensures ∙ c.enum_told-1.given.1)).1
+keeps c = ap is_good (answer_good (whole_text (begun c).args.text.now) (sym c.read_text.ensures ∙ c.enum_told-1.given.1)).1
 
 returns_4 : tie.Need-returns-in-Refused-judge
 unfolding read_text_outcome read_text_faults
 returns_4 c =
-    let w = c.before.before in
-    let j = w.before.before in
-    let t = j.before in
-    let g = t.before.before.before in
-    let a = (begun t).args in
+    let w = c in
+    let j = w in
+    let t = j in
+    let g = t in
+    let a = (begun t.before.before.before.before.before).args in
     let e = answer_bad (read_in a.board.symbols a.text.now) (sym j.judge.ensures ∙ w.why-in-Refused-judge-1.given.1) in
-    read_refused a.table.now a.board a.text.now a.out-1.now w.why-in-Refused-judge-1.given.0.0 (rw (good g, keeps t, e))
+    read_refused a.table.now a.board a.text.now a.out.now w.why-in-Refused-judge-1.given.0.0 (rw (good g.before.before.before.before.before.before.before.before, keeps t.before.before.before.before.before, e))
     (bytes_place a.board.symbols a.text.now e) c.refused-in-Refused-judge.ensures
 
 -- its bytes are a formula, and so many
@@ -66,8 +66,8 @@ record Sized (S : ℕ) (text : List ℕ) (size : ℕ) : Type 0 where
 
 sized : (c : tie.In-Used-judge-2) → let a = (begun c.before.before.before).args in Sized a.board.symbols a.text.now c.size-1.given.0.0
 sized c =
-    let j = c.before.before in
-    let a = (begun j.before).args in
+    let j = c in
+    let a = (begun j.before.before.before).args in
     let S = a.board.symbols in
     let e = answer_good (read_in S a.text.now) (sym j.judge.ensures ∙ c.size-1.given.1) in
     record { reads = ap is_good e.1; long = whole_long S (bytes_in a.text.now) e.1 }
@@ -75,33 +75,33 @@ sized c =
 returns_2 : tie.Need-returns-then-out-size
 unfolding read_text_outcome read_text_faults
 returns_2 c =
-    let then = c.before in
-    let z = then.before.before in
-    let t = z.before.before.before in
-    let g = t.before.before.before in
-    let a = (begun t).args in
-    let small = lt-leb (length (bytes_in a.text.now)) (length a.out-1.now) (omega (arith, (sized z).long, then.if-out-size.true)) in
-    read_refused a.table.now a.board a.text.now a.out-1.now TableTooShort (rw (good g, keeps t, (sized z).reads, small)) refl
+    let then = c in
+    let z = then in
+    let t = z in
+    let g = t in
+    let a = (begun t.before.before.before.before.before.before).args in
+    let small = lt-leb (length (bytes_in a.text.now)) (length a.out.now) (omega (arith, (sized z.before.before.before).long, then.if-out-size.true)) in
+    read_refused a.table.now a.board a.text.now a.out.now TableTooShort (rw (good g.before.before.before.before.before.before.before.before.before, keeps t.before.before.before.before.before.before, (sized z.before.before.before).reads, small)) refl
     c.refused-then-out-size.ensures
 
 emit_requires : tie.Need-emit-requires
-emit_requires c κs = let z = c.before.before.before in keeps z.before.before.before
+emit_requires c κs = let z = c in keeps z.before.before.before.before.before.before
 
 returns_5 : tie.Need-returns-else-out-size
 unfolding read_text_outcome read_text_faults
 returns_5 c =
-    let m = c.before.before in
-    let else = m.before.before in
-    let z = else.before.before in
-    let t = z.before.before.before in
-    let g = t.before.before.before in
-    let a = (begun t).args in
-    let fits : length (bytes_in a.text.now) ≤ length a.out-1.now = omega (arith, (sized z).long, else.if-out-size.false) in
-    let room = le-leb (length (bytes_in a.text.now)) (length a.out-1.now) fits in
-    read_done a.table.now a.board a.text.now a.out-1.now (rw (good g, keeps t, (sized z).reads, room)) fits m.emit.ensures refl
+    let m = c in
+    let else = m in
+    let z = else in
+    let t = z in
+    let g = t in
+    let a = (begun t.before.before.before.before.before.before.before.before.before).args in
+    let fits : length (bytes_in a.text.now) ≤ length a.out.now = omega (arith, (sized z.before.before.before.before.before.before).long, else.if-out-size.false) in
+    let room = le-leb (length (bytes_in a.text.now)) (length a.out.now) fits in
+    read_done a.table.now a.board a.text.now a.out.now (rw (good g.before.before.before.before.before.before.before.before.before.before.before.before, keeps t.before.before.before.before.before.before.before.before.before, (sized z.before.before.before.before.before.before).reads, room)) fits m.emit.ensures refl
 
 pub read_spec : {M : Type 1} → statement M
 read_spec = tie.close (tie.spec
     (λ c κs. search rules) (λ c κs. search rules) returns (λ c κs. search rules) (λ c. search rules) (λ c κs. search rules) (λ c. search rules)
     (λ c κs. keeps c) (λ c. search rules) (λ c κs. search rules) (λ c. search rules) (λ c κs. search rules) returns_2 emit_requires returns_3
-    returns_4 (λ c. put_length c.before.before.emit.ensures) returns_5)
+    returns_4 (λ c. put_length c.emit.ensures) returns_5)

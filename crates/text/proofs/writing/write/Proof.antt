@@ -19,46 +19,46 @@ begun c = start c.before.before.before
 
 -- the board is good
 good : (c : tie.Else-not-good) → good_board (start c).args.table.now (start c).args.board ≡ true
-good c = sym c.before.good2.ensures ∙ not-false _ c.if-not-good.false-raw
+good c = sym c.good.ensures ∙ not-false _ c.if-not-good.false-raw
 
 returns : tie.Need-returns-then-not-good
 unfolding write_text_outcome write_text_faults
 returns c =
-    let g = c.before.before in
-    let a = g.before.before.before.args in
-    let spoilt = sym g.good2.ensures ∙ not-true _ c.before.if-not-good.true-raw in
-    write_refused a.table.now a.board a.bytes.now a.out-1.now BadBoard (rw spoilt) refl c.refused.ensures
+    let g = c in
+    let a = g.args in
+    let spoilt = sym g.good.ensures ∙ not-true _ c.if-not-good.true-raw in
+    write_refused a.table.now a.board a.bytes.now a.out.now BadBoard (rw spoilt) refl c.refused.ensures
 
 -- the formula is read
 read : (c : tie.In-Used) → is_good (whole_of (begun c).args.board.symbols (begun c).args.bytes.now) ≡ true
 read c =
     let a = (begun c).args in
-    ap is_good (answer_good (whole_of a.board.symbols a.bytes.now) (sym c.before.before.read_whole.ensures ∙ c.enum_told-1.given.1)).1
+    ap is_good (answer_good (whole_of a.board.symbols a.bytes.now) (sym c.read_whole.ensures ∙ c.enum_told-1.given.1)).1
 
 write_formula_requires : tie.Need-write_formula-requires
 write_formula_requires c κs =
-    let t = c.before in
-    let a = (begun t).args in
-    ((good_is a.table.now a.board (good t.before.before.before)).sound.symbols, read t)
+    let t = c in
+    let a = (begun t.before).args in
+    ((good_is a.table.now a.board (good t.before.before.before.before)).sound.symbols, read t.before)
 
 returns_2 : tie.Need-returns-in-Refused
 unfolding write_text_outcome write_text_faults
 returns_2 c =
-    let w = c.before.before in
-    let r = w.before.before in
-    let a = (start r.before).args in
+    let w = c in
+    let r = w in
+    let a = (start r.before.before.before.before.before).args in
     let e = answer_bad (whole_of a.board.symbols a.bytes.now) (sym r.read_whole.ensures ∙ w.why-1.given.1) in
-    write_refused a.table.now a.board a.bytes.now a.out-1.now w.why-1.given.0.0 (rw (good r.before, e))
+    write_refused a.table.now a.board a.bytes.now a.out.now w.why-1.given.0.0 (rw (good r.before.before.before.before.before, e))
     (place_told_lem a.board.symbols a.bytes.now e) c.refused-in-Refused.ensures
 
 returns_3 : tie.Need-returns-in-Used
 unfolding write_text_answer write_text_bytes
 returns_3 c =
-    let f = c.before.before in
-    let t = f.before.before in
-    let g = t.before.before.before in
-    let a = (begun t).args in
-    rw (write_by_room a.table.now a.board a.bytes.now a.out-1.now (good g) (read t)) f.write_formula.ensures
+    let f = c in
+    let t = f in
+    let g = t in
+    let a = (begun t.before.before.before.before).args in
+    rw (write_by_room a.table.now a.board a.bytes.now a.out.now (good g.before.before.before.before.before.before.before) (read t.before.before.before.before)) f.write_formula.ensures
 
 pub write_spec : {M : Type 1} → statement M
 write_spec = tie.close (tie.spec

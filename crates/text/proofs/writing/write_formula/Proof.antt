@@ -20,16 +20,16 @@ start c = c.before.before.before.before
 
 spell_requires : tie.Need-spell-size-requires
 spell_requires c κs =
-    let s = c.before.before.before in
+    let s = c in
     (s.requires.0, reads s.args.symbols s.args.bytes.now s.requires.1)
 
 returns : tie.Need-returns-then-out-size
 returns c =
-    let p = c.before.before.before in
-    let s = start p in
+    let p = c in
+    let s = start p.before.before.before in
     let bytes = s.args.bytes.now in
     let same = ap length (spelt s.args.symbols bytes s.requires.1) in
-    too_short s.args.symbols bytes s.args.out-1.now (omega (arith, p.spell-size.ensures.ends, same, c.before.if-out-size.true)) c.refused.ensures
+    too_short s.args.symbols bytes s.args.out.now (omega (arith, p.spell-size.ensures.ends, same, c.if-out-size.true)) c.refused.ensures
 
 spell_requires_2 : tie.Need-spell-requires
 spell_requires_2 c κs =
@@ -38,16 +38,16 @@ spell_requires_2 c κs =
 
 returns_2 : tie.Need-returns
 returns_2 c =
-    let w = c.before.before in
-    let else = w.before.before in
-    let p = else.before.before in
-    let s = start p in
+    let w = c in
+    let else = w in
+    let p = else in
+    let s = start p.before.before.before.before.before.before in
     let bytes = s.args.bytes.now in
     let same = spelt s.args.symbols bytes s.requires.1 in
-    fitting s.args.symbols bytes s.args.out-1.now (omega (arith, p.spell-size.ensures.ends, ap length same, else.if-out-size.false))
+    fitting s.args.symbols bytes s.args.out.now (omega (arith, p.spell-size.ensures.ends, ap length same, else.if-out-size.false))
     (rw same at w.spell.ensures) refl
 
 pub write_formula_spec : {M : Type 1} → statement M
 write_formula_spec = tie.close (tie.spec
     (λ c. search rules) (λ c. search rules) spell_requires (λ c κs. search rules) returns spell_requires_2
-    (λ c. put_length c.before.before.spell.ensures) returns_2)
+    (λ c. put_length c.spell.ensures) returns_2)
