@@ -1,6 +1,6 @@
 -- `settling::settle` meets its contract: its tests are the faults of `settle_faults`, in their order, and what it lends comes back filled.
 use Rattle.meaning.proofs.Kit.{◌≡◌, ◌∙◌, sym, ap₂, ⊎_elim, true, ◌++◌, ◌≤◌, ◌*◌, arith, length, drop, take, length-take-le, rules, not-false}
-use Rattle.meaning.proofs.Kit.{not-true, le-leb, ltb-true, lt-leb, ltb-false}
+use Rattle.meaning.proofs.Kit.{not-true, le-leb, lt-leb, ltb-false}
 use Rattle.meaning.specs.Rounds.{ranks_of}
 use Rattle.literals.specs.declared.refusal.Refusal.TheVariants.{BadBoard, TableTooShort, BadFurnace}
 use Rattle.findings.specs.Ranks.{labels_from}
