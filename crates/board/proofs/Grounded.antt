@@ -1,5 +1,5 @@
 -- What ground and blame answer and write, where they are refused and where they are done.
-use Rattle.meaning.proofs.Kit.{◌≡◌, ◌∙◌, sym, refl, true, false, Bool, ◌||◌, List, ◌++◌, map, ◌≤◌, ℕ, ◌<◌, ◌-◌, ◌+◌, suc, ◌*◌, arith, ℤ, length, get_or}
+use Rattle.meaning.proofs.Kit.{◌≡◌, ◌∙◌, sym, refl, true, false, Bool, ◌||◌, List, ◌++◌, map, ◌≤◌, ℕ, ◌<◌, ◌-◌, suc, ◌*◌, arith, ℤ, length, get_or}
 use Rattle.meaning.proofs.Kit.{drop, length-map, list_get_or_append, list_get_or_map, lt-ltb, le-ltb}
 use mathlib.Core.Bool.{or_self}
 use Rattle.meaning.specs.Tests.{none, first}

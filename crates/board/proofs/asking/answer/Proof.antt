@@ -25,29 +25,29 @@ abbrev chosen : tie.After-propagate → tie.After-premises-held
 chosen c = c.before.before.before
 
 abbrev tested : tie.After-premises-held → tie.In-At
-tested c = c.before.before.before.before.before.before
+tested c = c.before.before.before.before.before
 
 abbrev start : tie.In-At → tie.Start
-start c = c.before.before.before
+start c = c.before.before
 
 at : (c : tie.In-At) → let s = start c in
-    PlacedAt s.args.table.now s.args.t1 s.args.furnace s.args.l c.enum_told-1.given.0.0
-at c = let s = start c in placed_at _ _ _ s.ranges.l.fits c.before.before.place_on.ensures c.enum_told-1.given.1
+    PlacedAt s.args.table.now s.args.board s.args.furnace s.args.l c.in-At.field-0
+at c = let s = start c in placed_at _ _ _ s.ranges.l c.place_on.ensures c.in-At.is
 
 -- the premises are the furnace's
-same : (c : tie.After-premises-held) → let s = start (tested c) in c.premises-held.result.now ≡ held_by s.args.t1 s.args.furnace
+same : (c : tie.After-premises-held) → let s = start (tested c) in c.premises-held.result.now ≡ held_by s.args.board s.args.furnace
 unfolding held_by
 same c = c.premises-held.ensures
 
 long : (c : tie.After-premises-held) → 400 ≡ length c.premises-held.result.now
 long c =
     let s = start (tested c) in
-    held_long s.args.t1 s.args.furnace 400 (at (tested c)).is_furnace (search rules) (search rules) (same c)
+    held_long s.args.board s.args.furnace 400 (at (tested c)).is_furnace (search rules) (search rules) (same c)
 
 -- the ranks
 front : (c : tie.After-propagate) → let s = start (tested (chosen c)) in
-    RanksIn s.args.table.now s.args.t1 s.args.furnace
-    (c.propagate.new.ranks ++ drop (2 * s.args.t1.symbols) (replicate 400 none))
+    RanksIn s.args.table.now s.args.board s.args.furnace
+    (c.propagate.new.ranks ++ drop (2 * s.args.board.symbols) (replicate 400 none))
 front c = let h = chosen c in ranks_back _ _ (at (tested h)).good _ (same h) c.propagate.ensures.0
 
 propagate_requires : tie.Need-propagate-requires
@@ -64,8 +64,8 @@ standing_by_requires c κs =
     let p = at w in
     let s = start w in
     let size = (front r).long in
-    let range = range_facts s.args.t1.symbols s.args.l p.in_range_lem in
-    let back = back_abs s.ranges.l.fits in
+    let range = range_facts s.args.board.symbols s.args.l p.in_range_lem in
+    let back = back_abs s.ranges.l in
     (omega (arith, back, range.0), omega (arith, back, size, range.1), omega (arith, size, p.good.sound.symbols))
 
 -- what is so of both calls
@@ -76,10 +76,9 @@ either false e f = f
 returns : tie.Need-returns-in-Refused
 unfolding asked asked_whole ask_faults
 returns c =
-    let w = c.before in
-    let s = w.before.before.before in
-    let own = drop 3 (ask_faults s.args.table.now s.args.t1 s.args.furnace s.args.l) in
-    let refused = placed_refused _ _ _ s.ranges.l w.before.before.place_on.ensures w.why-1.given.1 own in
+    let s = c.before.before in
+    let own = drop 3 (ask_faults s.args.table.now s.args.board s.args.furnace s.args.l) in
+    let refused = placed_refused _ _ _ s.ranges.l c.place_on.ensures c.in-Refused.is own in
     either s.args.whole (rw refused) (rw refused)
 
 returns_2 : tie.Need-returns-in-At
@@ -89,8 +88,8 @@ returns_2 c =
     let w = tested (chosen r) in
     let p = at w in
     let s = start w in
-    let b = s.args.t1 in
-    let stands = rw (to_z-of_z s.ranges.l.fits) at c.Standing-by.ensures in
+    let b = s.args.board in
+    let stands = rw (to_z-of_z s.ranges.l) at c.standing_by.ensures in
     rw (p.is_good_lem, p.is_furnace, p.in_range_lem)
     (stands
     ∙ ap (λ known. cond s.args.whole (standing_whole known (place_of s.args.l)) (standing known (place_of s.args.l)))
@@ -99,7 +98,7 @@ returns_2 c =
 
 pub answer_spec : {M : Type 1} → statement M
 answer_spec = tie.close (tie.spec
-    (λ c κs. search rules) (λ c. search rules) (λ c. search rules) (λ c. omega (arith, (at c).well-formed.sound.symbols)) (λ c κs. search rules)
+    (λ c κs. search rules) (λ c. search rules) (λ c. search rules) (λ c. omega (arith, (at c).good.sound.symbols)) (λ c κs. search rules)
     (λ c. ranks_room _ _ (at (tested c)).good) (λ c. sym (ranks_long _ _ (at (tested c.before)).good)) (λ c. search rules) (λ c. search rules)
     propagate_requires (λ c. (front c.before.before).room) (λ c. sym (front c.before.before.before).long) standing_by_requires returns
     returns_2)

@@ -9,43 +9,43 @@ use Rattle.board.proofs.asking.explain.Statement.{statement}
 use Rattle.board.proofs.asking.explain.Tie as tie
 
 abbrev told : tie.After-literal_count → tie.After-explain_numbers-reason
-told c = c.before.before.before.before
+told c = c.before.before.before
 
 -- the numbers of the literal that was given
 abbrev reason : tie.Start → Reason
 reason s = explain_numbers s.args.table.now s.args.board s.args.furnace s.args.l
 
-numbers : (c : tie.After-explain_numbers-reason) → c.explain_numbers-reason.result-1 ≡ reason c.before
+numbers : (c : tie.After-explain_numbers-reason) → c.explain_numbers-reason.result ≡ reason c.before
 numbers c = rw (to_z-of_z c.before.ranges.l) at c.explain_numbers-reason.ensures
 
-outcome : (c : tie.After-explain_numbers-reason) → (reason c.before).outcome ≡ c.explain_numbers-reason.result-1.outcome
+outcome : (c : tie.After-explain_numbers-reason) → (reason c.before).outcome ≡ c.explain_numbers-reason.result.outcome
 outcome c = ap (λ (r : Reason). r.outcome) (sym (numbers c))
 
 -- the row is in the table
-inside : (c : tie.In-Done) → let n = c.before.before in let row = n.explain_numbers-reason.result-1.row in
+inside : (c : tie.In-Done) → let n = c.before in let row = n.explain_numbers-reason.result.row in
     (row < 2048) × (width * row + width ≤ length n.before.args.table.now)
 inside c =
-    let n = c.before.before in
+    let n = c.before in
     let a = n.before.args in
-    let u = row_used a.table.now a.board a.furnace a.l (outcome n ∙ c.enum_told-in-Done-1.given.1) in
-    let row : n.explain_numbers-reason.result-1.row ≡ (reason n.before).row = ap (λ (r : Reason). r.row) (numbers n) in
+    let u = row_used a.table.now a.board a.furnace a.l (outcome n ∙ c.in-Done.is) in
+    let row : n.explain_numbers-reason.result.row ≡ (reason n.before).row = ap (λ (r : Reason). r.row) (numbers n) in
     (omega (arith, row, u.0, u.1), omega (arith, row, u.0, u.2))
 
-few : (c : tie.After-literal_count) → c.literal_count.result-1 ≤ most_literals
-few c = let n = told c in omega (arith, c.literal_count.ensures, count_few n.before.args.table.now (width * n.explain_numbers-reason.result-1.row))
+few : (c : tie.After-literal_count) → c.literal_count.result ≤ most_literals
+few c = let n = told c in omega (arith, c.literal_count.ensures, count_few n.before.args.table.now (width * n.explain_numbers-reason.result.row))
 
 returns : tie.Need-returns-in-Refused
 returns c =
-    let n = c.before.before.before in
-    rw (nothing_shown _ _ _ _ (outcome n ∙ c.before.enum_told-1.given.1))
+    let n = c.before.before in
+    rw (nothing_shown _ _ _ _ (outcome n ∙ c.in-Refused.is))
     (record { holds = refl; block = refl; offset = refl })
 
 returns_2 : tie.Need-returns-in-Done
 unfolding numbers_at
 returns_2 c =
     let t = c.before.before.before in
-    let n = t.before.before in
-    rw (row_shown _ _ _ _ (outcome n ∙ t.enum_told-in-Done-1.given.1), ← numbers n, ← c.before.literal_count.ensures)
+    let n = t.before in
+    rw (row_shown _ _ _ _ (outcome n ∙ t.in-Done.is), ← numbers n, ← c.before.literal_count.ensures)
     (record { holds = refl; block = refl; offset = refl })
 
 pub explain_spec : {M : Type 1} → statement M

@@ -29,44 +29,44 @@ held c = c.before.before.before.before.before
 abbrev chosen : tie.After-propagate → tie.After-premises-held
 chosen c = c.before.before.before
 
-abbrev tested : tie.After-premises-held → tie.In-At-2
-tested c = c.before.before.before.before.before.before.before
+abbrev tested : tie.After-premises-held → tie.In-At
+tested c = c.before.before.before.before.before
 
-abbrev start : tie.In-At-2 → tie.Start
-start c = c.before.before.before
+abbrev start : tie.In-At → tie.Start
+start c = c.before.before
 
 -- the place that the call looks at
-at : (c : tie.In-At-2) → let s = start c in
-    PlacedAt s.args.table.now s.args.t1 s.args.furnace s.args.l c.p-1.given.0.0
-at c = let s = start c in placed_at _ _ _ s.ranges.l.fits c.before.before.place_on.ensures c.p-1.given.1
+at : (c : tie.In-At) → let s = start c in
+    PlacedAt s.args.table.now s.args.board s.args.furnace s.args.l c.in-At.p
+at c = let s = start c in placed_at _ _ _ s.ranges.l c.place_on.ensures c.in-At.is
 
-small : (c : tie.In-At-2) → 2 * (start c).args.t1.symbols < none
-small c = omega (arith, (at c).well-formed.sound.symbols)
+small : (c : tie.In-At) → 2 * (start c).args.board.symbols < none
+small c = omega (arith, (at c).good.sound.symbols)
 
 -- the premises are the furnace's
-same : (c : tie.After-premises-held) → let s = start (tested c) in c.premises-held.result.now ≡ held_by s.args.t1 s.args.furnace
+same : (c : tie.After-premises-held) → let s = start (tested c) in c.premises-held.result.now ≡ held_by s.args.board s.args.furnace
 unfolding held_by
 same c = c.premises-held.ensures
 
 long : (c : tie.After-premises-held) → 400 ≡ length c.premises-held.result.now
 long c =
     let s = start (tested c) in
-    held_long s.args.t1 s.args.furnace 400 (at (tested c)).is_furnace (search rules) (search rules) (same c)
+    held_long s.args.board s.args.furnace 400 (at (tested c)).is_furnace (search rules) (search rules) (same c)
 
 -- the ranks
-room : (c : tie.After-propagate) → 2 * (start (tested (chosen c))).args.t1.symbols ≤ length (replicate 400 none)
+room : (c : tie.After-propagate) → 2 * (start (tested (chosen c))).args.board.symbols ≤ length (replicate 400 none)
 room c = ranks_room _ _ (at (tested (chosen c))).good
 
 front : (c : tie.After-propagate) → let s = start (tested (chosen c)) in
-    RanksIn s.args.table.now s.args.t1 s.args.furnace
-    (c.propagate.new.ranks ++ drop (2 * s.args.t1.symbols) (replicate 400 none))
+    RanksIn s.args.table.now s.args.board s.args.furnace
+    (c.propagate.new.ranks ++ drop (2 * s.args.board.symbols) (replicate 400 none))
 front c = let h = chosen c in ranks_back _ _ (at (tested h)).good _ (same h) c.propagate.ensures.0
 
 -- the literal's rank
-rank : (c : tie.After-propagate) → let w = tested (chosen c) in let s = start w in let b = s.args.t1 in
-    get_or (c.propagate.new.ranks ++ drop (2 * b.symbols) (replicate 400 none)) w.p-1.given.0.0 0
-    ≡ rank_of (2 * b.symbols) (rows_on s.args.table.now b) (held_by b s.args.furnace) w.p-1.given.0.0
-rank c = let w = tested (chosen c) in rank_at _ _ _ (front c) w.p-1.given.0.0 (at w).low
+rank : (c : tie.After-propagate) → let w = tested (chosen c) in let s = start w in let b = s.args.board in
+    get_or (c.propagate.new.ranks ++ drop (2 * b.symbols) (replicate 400 none)) w.in-At.p 0
+    ≡ rank_of (2 * b.symbols) (rows_on s.args.table.now b) (held_by b s.args.furnace) w.in-At.p
+rank c = let w = tested (chosen c) in rank_at _ _ _ (front c) w.in-At.p (at w).low
 
 propagate_requires : tie.Need-propagate-requires
 propagate_requires c κs =
@@ -82,7 +82,7 @@ returns c =
     let r = unranked c in
     let w = tested (chosen r) in
     let p = at w in
-    let hides = hidden _ _ _ (small w) w.p-1.given.0.0 p.low (inl (sym (rank r) ∙ c.before.if-rank-eq0.true)) in
+    let hides = hidden _ _ _ (small w) w.in-At.p p.low (inl (sym (rank r) ∙ c.before.if-rank-eq0.true)) in
     rw (p.is_good_lem, p.is_furnace, p.in_range_lem, ← p.place, hides) c.unexplained-then-rank-eq0.ensures
 
 returns_2 : tie.Need-returns-then-rank
@@ -91,55 +91,55 @@ returns_2 c =
     let r = held c in
     let w = tested (chosen r) in
     let p = at w in
-    let hides = hidden _ _ _ (small w) w.p-1.given.0.0 p.low (inr (sym (rank r) ∙ c.before.if-rank.true)) in
+    let hides = hidden _ _ _ (small w) w.in-At.p p.low (inr (sym (rank r) ∙ c.before.if-rank.true)) in
     rw (p.is_good_lem, p.is_furnace, p.in_range_lem, ← p.place, hides) c.unexplained-then-rank.ensures
 
 returns_3 : tie.Need-returns-in-Refused
 unfolding explain_numbers explain_faults
 returns_3 c =
-    let w = c.before.before in
-    let s = w.before.before.before in
-    let own = drop 3 (explain_faults s.args.table.now s.args.t1 s.args.furnace s.args.l) in
-    rw (placed_refused _ _ _ s.ranges.l w.before.before.place_on.ensures w.why-1.given.1 own) c.unexplained.ensures
+    let w = c.before in
+    let s = w.before.before in
+    let own = drop 3 (explain_faults s.args.table.now s.args.board s.args.furnace s.args.l) in
+    rw (placed_refused _ _ _ s.ranges.l w.place_on.ensures w.in-Refused.is own) c.unexplained.ensures
 
 -- ---- where a rank from 1 on was found: the literal is derived and not held, so the call is done
 
 abbrev found : tie.Else-rank → tie.After-propagate
 found c = c.before.before.before.before
 
-shows : (c : tie.Else-rank) → let w = tested (chosen (found c)) in let s = start w in let b = s.args.t1 in let p = w.p-1.given.0.0 in
+shows : (c : tie.Else-rank) → let w = tested (chosen (found c)) in let s = start w in let b = s.args.board in let p = w.in-At.p in
     (not (has (derived_on s.args.table.now b s.args.furnace) p) || has (held_by b s.args.furnace) p) ≡ false
 shows c =
     let r = found c in
     let w = tested (chosen r) in
     let s = start w in
-    shown (2 * s.args.t1.symbols) (rows_on s.args.table.now s.args.t1) (held_by s.args.t1 s.args.furnace) (small w)
-    w.p-1.given.0.0 (at w).low (λ e. c.before.if-rank-eq0.false (rank r ∙ e)) (λ e. c.if-rank.false (rank r ∙ e))
+    shown (2 * s.args.board.symbols) (rows_on s.args.table.now s.args.board) (held_by s.args.board s.args.furnace) (small w)
+    w.in-At.p (at w).low (λ e. c.before.if-rank-eq0.false (rank r ∙ e)) (λ e. c.if-rank.false (rank r ∙ e))
 
 done : (c : tie.Else-rank) → let s = start (tested (chosen (found c))) in
-    (explain_numbers s.args.table.now s.args.t1 s.args.furnace s.args.l).outcome ≡ Done
+    (explain_numbers s.args.table.now s.args.board s.args.furnace s.args.l).outcome ≡ Done
 unfolding explain_numbers explain_faults
 done c = let p = at (tested (chosen (found c))) in rw (p.is_good_lem, p.is_furnace, p.in_range_lem, ← p.place, shows c)
 
 -- its supporting row is in use, and that row's rule is one of those counted
 support : (r : tie.After-propagate) → let w = tested (chosen r) in let s = start w in
-    get_or r.propagate.new.supports 0 0 ≡ support_on s.args.table.now s.args.t1 s.args.furnace w.p-1.given.0.0
+    get_or r.propagate.new.supports 0 0 ≡ support_on s.args.table.now s.args.board s.args.furnace w.in-At.p
 support r =
     let w = tested (chosen r) in
     let s = start w in
-    let b = s.args.t1 in
+    let b = s.args.board in
     let table = s.args.table.now in
-    one_support (2 * b.symbols) (rows_on table b) (held_by b s.args.furnace) w.p-1.given.0.0
-    (supports_are table b (replicate 400 none) (room r) s.args.furnace (same (chosen r)) 1 w.p-1.given.0.0 r.propagate.ensures.1)
+    one_support (2 * b.symbols) (rows_on table b) (held_by b s.args.furnace) w.in-At.p
+    (supports_are table b (replicate 400 none) (room r) s.args.furnace (same (chosen r)) 1 w.in-At.p r.propagate.ensures.1)
 
 used : (c : tie.Else-rank) → let r = found c in
-    get_or r.propagate.last.1.1.1.1.1.0 0 0 < (start (tested (chosen r))).args.t1.rows
+    get_or r.propagate.new.supports 0 0 < (start (tested (chosen r))).args.board.rows
 used c =
     let r = found c in
     let w = tested (chosen r) in
     let s = start w in
-    let is = support r ∙ ap (support_on s.args.table.now s.args.t1 s.args.furnace) (at w).place in
-    omega (arith, is, support_used s.args.table.now s.args.t1 s.args.furnace s.args.l (done c))
+    let is = support r ∙ ap (support_on s.args.table.now s.args.board s.args.furnace) (at w).place in
+    omega (arith, is, support_used s.args.table.now s.args.board s.args.furnace s.args.l (done c))
 
 cast_t39 : tie.Need-overflow_cast-result
 cast_t39 c =
@@ -147,7 +147,7 @@ cast_t39 c =
     let s = start (tested (chosen (found e))) in
     let g = (at (tested (chosen (found e)))).good in
     let row = get_or (found e).propagate.new.supports 0 0 in
-    omega (arith, c.rule_at.ensures, (rule_facts s.args.t1.rules s.args.table.now row (g.numbers row (used e))).1, g.few)
+    omega (arith, c.rule_at.ensures, (rule_facts s.args.board.rules s.args.table.now row (g.numbers row (used e))).1, g.few)
 
 returns_4 : tie.Need-returns-else-rank
 unfolding explain_numbers explain_faults
@@ -167,7 +167,7 @@ array_read_rank c = let p = at (tested (chosen c.before.before)) in omega (arith
 
 pub explain_numbers_spec : {M : Type 1} → statement M
 explain_numbers_spec = tie.close (tie.spec
-    (λ c κs. search rules) (λ c. search rules) (λ c κs. search rules) (λ c. search rules) (λ c. omega (arith, (at c.before).well-formed.sound.symbols))
+    (λ c κs. search rules) (λ c. search rules) (λ c κs. search rules) (λ c. search rules) (λ c. omega (arith, (at c).good.sound.symbols))
     (λ c κs. search rules) (λ c. ranks_room _ _ (at (tested c)).good) (λ c. sym (ranks_long _ _ (at (tested c.before)).good)) (λ c. search rules)
     propagate_requires mul_rank array_read_rank (λ c κs. search rules) returns (λ c κs. search rules) returns_2 (λ c. search rules)
     (λ c. search rules) (λ c. omega (arith, used c, (at (tested (chosen (found c)))).good.sound.rows))

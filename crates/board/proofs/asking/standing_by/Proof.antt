@@ -29,7 +29,7 @@ derived d = rw (to_z-of_z (start d).ranges.l) at d.is_ranked-derived.ensures
 opposed : (o : tie.After-is_ranked-opposed) → let s = start o.before.before in o.is_ranked-opposed.result ≡ has (known s) (opp (place_of s.args.l))
 opposed o =
     let s = start o.before.before in
-    o.is_ranked-opposed.ensures ∙ ap (has (known s)) (opposite_at s.ranges.l.fits (small s) o.before.opposite.ensures s.requires.0 refl)
+    o.is_ranked-opposed.ensures ∙ ap (has (known s)) (opposite_at s.ranges.l (small s) o.before.opposite.ensures s.requires.0 refl)
 
 -- there is a symbol whose two literals are derived exactly if there is a conflict
 any : (ranks : List ℕ) (n : ℕ) → length ranks < none → n ≡ first (clash_in ranks) (length ranks / 2) → not (eqb n none) ≡ conflict (below none ranks)
@@ -45,7 +45,7 @@ same e f g = rw (e, f, g)
 is_ranked_requires_2 : tie.Need-is_ranked-opposed-requires
 is_ranked_requires_2 c κs =
     let s = start c.before in
-    let same = opposite_abs s.ranges.l.fits (small s) c.opposite.ensures in
+    let same = opposite_abs s.ranges.l (small s) c.opposite.ensures in
     (omega (arith, same), omega (arith, same), omega arith)
 
 returns : tie.Need-returns
@@ -56,11 +56,11 @@ returns c =
     let s = start d in
     c.standing_if.ensures
     ∙ ⊎_elim
-    (λ t. rw t.0.true (same (t.2 ∙ any s.args.ranks.now _ (omega arith) t.1.ensures) (derived d) (opposed o)))
-    (λ e. rw e.0.false (same (e.1 ∙ ap₂ ◌&&◌ (derived d) (opposed o)) (derived d) (opposed o)))
-    j.if-whole.branch
+    (λ t. rw t.if-whole.true (same (t.clash-is ∙ any s.args.ranks.now _ (omega arith) t.first_clash.ensures) (derived d) (opposed o)))
+    (λ e. rw e.if-whole.false (same (e.clash-is ∙ ap₂ ◌&&◌ (derived d) (opposed o)) (derived d) (opposed o)))
+    j.if-whole.branch-raw
 
 pub standing_by_spec : {M : Type 1} → statement M
 standing_by_spec = tie.close (tie.spec
-    (λ c κs. search rules) (λ c κs. let s = start c in omega (arith, small s, back_abs s.ranges.l.fits)) is_ranked_requires_2 (λ c κs. search rules)
+    (λ c κs. search rules) (λ c κs. let s = start c in omega (arith, small s, back_abs s.ranges.l)) is_ranked_requires_2 (λ c κs. search rules)
     (λ c. search rules) (λ c κs. search rules) returns)

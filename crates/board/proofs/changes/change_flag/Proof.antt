@@ -8,29 +8,29 @@ use Rattle.board.proofs.changes.change_flag.Statement.{statement}
 use Rattle.board.proofs.changes.change_flag.Tie as tie
 
 -- where the tests have passed, and where the call began
-abbrev tested : tie.After-premises-held → tie.In-At-2
-tested c = c.before.before.before.before.before.before.before
+abbrev tested : tie.After-premises-held → tie.In-At
+tested c = c.before.before.before.before.before
 
-abbrev start : tie.In-At-2 → tie.Start
-start c = c.before.before.before
+abbrev start : tie.In-At → tie.Start
+start c = c.before.before
 
 -- the place that the call looks at
-at : (c : tie.In-At-2) → let s = start c in
-    PlacedAt s.args.table.now s.args.t1 s.args.furnace s.args.l c.p-1.given.0.0
-at c = let s = start c in placed_at _ _ _ s.ranges.l.fits c.before.before.place_on.ensures c.p-1.given.1
+at : (c : tie.In-At) → let s = start c in
+    PlacedAt s.args.table.now s.args.board s.args.furnace s.args.l c.in-At.p
+at c = let s = start c in placed_at _ _ _ s.ranges.l c.place_on.ensures c.in-At.is
 
-low : (c : tie.In-At-2) → c.p-1.given.0.0 < 400
+low : (c : tie.In-At) → c.in-At.p < 400
 low c = let p = at c in omega (arith, p.low, p.good.sound.symbols)
 
 -- the premises are the furnace's
-same : (c : tie.After-premises-held) → let s = start (tested c) in c.premises-held.result.now ≡ held_by s.args.t1 s.args.furnace
+same : (c : tie.After-premises-held) → let s = start (tested c) in c.premises-held.result.now ≡ held_by s.args.board s.args.furnace
 unfolding held_by
 same c = c.premises-held.ensures
 
 long : (c : tie.After-premises-held) → 400 ≡ length c.premises-held.result.now
 long c =
     let s = start (tested c) in
-    held_long s.args.t1 s.args.furnace 400 (at (tested c)).is_furnace (search rules) (search rules) (same c)
+    held_long s.args.board s.args.furnace 400 (at (tested c)).is_furnace (search rules) (search rules) (same c)
 
 returns : tie.Need-returns-then-held-p
 unfolding flag_changed flag_faults
@@ -43,10 +43,10 @@ returns c =
 returns_2 : tie.Need-returns-in-Refused
 unfolding flag_changed flag_faults
 returns_2 c =
-    let w = c.before.before in
-    let s = w.before.before.before in
-    let own = drop 3 (flag_faults s.args.table.now s.args.t1 s.args.furnace s.args.l s.args.flag s.args.already) in
-    rw (placed_refused _ _ _ s.ranges.l w.before.before.place_on.ensures w.why-1.given.1 own) c.refused.ensures
+    let w = c.before in
+    let s = w.before.before in
+    let own = drop 3 (flag_faults s.args.table.now s.args.board s.args.furnace s.args.l s.args.flag s.args.already) in
+    rw (placed_refused _ _ _ s.ranges.l w.place_on.ensures w.in-Refused.is own) c.refused.ensures
 
 returns_3 : tie.Need-returns-else-held-p
 unfolding flag_changed flag_faults

@@ -4,7 +4,7 @@ use Rattle.board.proofs.furnaces.premises.Statement.{statement}
 use Rattle.board.proofs.furnaces.premises.Tie as tie
 
 returns_3 : tie.Need-returns
-returns_3 c = let e = c.before in rw (ne_eqb _ _ e.before.if-furnace-eq1.false, ne_eqb _ _ e.if-furnace-eq2.false)
+returns_3 c = rw (ne_eqb _ _ c.if-furnace-eq1.false, ne_eqb _ _ c.if-furnace-eq2.false)
 
 pub premises_spec : {M : Type 1} → statement M
 premises_spec = tie.close (tie.spec

@@ -19,69 +19,69 @@ use Rattle.board.proofs.grounds.ground.Tie as tie
 abbrev reached : tie.After-reached-in-At-2-1 → tie.After-trace
 reached c = c.before.before.before.before
 
-abbrev entry : tie.In-Refused-2 → tie.Start
-entry c = c.before.before.before.before
+abbrev entry : tie.In-Refused → tie.Start
+entry c = c.before.before.before
 
 -- where the premises are chosen, where the tests of the literal have passed, and where the call began
 abbrev chosen : tie.After-trace → tie.After-premises-held
 chosen c = c.before.before.before
 
 abbrev enough_lent : tie.After-premises-held → tie.Else-marks-places
-enough_lent c = c.before.before.before.before.before.before
+enough_lent c = c.before.before.before.before.before
 
-abbrev placed : tie.After-premises-held → tie.In-At-2
-placed c = (enough_lent c).before.before
+abbrev placed : tie.After-premises-held → tie.In-At
+placed c = (enough_lent c).before
 
-abbrev tested : tie.After-trace → tie.In-At-2
+abbrev tested : tie.After-trace → tie.In-At
 tested c = placed (chosen c)
 
-abbrev start : tie.In-At-2 → tie.Start
-start c = c.before.before.before.before
+abbrev start : tie.In-At → tie.Start
+start c = c.before.before.before
 
 -- the place that the call looks at
-at : (c : tie.In-At-2) → let s = start c in PlacedAt s.args.table.now s.args.t1 s.args.furnace s.args.l c.p-1.given.0.0
-at c = let s = start c in placed_at _ _ _ s.ranges.l.fits c.before.before.place_on.ensures c.p-1.given.1
+at : (c : tie.In-At) → let s = start c in PlacedAt s.args.table.now s.args.board s.args.furnace s.args.l c.in-At.p
+at c = let s = start c in placed_at _ _ _ s.ranges.l c.place_on.ensures c.in-At.is
 
-small : (c : tie.In-At-2) → 2 * (start c).args.t1.symbols < none
-small c = omega (arith, (at c).well-formed.sound.symbols)
+small : (c : tie.In-At) → 2 * (start c).args.board.symbols < none
+small c = omega (arith, (at c).good.sound.symbols)
 
 -- as many bytes are lent as there are places
-enough : (c : tie.After-trace) → let s = start (tested c) in 2 * s.args.t1.symbols ≤ length s.args.marks-1.now
+enough : (c : tie.After-trace) → let s = start (tested c) in 2 * s.args.board.symbols ≤ length s.args.marks.now
 enough c = (enough_lent (chosen c)).if-marks-places.false
 
 -- the premises are the furnace's
-same : (c : tie.After-premises-held) → let s = start (placed c) in c.premises-held.result.now ≡ held_by s.args.t1 s.args.furnace
+same : (c : tie.After-premises-held) → let s = start (placed c) in c.premises-held.result.now ≡ held_by s.args.board s.args.furnace
 unfolding held_by
 same c = c.premises-held.ensures
 
 long : (c : tie.After-premises-held) → 400 ≡ length c.premises-held.result.now
 long c =
     let s = start (placed c) in
-    held_long s.args.t1 s.args.furnace 400 (at (placed c)).is_furnace (search rules) (search rules) (same c)
+    held_long s.args.board s.args.furnace 400 (at (placed c)).is_furnace (search rules) (search rules) (same c)
 
 -- the ranks and the marks as they come back
-back : (c : tie.After-trace) → let w = tested c in let s = start w in let n = 2 * s.args.t1.symbols in
-    Traced s.args.table.now s.args.t1 s.args.furnace w.p-1.given.0.0
+back : (c : tie.After-trace) → let w = tested c in let s = start w in let n = 2 * s.args.board.symbols in
+    Traced s.args.table.now s.args.board s.args.furnace w.in-At.p
     (c.trace.new.ranks ++ drop n (replicate 400 none))
     (c.trace.new.marks ++ drop n (replicate 400 false))
 back c =
     let w = tested c in
     let s = start w in
     let told = c.trace.ensures in
-    come_back s.args.table.now s.args.t1 (at w).good s.args.furnace w.p-1.given.0.0
+    come_back s.args.table.now s.args.board (at w).good s.args.furnace w.in-At.p
     (same (chosen c)) told.0 told.1
     c.trace.auto.marks
 
 -- the literal's rank
-rank : (c : tie.After-trace) → let w = tested c in let s = start w in let b = s.args.t1 in
-    get_or (c.trace.new.ranks ++ drop (2 * b.symbols) (replicate 400 none)) w.p-1.given.0.0 0
-    ≡ rank_of (2 * b.symbols) (rows_on s.args.table.now b) (held_by b s.args.furnace) w.p-1.given.0.0
-rank c = let w = tested c in rank_at _ _ _ (back c).ranks-1 w.p-1.given.0.0 (at w).low
+rank : (c : tie.After-trace) → let w = tested c in let s = start w in let b = s.args.board in
+    get_or (c.trace.new.ranks ++ drop (2 * b.symbols) (replicate 400 none)) w.in-At.p 0
+    ≡ rank_of (2 * b.symbols) (rows_on s.args.table.now b) (held_by b s.args.furnace) w.in-At.p
+rank c = let w = tested c in rank_at _ _ _ (back c).ranks w.in-At.p (at w).low
 
 returns : tie.Need-returns-then-marks-places
 unfolding ground_outcome ground_faults
 returns c =
-    let p = at c.before.before in
+    let p = at c.before in
     ground_refused _ _ _ _ _ TableTooShort (rw (p.is_good_lem, p.is_furnace, p.in_range_lem, lt-leb _ _ c.if-marks-places.true))
 
 trace_requires : tie.Need-trace-requires
@@ -93,17 +93,16 @@ returns_2 c =
     let r = c.before.before.before in
     let w = tested r in
     let p = at w in
-    let hides = not_derived _ _ _ (small w) w.p-1.given.0.0 (sym (rank r) ∙ c.if-ranks-p.true) in
+    let hides = not_derived _ _ _ (small w) w.in-At.p (sym (rank r) ∙ c.if-ranks-p.true) in
     ground_refused _ _ _ _ _ NothingToShow
     (rw (p.is_good_lem, p.is_furnace, p.in_range_lem, le-leb _ _ (enough r), ← p.place, hides))
 
 returns_3 : tie.Need-returns-in-Refused
 unfolding ground_outcome ground_faults
 returns_3 c =
-    let w = c.before in
-    let s = entry w in
-    let own = drop 3 (ground_faults s.args.table.now s.args.t1 s.args.furnace s.args.l _) in
-    ground_refused _ _ _ _ _ _ (placed_refused _ _ _ s.ranges.l.fits w.before.before.place_on.ensures w.why-1.given.1 own)
+    let s = entry c in
+    let own = drop 3 (ground_faults s.args.table.now s.args.board s.args.furnace s.args.l _) in
+    ground_refused _ _ _ _ _ _ (placed_refused _ _ _ s.ranges.l c.place_on.ensures c.in-Refused.is own)
 
 returns_4 : tie.Need-returns-else-ranks-p
 unfolding ground_outcome ground_faults
@@ -114,10 +113,10 @@ returns_4 c =
     let w = tested r in
     let p = at w in
     let s = start w in
-    let shows = is_derived _ _ _ (small w) w.p-1.given.0.0 (λ e. z.if-ranks-p.false (rank r ∙ e)) in
-    ground_done s.args.table.now s.args.t1 s.args.furnace s.args.marks-1.now s.args.l w.p-1.given.0.0 p.place p.low
+    let shows = is_derived _ _ _ (small w) w.in-At.p (λ e. z.if-ranks-p.false (rank r ∙ e)) in
+    ground_done s.args.table.now s.args.board s.args.furnace s.args.marks.now s.args.l w.in-At.p p.place p.low
     (rw (p.is_good_lem, p.is_furnace, p.in_range_lem, le-leb _ _ (enough r), ← p.place, shows))
-    (back r).marks-1.is
+    (back r).marks.is
     m.write_marks.ensures
 
 mul_if2 : tie.Need-offset_bounds-ranks-p
@@ -128,8 +127,8 @@ array_read_if2 c = let p = at (tested c.before.before) in omega (arith, p.low, p
 
 pub ground_spec : {M : Type 1} → statement M
 ground_spec = tie.close (tie.spec
-    (λ c κs. search rules) (λ c. search rules) (λ c. search rules) (λ c. omega (arith, (at c.before).well-formed.sound.symbols)) returns
+    (λ c κs. search rules) (λ c. search rules) (λ c. search rules) (λ c. omega (arith, (at c).good.sound.symbols)) returns
     (λ c κs. search rules) (λ c. ranks_room _ _ (at (placed c)).good) (λ c. sym (ranks_long _ _ (at (placed c.before)).good))
     (λ c. marks_room _ _ (at (placed c.before)).good) (λ c. sym (marks_long _ _ (at (placed c.before.before)).good)) trace_requires mul_if2
-    array_read_if2 returns_2 (λ c. (back c.before.before.before).marks-1.room) (λ c. sym (back (reached c)).marks-1.long)
-    (λ c κs. let r = reached c.before in omega (arith, (back r).marks-1.long, enough r)) returns_3 (λ c. search rules) returns_4)
+    array_read_if2 returns_2 (λ c. (back c.before.before.before).marks.room) (λ c. sym (back (reached c)).marks.long)
+    (λ c κs. let r = reached c.before in omega (arith, (back r).marks.long, enough r)) returns_3 (λ c. search rules) returns_4)

@@ -20,7 +20,7 @@ byte : (c : tie.Joined-reached-k invariant_loop decreases_loop) → let l = c.be
     c.if-reached-k.byte ≡ get_or (map byte_of l.before.args.reached.now) l.loop-k.k 0
 byte c =
     let l = c.before.before.before in
-    ⊎_elim (λ w. w.1 ∙ ap byte_of (sym w.0.true)) (λ w. w.1 ∙ ap byte_of (sym w.0.false)) c.if-reached-k.branch
+    ⊎_elim (λ w. w.byte-is ∙ ap byte_of (sym w.if-reached-k.true)) (λ w. w.byte-is ∙ ap byte_of (sym w.if-reached-k.false)) c.if-reached-k.branch-raw
     ∙ sym (list_get_or_map byte_of l.before.args.reached.now l.loop-k.k false)
 
 loop_again : tie.Need-loop-k-preserved invariant_loop decreases_loop

@@ -20,7 +20,7 @@ abbrev start : tie.Else-not-names → tie.Start
 start c = c.before.before.before.before
 
 abbrev written : tie.After-struct_known-in-Rows-1 → tie.After-append
-written c = c.before.before.before.before.before
+written c = c.before.before.before
 
 abbrev counted_few : tie.After-append → tie.Else-not-names
 counted_few c = c.before.before.before.before
@@ -28,7 +28,7 @@ counted_few c = c.before.before.before.before
 abbrev entry : tie.After-append → tie.Start
 entry c = start (counted_few c)
 
-good : (s : tie.Start) → Good s.args.table-1.now s.args.board
+good : (s : tie.Start) → Good s.args.table.now s.args.board
 good s = good_is _ _ s.requires.0
 
 -- what the bytes say, and its rule
@@ -55,17 +55,17 @@ unfolding rule
 few c = (list c).few
 
 told : (c : tie.After-append) → let s = entry c in
-    answer_of (rule s) s.args.board.rows s.args.board.rules (rows_lent s.args.table-1.now) ≡ c.append.result
+    answer_of (rule s) s.args.board.rows s.args.board.rules (rows_lent s.args.table.now) ≡ c.append.result
 unfolding rule read
 told c = sym c.append.ensures.0
 
 -- so it is known why
 why : (c : tie.After-append) {answer : Appended} → c.append.result ≡ answer → let s = entry c in
-    Because (rule s) s.args.board.rows s.args.board.rules (rows_lent s.args.table-1.now) answer
+    Because (rule s) s.args.board.rows s.args.board.rules (rows_lent s.args.table.now) answer
 why c e = because _ _ _ _ (told c ∙ e)
 
 after : (c : tie.After-append) → let s = entry c in
-    c.append.new.table ≡ table_of (rule s) s.args.board.rows s.args.board.rules (rows_lent s.args.table-1.now) s.args.table-1.now
+    c.append.new.table ≡ table_of (rule s) s.args.board.rows s.args.board.rules (rows_lent s.args.table.now) s.args.table.now
 unfolding rule read
 after c = c.append.ensures.1
 
@@ -80,7 +80,7 @@ returns c =
     let n = c.before.before.before in
     let s = n.before.before in
     let many = too_many_lem s.args.board.symbols (read s) s.requires.1 (names n) (not-true _ c.before.if-not-names.true) in
-    let all = rule_refused s.args.table-1.now s.args.board s.args.bytes.now TooManySymbols (rw (s.requires.0, s.requires.1, many)) refl in
+    let all = rule_refused s.args.table.now s.args.board s.args.bytes.now TooManySymbols (rw (s.requires.0, s.requires.1, many)) refl in
     (c.refused.ensures ∙ all.0, all.1)
 
 append_requires : tie.Need-append-requires
@@ -95,19 +95,19 @@ add_next : tie.Need-overflow_add-next
 add_next c =
     let a = written c in
     let s = entry a in
-    let r = why a c.before.before.added-1.given.1 in
-    omega (arith, r.2, (fits_facts s.args.board.rows s.args.board.rules (rows_lent s.args.table-1.now) (rows_of (rule s)) r.1).0)
+    let r = why a c.in-Rows.is in
+    omega (arith, r.2, (fits_facts s.args.board.rows s.args.board.rules (rows_lent s.args.table.now) (rows_of (rule s)) r.1).0)
 
 returns_2 : tie.Need-returns-in-Unsatisfiable
 unfolding rule_faults read rule
 returns_2 c =
     let t = c.before in
-    let a = t.before.before.before in
+    let a = t.before.before in
     let e = counted_few a in
     let s = start e in
     let b = s.args.board in
-    let table = s.args.table-1.now in
-    let r = why a t.enum_told-1.given.1 in
+    let table = s.args.table.now in
+    let r = why a t.in-Unsatisfiable.is in
     let all = rule_refused table b s.args.bytes.now NoAssignment (rw (s.requires.0, s.requires.1, few e, r)) refl in
     (c.refused-in-Unsatisfiable.ensures ∙ all.0, after a ∙ sym (told_unsatisfiable (rule s) b.rows b.rules (rows_lent table) table r).1 ∙ all.1)
 
@@ -115,25 +115,25 @@ returns_3 : tie.Need-returns-in-Full
 unfolding rule_faults read rule
 returns_3 c =
     let t = c.before in
-    let a = t.before.before.before in
+    let a = t.before.before in
     let e = counted_few a in
     let s = start e in
     let b = s.args.board in
-    let table = s.args.table-1.now in
-    let r = why a t.enum_told-in-Full-1.given.1 in
+    let table = s.args.table.now in
+    let r = why a t.in-Full.is in
     let all = rule_refused table b s.args.bytes.now TableFull (rw (s.requires.0, s.requires.1, few e, r.0, r.1)) refl in
     (c.refused-in-Full.ensures ∙ all.0, after a ∙ sym (told_full (rule s) b.rows b.rules (rows_lent table) table r.0 r.1).1 ∙ all.1)
 
 returns_4 : tie.Need-returns-in-Rows
 unfolding rule_faults read rule
 returns_4 c =
-    let t = c.before.before.before in
-    let a = t.before.before.before in
+    let t = c.before.before in
+    let a = t.before.before in
     let e = counted_few a in
     let s = start e in
     let b = s.args.board in
-    let table = s.args.table-1.now in
-    let r = why a t.added-1.given.1 in
+    let table = s.args.table.now in
+    let r = why a t.in-Rows.is in
     let all = rule_done table b s.args.bytes.now (rw (s.requires.0, s.requires.1, few e, r.0, r.1)) in
     (rw r.2 all.0, after a ∙ sym (told_rows (rule s) b.rows b.rules (rows_lent table) table r.0 r.1).1 ∙ all.1)
 

@@ -11,42 +11,42 @@ use Rattle.board.proofs.rules.add_rule.Statement.{statement}
 use Rattle.board.proofs.rules.add_rule.Tie as tie
 
 abbrev start : tie.Else-not-good → tie.Start
-start c = c.before.before.before.before
+start c = c.before.before.before
 
 abbrev entry : tie.After-read_whole → tie.Start
-entry c = c.before.before.before.before.before
+entry c = c.before.before.before.before
 
 -- the board is good
-good : (c : tie.Else-not-good) → let s = start c in good_board s.args.table-1.now s.args.board ≡ true
-good c = sym c.before.good2.ensures ∙ not-false _ c.if-not-good.false-raw
+good : (c : tie.Else-not-good) → let s = start c in good_board s.args.table.now s.args.board ≡ true
+good c = sym c.before.good.ensures ∙ not-false _ c.if-not-good.false-raw
 
 returns : tie.Need-returns-then-not-good
 unfolding rule_faults
 returns c =
     let g = c.before.before in
-    let s = g.before.before.before in
-    let spoilt = sym g.good2.ensures ∙ not-true _ c.before.if-not-good.true-raw in
-    let all = rule_refused s.args.table-1.now s.args.board s.args.bytes.now BadBoard (rw spoilt) refl in
+    let s = g.before.before in
+    let spoilt = sym g.good.ensures ∙ not-true _ c.before.if-not-good.true-raw in
+    let all = rule_refused s.args.table.now s.args.board s.args.bytes.now BadBoard (rw spoilt) refl in
     (c.refused.ensures ∙ all.0, all.1)
 
 add_formula_requires : tie.Need-add_formula-requires
 add_formula_requires c κs =
     let t = c.before in
-    let r = t.before.before in
+    let r = t.before in
     let s = entry r in
-    let read = answer_good (whole_of s.args.board.symbols s.args.bytes.now) (sym r.read_whole.ensures ∙ t.enum_told-1.given.1) in
+    let read = answer_good (whole_of s.args.board.symbols s.args.bytes.now) (sym r.read_whole.ensures ∙ t.in-Used.is) in
     (good r.before, ap is_good read.1)
 
 returns_2 : tie.Need-returns-in-Refused
 unfolding rule_faults
 returns_2 c =
-    let w = c.before.before in
-    let r = w.before.before in
+    let w = c.before in
+    let r = w.before in
     let s = entry r in
     let b = s.args.board in
     let bytes = s.args.bytes.now in
-    let read = answer_bad (whole_of b.symbols bytes) (sym r.read_whole.ensures ∙ w.why-1.given.1) in
-    let all = rule_refused s.args.table-1.now b bytes w.why-1.given.0.0 (rw (good r.before, read)) (place_told_lem b.symbols bytes read) in
+    let read = answer_bad (whole_of b.symbols bytes) (sym r.read_whole.ensures ∙ w.in-Refused.is) in
+    let all = rule_refused s.args.table.now b bytes w.in-Refused.why (rw (good r.before, read)) (place_told_lem b.symbols bytes read) in
     (c.refused-in-Refused.ensures ∙ all.0, all.1)
 
 pub add_rule_spec : {M : Type 1} → statement M

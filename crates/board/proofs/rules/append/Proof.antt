@@ -9,7 +9,7 @@ use Rattle.board.proofs.rules.append.Tie as tie
 
 -- the truth table is filled; the call began
 abbrev told : tie.After-append_rule-arg-1 → tie.After-fill_truth
-told c = c.before.before.before.before
+told c = c.before.before.before
 
 abbrev start : tie.After-fill_truth → tie.Start
 start c = c.before.before.before.before
@@ -51,14 +51,14 @@ fill_truth_requires c κs =
 array_share_prefix_truth : tie.Need-slice_bounds-truth-end-2
 array_share_prefix_truth c =
     let f = told c in
-    omega (arith, long f, length-append f.fill_truth.last.1.1.1.0 (drop (values f.before.before) (replicate 256 false)))
+    omega (arith, long f, length-append f.fill_truth.new.table (drop (values f.before.before) (replicate 256 false)))
 
 append_rule_requires : tie.Need-append_rule-requires
 append_rule_requires c κs =
     let l = c.before.before in
-    let f = l.before.before.before in
+    let f = l.before.before in
     let s = start f in
-    let lent : l.rows_lent-lent.result ≡ rows_lent s.args.table-1.now = l.rows_lent-lent.ensures in (
+    let lent : l.rows_lent-lent.result ≡ rows_lent s.args.table.now = l.rows_lent-lent.ensures in (
       (s.requires.1.0, rw s.requires.1.1 (symbols_positive s.args.symbols _), ap length (front f) ∙ long f ∙ values_is f.before.before),
       (omega (arith, lent, s.requires.0.2), omega (arith, lent), omega (arith, lent), s.requires.0.1),
     )
@@ -67,7 +67,7 @@ returns : tie.Need-returns
 returns c =
     let a = c.before in
     let l = a.before.before.before in
-    let f = l.before.before.before in
+    let f = l.before.before in
     let s = start f in
     let S = s.args.symbols in
     let bytes = s.args.bytes.now in
@@ -77,7 +77,7 @@ returns c =
     let lent = l.rows_lent-lent.ensures in
     let e = a.append_rule.ensures in (
       answer_is S bytes names truth s.requires.0.3 s.requires.1.1 filled s.args.rows s.args.rules lent e.0,
-      append_is S bytes names truth s.requires.0.3 s.requires.1.1 filled s.args.rows s.args.rules s.args.table-1.now lent e.1,
+      append_is S bytes names truth s.requires.0.3 s.requires.1.1 filled s.args.rows s.args.rules s.args.table.now lent e.1,
     )
 
 pub append_spec : {M : Type 1} → statement M

@@ -8,17 +8,17 @@ use Rattle.board.proofs.testing.good.Tie as tie
 
 -- the flags of one furnace are tested, and of both
 abbrev one_set : tie.After-held_beyond → tie.Else-not-rows_sound
-one_set c = c.before.before.before.before
+one_set c = c.before.before.before
 
 abbrev two_sets : tie.After-held_beyond-2 → tie.Else-held_beyond
-two_sets c = c.before.before.before.before
+two_sets c = c.before.before.before
 
 -- the count of rules has passed
 abbrev counted : tie.Else-rows_lent-board → tie.Else-board-gt-MOST_RULES
 counted c = c.before.before
 
 -- the rows in use are lent
-lent : (c : tie.Else-rows_lent-board) → let s = (counted c).before.before.before in s.args.t1.rows ≤ rows_lent s.args.table.now
+lent : (c : tie.Else-rows_lent-board) → let s = (counted c).before.before.before in s.args.board.rows ≤ rows_lent s.args.table.now
 lent c = omega (arith, c.if-rows_lent-board.false, c.before.rows_lent.ensures)
 
 returns_3 : tie.Need-returns-then-board-gt-MOST_RULES
@@ -31,7 +31,7 @@ returns_4 c =
     sym (no_rows _ _ i.before.if-board-lt1.false i.if-board-gt200.false w.before.if-board-gt-MOST_RULES.false (omega (arith, c.if-rows_lent-board.true, w.rows_lent.ensures)))
 
 -- the rows and the premises decide
-rows_decide : (c : tie.After-rows_sound) → let s = (counted c.before).before.before.before in let b = s.args.t1 in
+rows_decide : (c : tie.After-rows_sound) → let s = (counted c.before).before.before.before in let b = s.args.board in
     good_board s.args.table.now b ≡ (c.rows_sound.result && premises_fit b)
 rows_decide c =
     let i = (counted c.before).before in
@@ -39,15 +39,15 @@ rows_decide c =
 
 returns_5 : tie.Need-returns-then-not-rows_sound
 returns_5 c =
-    let b = (counted c.before.before).before.before.before.args.t1 in
+    let b = (counted c.before.before).before.before.before.args.board in
     sym (rows_decide c.before ∙ ap (λ (sound : Bool). sound && premises_fit b) (not-true c.before.rows_sound.result c.if-not-rows_sound.true-raw))
 
 -- the premises decide
-flags : (c : tie.Else-not-rows_sound) → let s = (counted c.before.before).before.before.before in let b = s.args.t1 in
+flags : (c : tie.Else-not-rows_sound) → let s = (counted c.before.before).before.before.before in let b = s.args.board in
     good_board s.args.table.now b ≡ not (flag_from b.first (2 * b.symbols)) && not (flag_from b.second (2 * b.symbols))
 unfolding premises_fit
 flags c =
-    let b = (counted c.before.before).before.before.before.args.t1 in
+    let b = (counted c.before.before).before.before.before.args.board in
     rows_decide c.before ∙ ap (λ (sound : Bool). sound && premises_fit b) (not-false c.before.rows_sound.result c.if-not-rows_sound.false-raw)
 
 returns_6 : tie.Need-returns-then-held_beyond

@@ -19,7 +19,7 @@ abbrev start : tie.Else-not-is_furnace → tie.Start
 start c = c.before.before.before.before
 
 good : (c : tie.Else-not-good) → good_board c.before.before.args.table.now c.before.before.args.board ≡ true
-good c = sym c.before.good2.ensures ∙ not-false _ c.if-not-good.false-raw
+good c = sym c.before.good.ensures ∙ not-false _ c.if-not-good.false-raw
 
 furnace : (c : tie.Else-not-is_furnace) → is_furnace (start c).args.furnace ≡ true
 furnace c = sym c.before.is_furnace.ensures ∙ not-false _ c.if-not-is_furnace.false-raw
@@ -29,7 +29,7 @@ in_range_lem c = range_is (start (known c)).ranges.l _ _ c.before.in_range.ensur
 
 returns : tie.Need-returns-then-not-good
 unfolding placed
-returns c = rw (sym c.before.good2.ensures ∙ not-true _ c.if-not-good.true-raw)
+returns c = rw (sym c.before.good.ensures ∙ not-true _ c.if-not-good.true-raw)
 
 returns_2 : tie.Need-returns-then-not-is_furnace
 unfolding placed
@@ -41,20 +41,20 @@ returns_3 c =
     let i = c.before in
     let e = i.before in
     let s = start e in
-    rw (good e.before.before, furnace e, range_is s.ranges.l.fits _ _ i.in_range.ensures ∙ not-true _ c.if-not-in_range.true-raw)
+    rw (good e.before.before, furnace e, range_is s.ranges.l _ _ i.in_range.ensures ∙ not-true _ c.if-not-in_range.true-raw)
 
 place_requires : tie.Need-place-requires
 place_requires c κs =
     let s = start (known c) in
     let r = range_facts s.args.board.symbols s.args.l (in_range_lem c) in
     let g = good_is _ _ (good (known c).before.before) in
-    omega (arith, r.0, r.1, back_abs s.ranges.l.fits, g.sound.symbols)
+    omega (arith, r.0, r.1, back_abs s.ranges.l, g.sound.symbols)
 
 returns_4 : tie.Need-returns
 unfolding placed
 returns_4 c =
     let e = known c.before in
-    rw (good e.before.before, furnace e, in_range_lem c.before) (ap placing.At (place_is (start e).ranges.l.fits _ c.place.ensures))
+    rw (good e.before.before, furnace e, in_range_lem c.before) (ap placing.At (place_is (start e).ranges.l _ c.place.ensures))
 
 pub place_on_spec : {M : Type 1} → statement M
 place_on_spec = tie.close (tie.spec
