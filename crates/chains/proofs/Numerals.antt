@@ -21,10 +21,10 @@ pub close_stops : (rest : List ℕ) → Stops (41 ∷ rest)
 close_stops rest = record { digit = refl; space = refl }
 
 pub mark_stops : (join : Join) (rest : List ℕ) → Stops (mark_of join ∷ rest)
-mark_stops join rest = record {
-  digit = elim join [ And ↦ refl | Or ↦ refl | Implies ↦ refl | Same ↦ refl ];
-  space = elim join [ And ↦ refl | Or ↦ refl | Implies ↦ refl | Same ↦ refl ];
-}
+mark_stops And rest = record { digit = refl; space = refl }
+mark_stops Or rest = record { digit = refl; space = refl }
+mark_stops Implies rest = record { digit = refl; space = refl }
+mark_stops Same rest = record { digit = refl; space = refl }
 
 pub lead_space : (rest : List ℕ) → Stops rest → lead Blank rest ≡ 0
 unfolding lead

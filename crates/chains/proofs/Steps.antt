@@ -114,7 +114,7 @@ pub front : {s : State} {text : List ℕ} {at : ℕ} (n : ℕ) → n ≤ at → 
 front {s} zero h m = finish s
 front (suc n) h cut = absurd (omega arith)
 front (suc n) h (byte e) = absurd (omega arith)
-front (suc n) h (later e m) = let r = front n (omega arith) m in (r.0, goes_on_lem e r.1)
+front (suc n) h (later {t = t} e m) = let r = front {s = t} n (omega arith) m in (r.0, goes_on_lem e r.1)
 
 -- and with its byte it is met again, whatever follows
 pub again : {s : State} {text : List ℕ} {at : ℕ} (n : ℕ) (more : List ℕ) → at < n → n ≤ length text → Met s text at

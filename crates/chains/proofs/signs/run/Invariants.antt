@@ -1,0 +1,10 @@
+-- The loop of `signs::run`: the bytes before n are all of the class, and the measure is how many are left.
+use Rattle.meaning.proofs.Kit.{◌≡◌, ◌≤◌, ◌-◌, ◌+◌, length, drop}
+use Rattle.chains.specs.Form.{lead}
+use Rattle.chains.proofs.signs.run.Given as goal
+
+abbrev pub invariant-loop-n : goal.invariant-loop-n
+invariant-loop-n l = (l.n ≤ length l.text) × (lead l.class l.text ≡ l.n + lead l.class (drop l.n l.text))
+
+abbrev pub decreases-loop-n : goal.decreases-loop-n
+decreases-loop-n l = length l.text - l.n
