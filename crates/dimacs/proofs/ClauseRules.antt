@@ -115,7 +115,7 @@ module _ (S : ℕ) (first : ℤ) (others : List ℤ) (range : all (in_range S) (
       both h =
           let w = both_true (among (place s true)) (among (place s false)) h in
           let r = in_of_map place_of c (member_in (place s true) (map place_of c) w.0) in
-          clash (any_at (λ (l : ℤ). among (opp (place_of l))) r.1 (rw (r.2, opp_place s true) w.1)) free
+          clash (any_at (λ (l : ℤ). among (opp (place_of l))) r.1 (ap among (ap opp r.2 ∙ opp_place s true) ∙ w.1)) free
 
   row_placed : has_opposite c ≡ false → row_of symbols (against values) ≡ places_in S c
   row_placed free =
