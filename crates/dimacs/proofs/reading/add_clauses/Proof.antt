@@ -63,7 +63,7 @@ done_requires c κs =
     let t = c.before.before.before in
     let f = t.before in
     let s = start f in
-    (omega (arith, (found f).ranges (nothing t) (fine s).lent), (found f).few (nothing t) (fine s).few)
+    (omega (arith, (found f).fits (nothing t) (fine s).lent), (found f).few (nothing t) (fine s).few)
 
 returns : tie.Need-returns-in-Refused
 returns c =
