@@ -1,5 +1,5 @@
 -- `writing::put_counts` meets its contract: one piece after another.
-use Rattle.meaning.proofs.Kit.{◌≡◌, ◌∙◌, [], ◌∷◌, ◌++◌, ◌≤◌, ◌+◌, arith, length, length-set, rules}
+use Rattle.meaning.proofs.Kit.{◌≡◌, ◌∙◌, [], ◌∷◌, ◌++◌, ◌≤◌, ◌+◌, arith, length, length-set}
 use Rattle.spelling.specs.Text.{natural}
 use Rattle.spelling.proofs.Pieces.{put_length, put_one, put_put}
 use Rattle.dimacs.specs.Form.{header_start}
