@@ -73,7 +73,10 @@ module _ (S : ℕ) (first : ℤ) (others : List ℤ) (range : all (in_range S) (
           let r = in_of_map place_of c (gathered_in c q i) in
           let l = r.0 in
           let e : symbol_at q ≡ nat_abs l = ap symbol_at (sym r.2) ∙ place_symbol l (nonzero S first others range l r.1) in
-          rw (e, denied_is S first others range free l r.1) (sym (literal_place l) ∙ r.2)
+          ap (λ (s : ℕ). place s (not (denied_at S first others range s))) e
+          ∙ ap (λ (b : Bool). place (nat_abs l) (not b)) (denied_is S first others range free l r.1)
+          ∙ sym (literal_place l)
+          ∙ r.2
 
   -- by its places in order
   abbrev among : ℕ → Bool
@@ -115,7 +118,7 @@ module _ (S : ℕ) (first : ℤ) (others : List ℤ) (range : all (in_range S) (
       both h =
           let w = both_true (among (place s true)) (among (place s false)) h in
           let r = in_of_map place_of c (member_in (place s true) (map place_of c) w.0) in
-          clash (any_at (λ (l : ℤ). among (opp (place_of l))) r.1 (rw (r.2, opp_place s true) w.1)) free
+          clash (any_at (λ (l : ℤ). among (opp (place_of l))) r.1 (ap among (ap opp r.2 ∙ opp_place s true) ∙ w.1)) free
 
   row_placed : has_opposite c ≡ false → row_of symbols (against values) ≡ places_in S c
   row_placed free =

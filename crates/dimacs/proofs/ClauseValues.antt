@@ -43,13 +43,13 @@ claim_occurs s (negsuc k) = refl
 
 pub clause_value : (e : ℕ → Bool) (l : ℤ) (ls : List ℤ) → value e (one_of (l ∷ ls)) ≡ any (λ m. not (bool_beq (denied m) (e (nat_abs m)))) (l ∷ ls)
 unfolding one_of value
-clause_value e l [] = rw (claim_value, or-false)
-clause_value e l (m ∷ ls) = rw (claim_value, clause_value e m ls)
+clause_value e l [] = rw (claim_value e l, or-false)
+clause_value e l (m ∷ ls) = rw (claim_value e l, clause_value e m ls)
 
 pub clause_occurs : (s : ℕ) (l : ℤ) (ls : List ℤ) → occurs s (one_of (l ∷ ls)) ≡ any (λ m. eqb (nat_abs m) s) (l ∷ ls)
 unfolding one_of occurs
-clause_occurs s l [] = rw (claim_occurs, or-false)
-clause_occurs s l (m ∷ ls) = rw (claim_occurs, clause_occurs s m ls)
+clause_occurs s l [] = rw (claim_occurs s l, or-false)
+clause_occurs s l (m ∷ ls) = rw (claim_occurs s l, clause_occurs s m ls)
 
 module _ (S : ℕ) (first : ℤ) (others : List ℤ) (range : all (in_range S) (first ∷ others) ≡ true) where
   abbrev c : List ℤ
@@ -116,5 +116,6 @@ module _ (S : ℕ) (first : ℤ) (others : List ℤ) (range : all (in_range S) (
     pub denied_is : (l : ℤ) → In l c → denied_at (nat_abs l) ≡ denied l
     denied_is (pos s) i =
         false_of (denied_at s)
-        (λ e. clash (any_at (λ (l : ℤ). member (opp (place_of l)) (map place_of c)) i (rw (literal_place (pos s), opp_place s true) e)) free)
-    denied_is (negsuc k) i = rw (sym (literal_place (negsuc k))) (in_member (in_map place_of i))
+        (λ e. clash (any_at (λ (l : ℤ). member (opp (place_of l)) (map place_of c)) i
+        (ap (λ p. member p (map place_of c)) (ap opp (literal_place (pos s)) ∙ opp_place s true) ∙ e)) free)
+    denied_is (negsuc k) i = ap (λ p. member p (map place_of c)) (sym (literal_place (negsuc k))) ∙ in_member (in_map place_of i)

@@ -1,5 +1,5 @@
 -- 01, "Text, where a ticket takes it": a text as words between blanks and line ends, and the number that a word spells.
-use Rattle.std.specs.Prelude.{ℕ, zero, suc, ◌+◌, min, Bool, cond, not, ◌||◌, List, [], ◌∷◌, ◌++◌, eqb, ℤ, pos, negsuc}
+use Rattle.std.specs.Prelude.{ℕ, zero, suc, min, Bool, cond, not, ◌||◌, List, [], ◌∷◌, ◌++◌, eqb, ℤ, pos, negsuc}
 use Rattle.meaning.specs.Tests.{all}
 use Rattle.spelling.specs.Text.{is_digit, decimal}
 

@@ -34,7 +34,7 @@ loop_holds : tie.Need-loop-places-init invariant_loop decreases_loop
 loop_holds c =
     let s = c.before in
     let a = s.args in
-    (refl, left_start a.at a.used a.rules a.table-1.now s.requires.0.0 s.requires.0.3 s.requires.0.4 s.requires.1)
+    (refl, left_start a.at a.used a.rules a.table.now s.requires.0.0 s.requires.0.3 s.requires.0.4 s.requires.1)
 
 -- the words from the next one on
 abbrev left : tie.Else-here-text invariant_loop decreases_loop → List (List ℕ)
@@ -51,11 +51,11 @@ some c =
 
 -- the clause there
 turn : (c : tie.Else-here-text invariant_loop decreases_loop) → let a = (start (at c)).args in let l = (at c).loop-places in
-    Next a.symbols (rows_lent a.table-1.now) a.variables l.row l.rule (left c)
+    Next a.symbols (rows_lent a.table.now) a.variables l.row l.rule (left c)
 turn c =
     let s = start (at c) in
     let l = (at c).loop-places in
-    next s.args.symbols (rows_lent s.args.table-1.now) s.args.variables l.row l.rule (left c) s.requires.0.1 s.requires.0.2 (some c)
+    next s.args.symbols (rows_lent s.args.table.now) s.args.variables l.row l.rule (left c) s.requires.0.1 s.requires.0.2 (some c)
     (rw (same c) at l.invariant.1.done)
 
 returns : tie.Need-returns-then-here-text invariant_loop decreases_loop

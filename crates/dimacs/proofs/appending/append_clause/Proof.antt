@@ -8,10 +8,10 @@ use Rattle.dimacs.proofs.appending.append_clause.Tie as tie
 returns : tie.Need-returns-then-k
 returns c =
     let a = c.before.before.args in
-    rw c.if-k.true (sym (appended_none a.table-1.now a.row), sym (add-zero a.row))
+    rw c.if-k.true (sym (appended_none a.table.now a.row), sym (add-zero a.row))
 
 -- there is room for its row
-room : (e : tie.Else-k) → let a = e.before.before.args in width * (a.row + 1) ≤ length a.table-1.now
+room : (e : tie.Else-k) → let a = e.before.before.args in width * (a.row + 1) ≤ length a.table.now
 room e = rw e.if-k.false at e.before.before.requires.1
 
 returns_2 : tie.Need-returns

@@ -50,7 +50,7 @@ loop_holds : tie.Need-loop-k-init invariant_loop decreases_loop
 loop_holds c =
     let s = c.before.before in
     let a = s.args in
-    (omega arith, s.requires.0, omega arith, refl, begun_none a.symbols a.variables (words (drop a.at a.text.now)) a.row-1.now)
+    (omega arith, s.requires.0, omega arith, refl, begun_none a.symbols a.variables (words (drop a.at a.text.now)) a.row.now)
 
 -- where the form is broken, nothing else is told
 broken : {S v : ℕ} {text row : List ℕ} {from end : ℕ} {k : Kept} → false ≡ keeps_form v (words (drop from text))
@@ -116,8 +116,8 @@ loop_again c =
     let held = t.ensures.step begun.literals (literal_of (word w)) spells.size spells.sign begun.holds in (
       omega (arith, (at w).loop-k.invariant.0, onward w),
       w.literal_at-l.ensures.1.within,
-      omega (arith, t.ensures.fits, t.kept.0),
-      t.kept.0 ∙ (at w).loop-k.invariant.3,
+      omega (arith, t.ensures.fits, t.auto.row),
+      t.auto.row ∙ (at w).loop-k.invariant.3,
       begun_more begun (there w) spells.size e.before.before.if-variables-l.false e.if-l-eq0.false held,
     )
 

@@ -8,7 +8,7 @@ use Rattle.dimacs.proofs.header.header_in.Statement.{statement}
 use Rattle.dimacs.proofs.header.header_in.Tie as tie
 
 abbrev start : tie.Else-not-begins → tie.Start
-start c = c.before.before.before.before
+start c = c.before.before.before.before.before
 
 begun : (c : tie.Else-not-begins) → starts_with header_start (start c).args.line.now ≡ true
 begun c = sym c.before.begins.ensures ∙ not-false _ c.if-not-begins.false-raw
@@ -29,4 +29,4 @@ returns_2 c =
 
 pub header_in_spec : {M : Type 1} → statement M
 header_in_spec = tie.close (tie.spec
-    (λ c. search rules) (λ c κs. search rules) returns long long (λ c. search rules) (λ c κs. search rules) returns_2)
+    (λ c κs. search rules) returns long long (λ c. search rules) (λ c κs. search rules) returns_2)

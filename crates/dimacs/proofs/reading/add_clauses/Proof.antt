@@ -13,7 +13,7 @@ use Rattle.dimacs.proofs.Answers.{Found, counted_done, found_is, read_done, read
 use Rattle.dimacs.proofs.reading.add_clauses.Statement.{statement}
 use Rattle.dimacs.proofs.reading.add_clauses.Tie as tie
 
-fine : (s : tie.Start) → Good s.args.table-1.now s.args.board
+fine : (s : tie.Start) → Good s.args.table.now s.args.board
 fine s = good_is _ _ s.requires.0.0
 
 -- the clauses that stand there, and these if they are as many as the header counts
@@ -24,64 +24,64 @@ abbrev said : tie.Start → Parsed
 said s = counted s.args.clauses (there s)
 
 abbrev start : tie.After-survey_clauses-found → tie.Start
-start c = c.before.before.before.before
+start c = c.before.before.before
 
 survey_clauses_requires : tie.Need-survey_clauses-found-requires
 survey_clauses_requires c κs =
-    let s = c.before.before.before in
+    let s = c.before.before in
     let lent = c.rows_lent-lent.ensures in
     (s.requires.0.1, (fine s).some, omega (arith, lent, (fine s).lent), omega (arith, lent), (fine s).few)
 
 -- what is found
 found : (c : tie.After-survey_clauses-found) → let s = start c in let b = s.args.board in
-    Found b.symbols b.rows b.rules (rows_lent s.args.table-1.now) (said s) c.survey_clauses-found.result
+    Found b.symbols b.rows b.rules (rows_lent s.args.table.now) (said s) c.survey_clauses-found.result
 found c =
     let s = start c in
     let b = s.args.board in
-    found_is b.symbols b.rows b.rules (rows_lent s.args.table-1.now) (said s)
+    found_is b.symbols b.rows b.rules (rows_lent s.args.table.now) (said s)
     (rw c.before.rows_lent-lent.ensures at c.survey_clauses-found.ensures)
 
 -- nothing is at fault
-nothing : (c : tie.In-Done) → let s = start c.before.before in let b = s.args.board in
-    first_fault (text_faults b.symbols b.rows b.rules (rows_lent s.args.table-1.now) (said s)) ≡ Done
-nothing c = (found c.before.before).outcome-1 ∙ c.enum_told-1.given.1
+nothing : (c : tie.In-Done) → let s = start c.before in let b = s.args.board in
+    first_fault (text_faults b.symbols b.rows b.rules (rows_lent s.args.table.now) (said s)) ≡ Done
+nothing c = (found c.before).outcome ∙ c.in-Done.is
 
 -- so there are as many clauses as the header counts
-whole : (c : tie.In-Done) → let s = start c.before.before in said s ≡ there s
+whole : (c : tie.In-Done) → let s = start c.before in said s ≡ there s
 whole c =
-    let s = start c.before.before in
+    let s = start c.before in
     let b = s.args.board in
-    counted_done b.symbols b.rows b.rules (rows_lent s.args.table-1.now) s.args.clauses (there s) (nothing c)
+    counted_done b.symbols b.rows b.rules (rows_lent s.args.table.now) s.args.clauses (there s) (nothing c)
 
 append_requires : tie.Need-append-requires
 append_requires c κs =
-    let s = start c.before.before.before in
+    let s = start c.before.before in
     ((s.requires.0.1, (fine s).some, (fine s).sound.symbols, (fine s).lent, (fine s).few), rw (whole c.before) at (nothing c.before))
 
 done_requires : tie.Need-done-requires
 done_requires c κs =
     let t = c.before.before.before in
-    let f = t.before.before in
+    let f = t.before in
     let s = start f in
-    (omega (arith, (found f).ranges (nothing t) (fine s).lent), (found f).few (nothing t) (fine s).few)
+    (omega (arith, (found f).fits (nothing t) (fine s).lent), (found f).few (nothing t) (fine s).few)
 
 returns : tie.Need-returns-in-Refused
 returns c =
-    let o = c.before.before in
-    let f = o.before.before in
+    let o = c.before in
+    let f = o.before in
     let s = start f in
-    let all = read_refused s.args.table-1.now s.args.board s.args.text.now s.requires.0.0 s.requires.1 o.outcome-1.given.0.0
-    ((found f).outcome-1 ∙ o.outcome-1.given.1) (found f).clauses in
+    let all = read_refused s.args.table.now s.args.board s.args.text.now s.requires.0.0 s.requires.1 o.in-Refused.why
+    ((found f).outcome ∙ o.in-Refused.is) (found f).clauses in
     (c.refused.ensures ∙ all.0, all.1)
 
 returns_2 : tie.Need-returns-in-Done
 returns_2 c =
     let a = c.before.before in
     let t = a.before.before in
-    let f = t.before.before in
+    let f = t.before in
     let s = start f in
     let b = s.args.board in
-    let table = s.args.table-1.now in
+    let table = s.args.table.now in
     let none = nothing t in
     let all = read_done table b s.args.text.now s.requires.0.0 s.requires.1 none ((found f).all_clauses none) ((found f).added none) in
     let rows = ap (λ (p : Parsed). appended table b.rows (numbered_rows b.symbols b.rules p)) (sym (whole t)) in

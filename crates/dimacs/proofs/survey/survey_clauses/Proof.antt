@@ -99,31 +99,32 @@ clause c =
 
 with_clause_requires : tie.Need-with_clause-found-requires invariant_loop decreases_loop
 with_clause_requires c κs =
-    let e = here (gathered c) in
+    let e = here (gathered c.before) in
     let s = start (at e) in
     let fits = (at e).loop-row.invariant.3.fits in
     (fits.0, s.requires.3, fits.1)
 
 add_count : tie.Need-overflow_add-count invariant_loop decreases_loop
-add_count c = let e = here (gathered c.before) in omega (arith, (at e).loop-row.invariant.2, onward e, more e, (start (at e)).good)
+add_count c = let e = here (gathered c.before.before) in omega (arith, (at e).loop-row.invariant.2, onward e, more e, (start (at e)).well_formed)
 
 loop_less : tie.Need-loop-row-smaller invariant_loop decreases_loop
 loop_less c =
-    let g = (gathered c.before).gather-c.ensures in
-    let k = keeps c.before in
-    omega (arith, onward (here (gathered c.before)), g.onward k, g.within k)
+    let e = c.before.before in
+    let g = (gathered e).gather-c.ensures in
+    let k = keeps e in
+    omega (arith, onward (here (gathered e)), g.onward k, g.within k)
 
 loop_again : tie.Need-loop-row-preserved invariant_loop decreases_loop
 loop_again c =
-    let g = gathered c.before in
+    let g = gathered c.before.before in
     let e = here g in
     let r = g.gather-c.ensures in
-    let k = keeps c.before in
-    let next = c.with_clause-found.ensures.with_clause-found (start (at e)).args.symbols (next_clause (left e)) _ (r.holds k) in (
-      g.gather-c.kept.0 ∙ (at e).loop-row.invariant.0,
+    let k = keeps c.before.before in
+    let next = c.with_clause-found.ensures.with_clause (start (at e)).args.symbols (next_clause (left e)) _ (r.holds k) in (
+      g.gather-c.auto.row ∙ (at e).loop-row.invariant.0,
       r.within k,
       omega (arith, (at e).loop-row.invariant.2, onward e, r.onward k),
-      sofar_more (at e).loop-row.invariant.3 (next_clause (left e)) (clause c.before) next,
+      sofar_more (at e).loop-row.invariant.3 (next_clause (left e)) (clause c.before.before) next,
     )
 
 pub survey_clauses_spec : {M : Type 1} → statement M

@@ -9,10 +9,10 @@ abbrev done : tie.After-judge → tie.In-Done
 done j = j.before.before.before
 
 abbrev start : tie.After-judge → tie.Start
-start j = (done j).before.before
+start j = (done j).before
 
 abbrev judged : tie.After-struct_known-in-Done-judge-3-1 → tie.After-judge
-judged c = c.before.before.before.before.before
+judged c = c.before.before.before.before
 
 one : (b : Bool) → bool_byte b ≤ 1
 one true = omega arith
@@ -20,19 +20,18 @@ one false = omega arith
 
 returns_2 : tie.Need-returns-in-Refused-judge
 returns_2 c =
-    let w = c.before in
-    let j = w.before.before in
-    with_fault (done j).enum_told-in-Done-1.given.1 (rw w.why-1.given.1 at j.judge.ensures)
+    let j = c.before in
+    with_fault (done j).in-Done.is (rw c.in-Refused-judge.is at j.judge.ensures)
 
 returns_3 : tie.Need-returns-in-Done-judge
 returns_3 c =
     let t = c.before.before.before in
-    let j = t.before.before in
-    with_done (done j).enum_told-in-Done-1.given.1 (rw t.enum_told-in-Done-judge-1.given.1 at j.judge.ensures)
+    let j = t.before in
+    with_done (done j).in-Done.is (rw t.in-Done-judge.is at j.judge.ensures)
 
 pub with_clause_spec : {M : Type 1} → statement M
 with_clause_spec = tie.close (tie.spec
     (λ c. search rules) (λ c. search rules) (λ c. omega arith) (λ c. omega arith) (λ c κs. omega arith) (λ c. search rules) (λ c. search rules)
     (λ c. omega arith) (λ c. omega arith)
     (λ c. let s = start (judged c) in omega (arith, s.requires.0, s.requires.1, one (not s.args.k.always)))
-    (λ c. with_refused c.enum_told-1.given.1) returns_2 returns_3)
+    (λ c. with_refused c.in-Refused.is) returns_2 returns_3)

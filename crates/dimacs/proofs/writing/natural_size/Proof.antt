@@ -18,12 +18,12 @@ add_size c =
 
 loop_again : tie.Need-loop-left-preserved invariant_loop decreases_loop
 loop_again c =
-    let left = c.before.loop-left.false in
+    let left = c.before.loop-left.left in
     let split = ap length (natural_long left c.loop-left-test.true) in
     omega (arith, c.before.loop-left.invariant, split, length-append (natural (left / 10)) ((48 + left % 10) ∷ []))
 
 returns : tie.Need-returns invariant_loop decreases_loop
-returns c = omega (arith, c.before.loop-left.invariant, ap length (natural_short c.before.loop-left.false c.loop-left-test.false))
+returns c = omega (arith, c.before.loop-left.invariant, ap length (natural_short c.before.loop-left.left c.loop-left-test.false))
 
 pub natural_size_spec : {M : Type 1} → statement M
 natural_size_spec = tie.close (tie.spec invariant_loop decreases_loop (λ c. omega arith) add_size (λ c. omega arith) loop_again returns)

@@ -1,5 +1,5 @@
 -- `writing::put_counts` meets its contract: one piece after another.
-use Rattle.meaning.proofs.Kit.{◌≡◌, ◌∙◌, [], ◌∷◌, ◌++◌, ◌≤◌, ◌+◌, arith, length, length-set, rules}
+use Rattle.meaning.proofs.Kit.{◌≡◌, ◌∙◌, [], ◌∷◌, ◌++◌, ◌≤◌, ◌+◌, arith, length, length-set}
 use Rattle.spelling.specs.Text.{natural}
 use Rattle.spelling.proofs.Pieces.{put_length, put_one, put_put}
 use Rattle.dimacs.specs.Form.{header_start}
@@ -9,7 +9,7 @@ use Rattle.dimacs.proofs.writing.put_counts.Tie as tie
 
 -- the points of the run: the entry, behind the word, and behind the symbols
 abbrev start : tie.After-put_word-first → tie.Start
-start c = c.before.before.before.before
+start c = c.before.before.before.before.before
 
 abbrev word : tie.After-put_natural-second → tie.After-put_word-first
 word c = c.before.before.before.before
@@ -18,7 +18,7 @@ abbrev symbols : tie.After-put_natural-third → tie.After-put_natural-second
 symbols c = c.before.before.before.before
 
 -- there is room for the line
-room : (s : tie.Start) → 8 + length (natural s.args.symbols) + length (natural s.args.count) ≤ length s.args.out-1.now
+room : (s : tie.Start) → 8 + length (natural s.args.symbols) + length (natural s.args.count) ≤ length s.args.out.now
 room s = omega (arith, s.requires, counts_size s.args.symbols s.args.count)
 
 put_natural_requires : tie.Need-put_natural-second-requires
@@ -29,7 +29,7 @@ put_natural_requires c κs =
 
 -- behind the symbols: for a blank, the count and a line feed
 second : (v : tie.After-put_natural-second) → let a = (start (word v)).args in
-    (v.put_natural-second.result + length (natural a.count) + 2 ≤ length a.out-1.now) × (length v.put_natural-second.new.out ≡ length a.out-1.now)
+    (v.put_natural-second.result + length (natural a.count) + 2 ≤ length a.out.now) × (length v.put_natural-second.new.out ≡ length a.out.now)
 second v =
     let w = word v in
     let put = v.put_natural-second.ensures in
@@ -40,7 +40,7 @@ put_natural_requires_2 c κs = let v = c.before.before.before in simp length-set
 
 -- behind the count: for a line feed
 third : (n : tie.After-put_natural-third) → let a = (start (word (symbols n))).args in
-    (n.put_natural-third.result + 1 ≤ length a.out-1.now) × (length n.put_natural-third.new.out ≡ length a.out-1.now)
+    (n.put_natural-third.result + 1 ≤ length a.out.now) × (length n.put_natural-third.new.out ≡ length a.out.now)
 third n =
     let v = symbols n in
     let put = n.put_natural-third.ensures in
@@ -60,7 +60,7 @@ returns c =
 
 pub put_counts_spec : {M : Type 1} → statement M
 put_counts_spec = tie.close (tie.spec
-    (λ c. search rules) (λ c κs. omega (arith, room c.before.before.before)) put_natural_requires
+    (λ c κs. omega (arith, room c.before.before.before.before)) put_natural_requires
     (λ c. omega (arith, (second c.before.before).0, (second c.before.before).1)) (λ c. omega (arith, (second c.before.before.before).0))
     put_natural_requires_2 (λ c. omega (arith, (third c.before.before).0, (third c.before.before).1))
     (λ c. omega (arith, (third c.before.before).0)) (λ c. simp length-set (third c.before.before).1) returns)

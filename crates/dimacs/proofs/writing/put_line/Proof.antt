@@ -24,7 +24,7 @@ abbrev here : tie.In-loop-k invariant_loop decreases_loop → ℤ
 here t = get_or (start t.before).args.part.now t.before.loop-k.k (pos 0)
 
 -- there is room for the literal, a blank and the end
-room : (t : tie.In-loop-k invariant_loop decreases_loop) → t.before.loop-k.next + (length (literal (here t)) + 1) + 2 ≤ length t.before.loop-k.out-1
+room : (t : tie.In-loop-k invariant_loop decreases_loop) → t.before.loop-k.next + (length (literal (here t)) + 1) + 2 ≤ length t.before.loop-k.out
 room t =
     let l = t.before in
     let part = (start l).args.part.now in
@@ -40,7 +40,7 @@ put_literal_requires c κs =
 
 -- the literal is written
 put : (p : tie.After-put_literal-next invariant_loop decreases_loop) → let l = (turn p).before in
-    Put l.loop-k.out-1 p.put_literal-next.new.out l.loop-k.next (literal (here (turn p))) p.put_literal-next.result
+    Put l.loop-k.out p.put_literal-next.new.out l.loop-k.next (literal (here (turn p))) p.put_literal-next.result
 put p =
     let fits : SFits w16 (here (turn p)) = record { sfits = p.before.put_literal-arg-in-loop-k-1.given } in
     rw (to_z-of_z fits) at p.put_literal-next.ensures
@@ -59,13 +59,13 @@ loop_again c =
 
 -- all literals are written
 all_put : (c : tie.After-loop-k invariant_loop decreases_loop) → let l = c.before in let a = (start l).args in
-    Put a.out-1.now l.loop-k.out-1 a.at (spaced a.part.now) l.loop-k.next
+    Put a.out.now l.loop-k.out a.at (spaced a.part.now) l.loop-k.next
 all_put c =
     let l = c.before in
     rw (take_all l.loop-k.k (start l).args.part.now c.loop-k-test.false) at l.loop-k.invariant.2
 
 -- and there is room for the end
-end : (c : tie.After-loop-k invariant_loop decreases_loop) → c.before.loop-k.next + 2 ≤ length c.before.loop-k.out-1
+end : (c : tie.After-loop-k invariant_loop decreases_loop) → c.before.loop-k.next + 2 ≤ length c.before.loop-k.out
 end c =
     let s = start c.before in
     omega (arith, s.requires, line_size s.args.part.now, (all_put c).ends, c.before.loop-k.invariant.1)

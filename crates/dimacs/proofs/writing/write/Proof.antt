@@ -16,7 +16,7 @@ start c = c.before.before.before
 
 -- the board is good
 is_good_lem : (c : tie.Else-not-good) → good_board (start c).args.table.now (start c).args.board ≡ true
-is_good_lem c = sym c.before.good2.ensures ∙ not-false _ c.if-not-good.false-raw
+is_good_lem c = sym c.before.good.ensures ∙ not-false _ c.if-not-good.false-raw
 
 good : (c : tie.Else-not-good) → Good (start c).args.table.now (start c).args.board
 good c = good_is _ _ (is_good_lem c)
@@ -25,7 +25,7 @@ returns : tie.Need-returns-then-not-good
 unfolding write_outcome write_faults
 returns c =
     let then = c.before in
-    write_refused _ _ _ BadBoard (rw (sym then.before.good2.ensures ∙ not-true _ then.if-not-good.true-raw)) c.refused.ensures
+    write_refused _ _ _ BadBoard (rw (sym then.before.good.ensures ∙ not-true _ then.if-not-good.true-raw)) c.refused.ensures
 
 fits_requires : tie.Need-fits-requires
 unfolding text_on
@@ -36,13 +36,13 @@ unfolding write_outcome write_faults text_on
 returns_2 c =
     let then = c.before in
     let fits = then.before in
-    let long = sym fits.fits2.ensures ∙ not-true _ then.if-not-fits.true-raw in
+    let long = sym fits.fits.ensures ∙ not-true _ then.if-not-fits.true-raw in
     write_refused _ _ _ TableTooShort (rw (is_good_lem fits.before, long)) c.refused-then-not-fits.ensures
 
 -- the text fits
-room : (c : tie.Else-not-fits) → let a = (start c.before.before).args in length (text_on a.table.now a.board) ≤ length a.out-1.now
+room : (c : tie.Else-not-fits) → let a = (start c.before.before).args in length (text_on a.table.now a.board) ≤ length a.out.now
 unfolding text_on
-room c = leb-true _ _ (sym c.before.fits2.ensures ∙ not-false _ c.if-not-fits.false-raw)
+room c = leb-true _ _ (sym c.before.fits.ensures ∙ not-false _ c.if-not-fits.false-raw)
 
 put_text_requires : tie.Need-put_text-requires
 unfolding text_on
@@ -57,7 +57,7 @@ returns_3 c =
     let fits = put.before.before in
     let g = fits.before.before in
     let a = (start g).args in
-    write_done a.table.now a.board a.out-1.now (rw (is_good_lem g, le-leb _ _ (room fits))) (room fits) put.put_text.ensures
+    write_done a.table.now a.board a.out.now (rw (is_good_lem g, le-leb _ _ (room fits))) (room fits) put.put_text.ensures
 
 pub write_spec : {M : Type 1} → statement M
 write_spec = tie.close (tie.spec
