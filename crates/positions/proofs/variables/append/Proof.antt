@@ -17,7 +17,7 @@ abbrev start : tie.After-names-1 → tie.Start
 start c = c.before.before.before.before
 
 abbrev listing : tie.After-append_rule-arg-1 → tie.After-list_symbols
-listing c = c.before.before.before.before
+listing c = c.before.before.before
 
 -- how many values the truth table has
 abbrev values : tie.Start → ℕ
@@ -35,13 +35,12 @@ falses s = take_same (values s) 128 false (room s)
 
 -- the truth table, where it comes back
 table_long : (c : tie.After-mark_single) → length c.mark_single.new.truth ≡ values c.before.before
-table_long c = let s = c.before.before in ap length c.mark_single.ensures ∙ length_only s.args.count ∙ sym (values_is s)
+table_long c = let s = c in ap length c.mark_single.ensures ∙ length_only s.args.count ∙ sym (values_is s.before.before)
 
-table : (c : tie.After-mark_single) → let s = c.before.before in
-    take (values s) (c.mark_single.new.truth ++ drop (values s) (replicate 128 false)) ≡ only_one s.args.count
+table : (c : tie.After-mark_single) → let s = c in
+    take (values s.before.before) (c.mark_single.new.truth ++ drop (values s.before.before) (replicate 128 false)) ≡ only_one s.args.count
 table c =
-    let s = c.before.before in
-    take_at c.mark_single.new.truth (drop (values s) (replicate 128 false)) (values s) (table_long c) ∙ c.mark_single.ensures
+    take_at c.mark_single.new.truth (drop (values c.before.before) (replicate 128 false)) (values c.before.before) (table_long c) ∙ c.mark_single.ensures
 
 -- places for the symbols, as many as there are
 abbrev places : List ℕ
@@ -74,7 +73,7 @@ slice_aggregate_mark_single : tie.Need-slice_bounds-mark_single-end
 slice_aggregate_mark_single c = sym (ap length (falses c.before) ∙ length-replicate (values c.before) false)
 
 mark_single_requires : tie.Need-mark_single-requires
-mark_single_requires c κs = (c.before.requires.2, falses c.before ∙ ap (λ (n : ℕ). replicate n false) (values_is c.before))
+mark_single_requires c κs = (c.requires.2, falses c.before ∙ ap (λ (n : ℕ). replicate n false) (values_is c.before))
 
 list_symbols_requires : tie.Need-list_symbols-requires
 list_symbols_requires c κs = let s = start c in omega (arith, names s, s.requires.1)
@@ -93,41 +92,31 @@ slice_aggregate_append_rule c =
 
 array_share_prefix_truth : tie.Need-slice_bounds-truth-end-2
 array_share_prefix_truth c =
-    let m = (listing c.before).before.before.before in
-    omega (arith, table_long m, length-append m.mark_single.last.0 (drop (values m.before.before) (replicate 128 false)))
+    let m = listing c.before in
+    omega (arith, table_long m.before.before.before, length-append m.mark_single.last.0 (drop (values m.before.before.before.before.before) (replicate 128 false)))
 
 slice_aggregate_append_rule_2 : tie.Need-slice_bounds-append_rule-end-2
 slice_aggregate_append_rule_2 c =
-    let m = (listing c.before.before).before.before.before in
-    let s = m.before.before in
-    sym (ap length (table m) ∙ length_only s.args.count ∙ sym (values_is s))
+    let m = listing c.before.before in
+    sym (ap length (table m.before.before.before) ∙ length_only m.args.count ∙ sym (values_is m.before.before.before.before.before))
 
 append_rule_requires : tie.Need-append_rule-requires
 append_rule_requires c κs =
-    let r = c.before.before.before in
-    let l = r.before.before.before in
-    let m = l.before.before.before in
-    let s = m.before.before in
-    let lent : r.rows_lent-lent.result ≡ rows_lent s.args.table-1.now = r.rows_lent-lent.ensures in
-    let long = length_from s.args.first s.args.count in (
+    let lent : c.rows_lent-lent.result ≡ rows_lent c.args.table.now = c.rows_lent-lent.ensures in
+    let long = length_from c.args.first c.args.count in (
       (
-        omega (arith, ap length (listed l) ∙ long, s.requires.2),
-        rw (listed l) (positive s),
-        ap length (table m) ∙ length_only s.args.count ∙ ap (λ (n : ℕ). 2 ^ n) (sym (ap length (listed l) ∙ long)),
+        omega (arith, ap length (listed c.before.before.before.before.before) ∙ long, c.requires.2),
+        rw (listed c.before.before.before.before.before) (positive c.before.before.before.before.before.before.before.before.before.before),
+        ap length (table c.before.before.before.before.before.before.before.before) ∙ length_only c.args.count ∙ ap (λ (n : ℕ). 2 ^ n) (sym (ap length (listed c.before.before.before.before.before) ∙ long)),
       ),
-      (omega (arith, lent, s.requires.3), omega (arith, lent), omega (arith, lent), s.requires.4),
+      (omega (arith, lent, c.requires.3), omega (arith, lent), omega (arith, lent), c.requires.4),
     )
 
 returns : tie.Need-returns
 returns c =
-    let a = c.before.append_rule in
-    let h = c.before.before in
-    let r = h.before.before.before in
-    let l = r.before.before.before in
-    let m = l.before.before.before in
-    let s = m.before.before in
-    let lent : r.rows_lent-lent.result ≡ rows_lent s.args.table-1.now = r.rows_lent-lent.ensures in
-    (a.ensures.0 ∙ rw (listed l, table m, lent), a.ensures.1 ∙ rw (listed l, table m, lent))
+    let a = c.append_rule in
+    let lent : c.rows_lent-lent.result ≡ rows_lent c.args.table.now = c.rows_lent-lent.ensures in
+    (a.ensures.0 ∙ rw (listed c.before.before.before.before.before.before.before, table c.before.before.before.before.before.before.before.before.before.before, lent), a.ensures.1 ∙ rw (listed c.before.before.before.before.before.before.before, table c.before.before.before.before.before.before.before.before.before.before, lent))
 
 pub append_spec : {M : Type 1} → statement M
 append_spec = tie.close (tie.spec

@@ -6,7 +6,7 @@ use Rattle.stack.proofs.steps.open.Tie as tie
 
 returns : tie.Need-returns-in-Done
 unfolding opened_with
-returns c = let t = c.before in rw (← t.before.before.«open».ensures, t.enum_told-1.given.1, c.empty_stacks-next.ensures)
+returns c = let t = c in rw (← t.before.before.«open».ensures, t.enum_told-1.given.1, c.empty_stacks-next.ensures)
 
 returns_2 : tie.Need-returns-in-Refused
 unfolding opened_with
