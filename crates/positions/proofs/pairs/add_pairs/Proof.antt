@@ -13,7 +13,8 @@ it s = let a = s.args in pairs_of a.first a.count a.other a.others a.pairs
 
 returns : tie.Need-returns-then-not-good
 returns c =
-    let told = told_spoilt c.args.table.now c.args.board (it c.before.before.before) (sym c.good.ensures ∙ not-true _ c.if-not-good.true-raw) in
+    let s = c.before.before.before in
+    let told = told_spoilt s.args.table.now s.args.board (it s) (sym c.good.ensures ∙ not-true _ c.if-not-good.true-raw) in
     (c.refused.ensures ∙ told.answer_is, told.table_is)
 
 -- the board is good
@@ -22,12 +23,15 @@ good c = sym c.good.ensures ∙ not-false _ c.if-not-good.false-raw
 
 returns_2 : tie.Need-returns-in-Refused
 returns_2 c =
-    let told = told_own c.args.table.now c.args.board (it c.before.before.before.before.before.before.before) (good c.before.before.before.before.before) c.why-1.given.0.0 (sym c.judge.ensures ∙ c.why-1.given.1) in
+    let e = c.before.before.before in
+    let s = e.before.before in
+    let told = told_own s.args.table.now s.args.board (it s) (good e) c.in-Refused.why (sym c.judge.ensures ∙ c.in-Refused.is) in
     (c.refused-in-Refused.ensures ∙ told.answer_is, told.table_is)
 
 enter_requires : tie.Need-enter-requires
 enter_requires c κs =
-    (good c.before.before.before.before, own_passed c.args.board.symbols (it c.before.before.before.before.before.before) (sym c.judge.ensures ∙ c.enum_told-1.given.1))
+    let e = c.before.before.before in
+    (good e, own_passed e.args.board.symbols (it e.before.before) (sym c.judge.ensures ∙ c.in-Done.is))
 
 pub add_pairs_spec : {M : Type 1} → statement M
 add_pairs_spec = tie.close (tie.spec

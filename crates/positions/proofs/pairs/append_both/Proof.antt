@@ -29,8 +29,9 @@ append_side_requires_2 c κs =
 
 returns : tie.Need-returns
 returns c =
+    let s = c.before.before.before.before.before.before.before.before in
     c.append_side-2.ensures ∙ rw (c.seen_from-2.ensures, c.append_side.ensures, c.seen_from.ensures)
-    (both_written (it c.before.before.before.before.before.before.before.before) c.args.rows c.args.rules c.args.table.now c.requires.1.1)
+    (both_written (it s) c.args.rows c.args.rules c.args.table.now c.requires.1.1)
 
 pub append_both_spec : {M : Type 1} → statement M
 append_both_spec = tie.close (tie.spec

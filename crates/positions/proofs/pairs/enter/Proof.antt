@@ -37,9 +37,10 @@ fits_is s =
 
 returns : tie.Need-returns-then-rows_lent-board
 returns c =
-    let b = c.args.board in
-    let short = lt-leb (b.rows + clauses c.before.before.before.before) (lent c.before.before.before.before) (omega (arith, c.rows_lent.ensures, c.if-rows_lent-board.true, (good c.before.before.before.before).lent)) in
-    let all = told_full c.args.table.now b (pairs (it c.before.before.before.before)) c.requires.0 c.requires.1 (fits_is c.before.before.before.before ∙ rw short) in
+    let s = c.before.before.before.before in
+    let b = s.args.board in
+    let short = lt-leb (b.rows + clauses s) (lent s) (omega (arith, c.rows_lent.ensures, c.if-rows_lent-board.true, (good s).lent)) in
+    let all = told_full s.args.table.now b (pairs (it s)) s.requires.0 s.requires.1 (fits_is s ∙ rw short) in
     (c.refused.ensures ∙ all.answer_is, all.table_is)
 
 returns_2 : tie.Need-returns-then-board-clauses
@@ -89,7 +90,7 @@ returns_3 c =
 pub enter_spec : {M : Type 1} → statement M
 enter_spec = tie.close (tie.spec
     (λ c. (let f = suits_pairs c.args.board.symbols (it c) c.requires.1 in omega (arith, f.0.3, f.1.3))) (λ c κs. search rules)
-    (λ c. (omega (arith, c.rows_lent.ensures, (good c.before.before).lent))) (λ c κs. search rules) (λ c. search rules)
+    (λ c. omega (arith, c.rows_lent.ensures, (good c.before.before).lent)) (λ c κs. search rules) (λ c. search rules)
     returns (λ c. omega (arith, (good (start c.before)).few)) (λ c κs. search rules) (λ c. search rules)
-    returns_2 append_both_requires (λ c κs. ((omega (arith, rows_left c.before.before.before), rules_left c.before.before.before)))
+    returns_2 append_both_requires (λ c κs. (let e = c.before.before.before in (omega (arith, rows_left e), rules_left e)))
     (λ c. search rules) returns_3)

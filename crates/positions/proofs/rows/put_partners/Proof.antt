@@ -16,13 +16,13 @@ start c = c.before.before
 
 loop_again : tie.Need-loop-j-preserved invariant_loop decreases_loop
 loop_again c =
-    let a = (start c.before.before.before.before).args in
+    let a = c.args in
     ⊎_elim
-    (λ w. subst₂ (λ row n. Gathered (side_of a.v) a.i a.at a.row.now row n (c.loop-j.j + 1)) (sym w.2) (sym w.3)
-    (gathered_one _ _ _ _ _ _ _ c.loop-j.invariant c.loop-j-test.true (sym c.may.ensures ∙ w.0.true) (omega arith)))
-    (λ w. subst₂ (λ row n. Gathered (side_of a.v) a.i a.at a.row.now row n (c.loop-j.j + 1)) (sym w.1) (sym w.2)
-    (gathered_passed _ _ _ _ _ _ _ c.loop-j.invariant c.loop-j-test.true (sym c.may.ensures ∙ w.0.false)))
-    c.if-may.branch
+    (λ w. subst₂ (λ row n. Gathered (side_of a.v) a.i a.at a.row.now row n (c.loop-j.j + 1)) (sym w.row-is) (sym w.n-is)
+    (gathered_one _ _ _ _ _ _ _ c.loop-j.invariant c.loop-j-test.true (sym c.may.ensures ∙ w.if-may.true) (omega arith)))
+    (λ w. subst₂ (λ row n. Gathered (side_of a.v) a.i a.at a.row.now row n (c.loop-j.j + 1)) (sym w.row-is) (sym w.n-is)
+    (gathered_passed _ _ _ _ _ _ _ c.loop-j.invariant c.loop-j-test.true (sym c.may.ensures ∙ w.if-may.false)))
+    c.if-may.branch-raw
 
 returns : tie.Need-returns invariant_loop decreases_loop
 returns c =
@@ -35,4 +35,4 @@ put_partners_spec = tie.close (tie.spec
     (λ c. gathered_none (side_of c.args.v) c.args.i c.args.at c.args.row.now c.requires.3)
     (λ c κs. (omega arith, omega arith)) (λ c. omega arith) (λ c. omega arith) (λ c. omega arith) (λ c. omega arith) (λ c. omega arith)
     (λ c. omega arith) (λ c. omega arith) (λ c. omega arith) loop_again
-    (λ c. (c.loop-j.invariant.long ∙ sym (start c.before.before).requires.3)) returns)
+    (λ c. c.loop-j.invariant.long ∙ sym c.requires.3) returns)

@@ -35,12 +35,13 @@ falses s = take_same (values s) 128 false (room s)
 
 -- the truth table, where it comes back
 table_long : (c : tie.After-mark_single) → length c.mark_single.new.truth ≡ values c.before.before
-table_long c = let s = c in ap length c.mark_single.ensures ∙ length_only s.args.count ∙ sym (values_is s.before.before)
+table_long c = let s = c.before.before in ap length c.mark_single.ensures ∙ length_only s.args.count ∙ sym (values_is s)
 
-table : (c : tie.After-mark_single) → let s = c in
-    take (values s.before.before) (c.mark_single.new.truth ++ drop (values s.before.before) (replicate 128 false)) ≡ only_one s.args.count
+table : (c : tie.After-mark_single) → let s = c.before.before in
+    take (values s) (c.mark_single.new.truth ++ drop (values s) (replicate 128 false)) ≡ only_one s.args.count
 table c =
-    take_at c.mark_single.new.truth (drop (values c.before.before) (replicate 128 false)) (values c.before.before) (table_long c) ∙ c.mark_single.ensures
+    let s = c.before.before in
+    take_at c.mark_single.new.truth (drop (values s) (replicate 128 false)) (values s) (table_long c) ∙ c.mark_single.ensures
 
 -- places for the symbols, as many as there are
 abbrev places : List ℕ
@@ -82,7 +83,7 @@ array_share_prefix_names : tie.Need-slice_bounds-names-end-2
 array_share_prefix_names c =
     let l = listing c in
     let a = (start l.before).args in
-    omega (arith, listed_long l, length-append l.list_symbols.last.0 (drop a.count places))
+    omega (arith, listed_long l, length-append l.list_symbols.new.names (drop a.count places))
 
 slice_aggregate_append_rule : tie.Need-slice_bounds-append_rule-end
 slice_aggregate_append_rule c =
@@ -92,31 +93,36 @@ slice_aggregate_append_rule c =
 
 array_share_prefix_truth : tie.Need-slice_bounds-truth-end-2
 array_share_prefix_truth c =
-    let m = listing c.before in
-    omega (arith, table_long m.before.before.before, length-append m.mark_single.last.0 (drop (values m.before.before.before.before.before) (replicate 128 false)))
+    let m = (listing c.before).before.before.before in
+    omega (arith, table_long m, length-append m.mark_single.new.truth (drop (values m.before.before) (replicate 128 false)))
 
 slice_aggregate_append_rule_2 : tie.Need-slice_bounds-append_rule-end-2
 slice_aggregate_append_rule_2 c =
-    let m = listing c.before.before in
-    sym (ap length (table m.before.before.before) ∙ length_only m.args.count ∙ sym (values_is m.before.before.before.before.before))
+    let m = (listing c.before.before).before.before.before in
+    sym (ap length (table m) ∙ length_only m.args.count ∙ sym (values_is m.before.before))
 
 append_rule_requires : tie.Need-append_rule-requires
 append_rule_requires c κs =
-    let lent : c.rows_lent-lent.result ≡ rows_lent c.args.table.now = c.rows_lent-lent.ensures in
-    let long = length_from c.args.first c.args.count in (
+    let l = c.before.before.before.before.before in
+    let m = l.before.before.before in
+    let s = m.before.before in
+    let lent : c.rows_lent-lent.result ≡ rows_lent s.args.table.now = c.rows_lent-lent.ensures in
+    let long = length_from s.args.first s.args.count in (
       (
-        omega (arith, ap length (listed c.before.before.before.before.before) ∙ long, c.requires.2),
-        rw (listed c.before.before.before.before.before) (positive c.before.before.before.before.before.before.before.before.before.before),
-        ap length (table c.before.before.before.before.before.before.before.before) ∙ length_only c.args.count ∙ ap (λ (n : ℕ). 2 ^ n) (sym (ap length (listed c.before.before.before.before.before) ∙ long)),
+        omega (arith, ap length (listed l) ∙ long, s.requires.2),
+        rw (listed l) (positive s),
+        ap length (table m) ∙ length_only s.args.count ∙ ap (λ (n : ℕ). 2 ^ n) (sym (ap length (listed l) ∙ long)),
       ),
-      (omega (arith, lent, c.requires.3), omega (arith, lent), omega (arith, lent), c.requires.4),
+      (omega (arith, lent, s.requires.3), omega (arith, lent), omega (arith, lent), s.requires.4),
     )
 
 returns : tie.Need-returns
 returns c =
     let a = c.append_rule in
+    let l = c.before.before.before.before.before.before.before in
+    let m = l.before.before.before in
     let lent : c.rows_lent-lent.result ≡ rows_lent c.args.table.now = c.rows_lent-lent.ensures in
-    (a.ensures.0 ∙ rw (listed c.before.before.before.before.before.before.before, table c.before.before.before.before.before.before.before.before.before.before, lent), a.ensures.1 ∙ rw (listed c.before.before.before.before.before.before.before, table c.before.before.before.before.before.before.before.before.before.before, lent))
+    (a.ensures.0 ∙ rw (listed l, table m, lent), a.ensures.1 ∙ rw (listed l, table m, lent))
 
 pub append_spec : {M : Type 1} → statement M
 append_spec = tie.close (tie.spec

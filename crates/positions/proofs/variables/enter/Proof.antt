@@ -31,42 +31,51 @@ good s = good_is _ _ s.requires.0
 
 append_requires : tie.Need-append-requires
 append_requires c κs =
-    let f = suits_variable c.args.board.symbols (it c.before) c.requires.1 in
-    (f.0, omega (arith, f.1, (good c.before).sound.symbols), f.3, (good c.before).lent, (good c.before).few)
+    let s = c.before in
+    let f = suits_variable s.args.board.symbols (it s) s.requires.1 in
+    (f.0, omega (arith, f.1, (good s).sound.symbols), f.3, (good s).lent, (good s).few)
 
 -- what appending told, and the table that it left
-told : (c : tie.After-append) → let s = c in
-    answer_of (rule s.before.before) s.args.board.rows s.args.board.rules (lent s.before.before) ≡ c.append.result
+told : (c : tie.After-append) → let s = c.before.before in
+    answer_of (rule s) s.args.board.rows s.args.board.rules (lent s) ≡ c.append.result
 told c =
-    sym (c.append.ensures.0 ∙ rule_answer c.args.board.symbols (it c.before.before) c.requires.1 c.args.board.rows c.args.board.rules (lent c.before.before))
+    let s = c.before.before in
+    sym (c.append.ensures.0 ∙ rule_answer s.args.board.symbols (it s) s.requires.1 s.args.board.rows s.args.board.rules (lent s))
 
-left : (c : tie.After-append) → let s = c in
-    c.append.new.table ≡ table_of (rule s.before.before) s.args.board.rows s.args.board.rules (lent s.before.before) s.args.table.now
+left : (c : tie.After-append) → let s = c.before.before in
+    c.append.new.table ≡ table_of (rule s) s.args.board.rows s.args.board.rules (lent s) s.args.table.now
 left c =
+    let s = c.before.before in
     c.append.ensures.1
-    ∙ rule_table c.args.board.symbols (it c.before.before) c.requires.1 c.args.board.rows c.args.board.rules (lent c.before.before) c.args.table.now
+    ∙ rule_table s.args.board.symbols (it s) s.requires.1 s.args.board.rows s.args.board.rules (lent s) s.args.table.now
 
 returns : tie.Need-returns-in-Unsatisfiable
 returns c =
-    let b = c.args.board in
-    clash (variable_satisfiable b.symbols (it c.before.before.before.before.before.before) c.requires.1)
-    (because (rule c.before.before.before.before.before.before) b.rows b.rules (lent c.before.before.before.before.before.before) (told c.before.before.before.before ∙ c.enum_told-1.given.1))
+    let a = c.before.before.before in
+    let s = a.before.before in
+    let b = s.args.board in
+    clash (variable_satisfiable b.symbols (it s) s.requires.1)
+    (because (rule s) b.rows b.rules (lent s) (told a ∙ c.in-Unsatisfiable.is))
 
 returns_2 : tie.Need-returns-in-Full
 returns_2 c =
-    let b = c.args.board in
-    let table = c.args.table.now in
-    let r = because (rule c.before.before.before.before.before.before) b.rows b.rules (lent c.before.before.before.before.before.before) (told c.before.before.before.before ∙ c.enum_told-in-Full-1.given.1) in
-    let full = one_rule_fits b.symbols b.rows b.rules (lent c.before.before.before.before.before.before) (it c.before.before.before.before.before.before) (good c.before.before.before.before.before.before).few ∙ r.1 in
-    let all = told_full table b (positions (it c.before.before.before.before.before.before)) c.requires.0 c.requires.1 full in
-    (c.refused-in-Full.ensures ∙ all.answer_is, left c.before.before.before.before ∙ sym (table_full (rule c.before.before.before.before.before.before) b.rows b.rules (lent c.before.before.before.before.before.before) table r.0 r.1).1 ∙ all.table_is)
+    let a = c.before.before.before in
+    let s = a.before.before in
+    let b = s.args.board in
+    let table = s.args.table.now in
+    let r = because (rule s) b.rows b.rules (lent s) (told a ∙ c.in-Full.is) in
+    let full = one_rule_fits b.symbols b.rows b.rules (lent s) (it s) (good s).few ∙ r.1 in
+    let all = told_full table b (positions (it s)) s.requires.0 s.requires.1 full in
+    (c.refused-in-Full.ensures ∙ all.answer_is, left a ∙ sym (table_full (rule s) b.rows b.rules (lent s) table r.0 r.1).1 ∙ all.table_is)
 
 done_requires : tie.Need-done-requires
 done_requires c κs =
-    let b = c.args.board in
-    let r = because (rule c.before.before.before.before.before.before) b.rows b.rules (lent c.before.before.before.before.before.before) (told c.before.before.before.before ∙ c.added-1.given.1) in
-    let f = fits_facts b.rows b.rules (lent c.before.before.before.before.before.before) (rows_of (rule c.before.before.before.before.before.before)) r.1 in
-    (omega (arith, r.2, f.0), omega (arith, f.1, (good c.before.before.before.before.before.before).few))
+    let a = c.before.before in
+    let s = a.before.before in
+    let b = s.args.board in
+    let r = because (rule s) b.rows b.rules (lent s) (told a ∙ c.in-Rows.is) in
+    let f = fits_facts b.rows b.rules (lent s) (rows_of (rule s)) r.1 in
+    (omega (arith, r.2, f.0), omega (arith, f.1, (good s).few))
 
 -- the rows of the entry are those of its one rule
 rows : (s : tie.Start) → rows_of_entry s.args.board.symbols (positions (it s)) ≡ rows_of (rule s)
@@ -76,14 +85,16 @@ rows s = append-nil (rows_of (rule s))
 returns_3 : tie.Need-returns-in-Rows
 unfolding formulae_of
 returns_3 c =
-    let b = c.args.board in
-    let table = c.args.table.now in
-    let r = because (rule c.before.before.before.before.before.before.before) b.rows b.rules (lent c.before.before.before.before.before.before.before) (told c.before.before.before.before.before ∙ c.added-1.given.1) in
-    let room = one_rule_fits b.symbols b.rows b.rules (lent c.before.before.before.before.before.before.before) (it c.before.before.before.before.before.before.before) (good c.before.before.before.before.before.before.before).few ∙ r.1 in
-    let all = told_done table b (positions (it c.before.before.before.before.before.before.before)) c.requires.0 c.requires.1 room in (
-      c.done.ensures ∙ rw (r.2 ∙ sym (ap length (rows c.before.before.before.before.before.before.before))) all.answer_is,
-      left c.before.before.before.before.before ∙ sym (told_rows (rule c.before.before.before.before.before.before.before) b.rows b.rules (lent c.before.before.before.before.before.before.before) table r.0 r.1).1
-          ∙ ap (appended table b.rows) (sym (of_one_rule (suc b.rules) (rule c.before.before.before.before.before.before.before)))
+    let a = c.before.before.before in
+    let s = a.before.before in
+    let b = s.args.board in
+    let table = s.args.table.now in
+    let r = because (rule s) b.rows b.rules (lent s) (told a ∙ c.in-Rows.is) in
+    let room = one_rule_fits b.symbols b.rows b.rules (lent s) (it s) (good s).few ∙ r.1 in
+    let all = told_done table b (positions (it s)) s.requires.0 s.requires.1 room in (
+      c.done.ensures ∙ rw (r.2 ∙ sym (ap length (rows s))) all.answer_is,
+      left a ∙ sym (told_rows (rule s) b.rows b.rules (lent s) table r.0 r.1).1
+          ∙ ap (appended table b.rows) (sym (of_one_rule (suc b.rules) (rule s)))
           ∙ all.table_is,
     )
 

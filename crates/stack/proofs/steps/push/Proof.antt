@@ -32,21 +32,24 @@ returns c = rw (sym c.good_stacks.ensures ∙ not-true _ c.if-not-good_stacks.tr
 
 on_top_requires : tie.Need-on_top-requires
 on_top_requires c κs =
-    let s = start c.before.before in
+    let w = c.before in
+    let s = start w in
     let a = s.args in
-    let d = flag_done _ _ _ _ true AlreadyHeld (says c.before.before ∙ c.enum_told-1.given.1) in
-    let k = known _ _ _ _ (good c.before.before.before) d.is_good_lem d.is_furnace (long s).0 (long s).1 in
+    let d = flag_done _ _ _ _ true AlreadyHeld (says w ∙ c.in-Done.is) in
+    let k = known _ _ _ _ (good w.before) d.is_good_lem d.is_furnace (long s).0 (long s).1 in
     omega (arith, room_left _ _ _ a.l k.is_good_lem k.places d.in_range_lem d.was, k.symbols)
 
 returns_2 : tie.Need-returns-in-Refused
 unfolding pushed push_faults flag_changed
 returns_2 c =
-    rw (good c.before.before.before.before.before, says c.before.before.before.before ∙ c.outcome-1.given.1) c.refused-in-Refused.ensures
+    let w = c.before.before in
+    rw (good w.before, says w ∙ c.in-Refused.is) c.refused-in-Refused.ensures
 
 returns_3 : tie.Need-returns-in-Done
 unfolding pushed push_faults flag_changed
 returns_3 c =
-    rw (same c.before.before.before, c.on_top.ensures, to_z-of_z (start c.before.before.before).ranges.l, good c.before.before.before.before, says c.before.before.before ∙ c.enum_told-1.given.1)
+    let w = c.before.before in
+    rw (same w, c.on_top.ensures, to_z-of_z w.ranges.l, good w.before, says w ∙ c.in-Done.is)
 
 pub push_spec : {M : Type 1} → statement M
 push_spec = tie.close (tie.spec

@@ -35,10 +35,10 @@ says c = ap (λ r. r.outcome) (sym (same c))
 
 -- where it is done
 abbrev at : tie.In-Done → tie.After-withdraw-change
-at c = c.before.before
+at c = c.before
 
 done : (c : tie.In-Done) → let a = (start (at c)).args in (withdraw_answer a.table.now a.board a.furnace a.l).outcome ≡ Done
-done c = says (at c) ∙ c.enum_told-1.given.1
+done c = says (at c) ∙ c.in-Done.is
 
 -- whether it is stacked
 told : (c : tie.After-is_stacked) → let a = (start (at c.before.before)).args in stacked a.stacks a.furnace a.l ≡ c.is_stacked.result
@@ -51,11 +51,12 @@ returns c = rw (sym c.good_stacks.ensures ∙ not-true _ c.if-not-good_stacks.tr
 
 is_stacked_requires : tie.Need-is_stacked-requires
 is_stacked_requires c κs =
-    let s = start c.before.before.before in
+    let w = c.before.before in
+    let s = start w in
     let a = s.args in
     let S = a.board.symbols in
     let d = flag_done _ _ _ _ false NotHeld (done c.before) in
-    let k = known _ _ _ _ (good c.before.before.before.before) d.is_good_lem d.is_furnace (long s).0 (long s).1 in
+    let k = known _ _ _ _ (good w.before) d.is_good_lem d.is_furnace (long s).0 (long s).1 in
     rw c.stack_of.ensures (
       k.most,
       all_imp (λ l. in_range S l && has (held_by a.board a.furnace) (place_of l)) (in_range 200) (on_stack (stack_of a.stacks a.furnace))
@@ -65,15 +66,21 @@ is_stacked_requires c κs =
 
 returns_2 : tie.Need-returns-then-is_stacked
 returns_2 c =
-    c.refused-then-is_stacked.ensures ∙ sym (withdraw_stacked _ _ _ _ _ (good c.before.before.before.before.before.before.before) (done c.before.before.before.before) (told c.before.before ∙ c.if-is_stacked.true))
+    let i = c.before.before in
+    let t = i.before.before in
+    c.refused-then-is_stacked.ensures ∙ sym (withdraw_stacked _ _ _ _ _ (good t.before.before) (done t) (told i ∙ c.if-is_stacked.true))
 
 returns_3 : tie.Need-returns-in-Refused
 returns_3 c =
-    c.refused-in-Refused.ensures ∙ sym (withdraw_refused _ _ _ _ _ (good c.before.before.before.before.before) (says c.before.before.before.before ∙ c.outcome-1.given.1))
+    let w = c.before.before in
+    c.refused-in-Refused.ensures ∙ sym (withdraw_refused _ _ _ _ _ (good w.before) (says w ∙ c.in-Refused.is))
 
 returns_4 : tie.Need-returns-else-is_stacked
 returns_4 c =
-    rw (same c.before.before.before.before.before) (sym (withdraw_done _ _ _ _ _ (good c.before.before.before.before.before.before) (done c.before.before.before) (told c.before ∙ c.if-is_stacked.false)))
+    let i = c.before in
+    let t = i.before.before in
+    let w = at t in
+    rw (same w) (sym (withdraw_done _ _ _ _ _ (good w.before) (done t) (told i ∙ c.if-is_stacked.false)))
 
 pub withdraw_spec : {M : Type 1} → statement M
 withdraw_spec = tie.close (tie.spec

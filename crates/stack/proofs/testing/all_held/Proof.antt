@@ -30,21 +30,21 @@ at c = c.before.before.before.before
 
 -- what the literals after it tell, with its flag struck off
 abbrev rest : tie.At-loop-k invariant_loop decreases_loop → Bool
-rest l = let a = l.args in all_struck a.symbols (set l.loop-k.false (place_of (here l)) false) (drop (l.loop-k.k + 1) a.on.now)
+rest l = let a = l.args in all_struck a.symbols (set l.loop-k.left (place_of (here l)) false) (drop (l.loop-k.k + 1) a.on.now)
 
 next : (c : tie.After-is_flagged invariant_loop decreases_loop) → let a = (at c).args in
     all_struck a.symbols a.held a.on.now ≡ (c.is_flagged.result && rest (at c))
 next c =
     let l = at c in
     let a = l.args in
-    let test : ℤ → Bool = λ m. in_range a.symbols m && has l.loop-k.false (place_of m) in
-    sym l.loop-k.invariant.2 ∙ struck_drop a.symbols l.loop-k.false a.on.now l.loop-k.k (omega arith)
+    let test : ℤ → Bool = λ m. in_range a.symbols m && has l.loop-k.left (place_of m) in
+    sym l.loop-k.invariant.2 ∙ struck_drop a.symbols l.loop-k.left a.on.now l.loop-k.k (omega arith)
     ∙ ap (λ (b : Bool). b && rest l) (sym (c.is_flagged.ensures ∙ ap test (to_z-of_z (fits c.before.before))))
 
 within : (c : tie.Else-not-is_flagged invariant_loop decreases_loop) → in_range 200 (back (here (at c.before))) ≡ true
 within c =
     let l = at c.before in
-    flag_within l.args.symbols 200 l.loop-k.false (back (here l)) l.loop-k.invariant.1
+    flag_within l.args.symbols 200 l.loop-k.left (back (here l)) l.loop-k.invariant.1
     (sym c.is_flagged.ensures ∙ not-false _ c.if-not-is_flagged.false-raw)
 
 returns : tie.Need-returns-then-not-is_flagged invariant_loop decreases_loop
@@ -59,7 +59,7 @@ loop_again c =
     let a = l.args in (
       omega arith,
       simp length-set l.loop-k.invariant.1,
-      ap (λ p. all_struck a.symbols (set l.loop-k.false p false) (drop (l.loop-k.k + 1) a.on.now))
+      ap (λ p. all_struck a.symbols (set l.loop-k.left p false) (drop (l.loop-k.k + 1) a.on.now))
           (c.place.ensures ∙ ap place_of (to_z-of_z (fits c.before.before.before.before)))
           ∙ sym (next c.before.before ∙ ap (λ (b : Bool). b && rest l) (not-false c.is_flagged.result c.if-not-is_flagged.false-raw)),
     )
@@ -67,7 +67,7 @@ loop_again c =
 returns_2 : tie.Need-returns invariant_loop decreases_loop
 returns_2 c =
     let a = c.args in
-    sym (ap (all_struck a.symbols c.loop-k.false) (drop_of_length-le a.on.now {i = c.loop-k.k} (omega arith))) ∙ c.loop-k.invariant.2
+    sym (ap (all_struck a.symbols c.loop-k.left) (drop_of_length-le a.on.now {i = c.loop-k.k} (omega arith))) ∙ c.loop-k.invariant.2
 
 pub all_held_spec : {M : Type 1} → statement M
 all_held_spec = tie.close (tie.spec

@@ -13,7 +13,7 @@ long : (c : tie.Joined-count-lt400) → length (start c).args.stack.literals ≡
 long c = search rules
 
 short : (c : tie.Joined-count-lt400) → c.if-count-lt400.on ≤ 400
-short c = ⊎_elim (λ t. omega (arith, t.0.true, t.1)) (λ t. omega (arith, t.1)) c.if-count-lt400.branch
+short c = ⊎_elim (λ t. omega (arith, t.if-count-lt400.true, t.on-is)) (λ t. omega (arith, t.on-is)) c.if-count-lt400.branch-raw
 
 -- the literals that are looked at are those on the stack
 same : (c : tie.Joined-count-lt400) → take c.if-count-lt400.on (start c).args.stack.literals ≡ on_stack (start c).args.stack
@@ -21,9 +21,9 @@ same c =
     let s = (start c).args.stack in
     let whole : (n : ℕ) → 400 ≤ n → take n s.literals ≡ s.literals = λ n h. take_all n s.literals (omega (arith, long c, h)) in
     ⊎_elim
-    (λ t. ap (λ n. take n s.literals) t.1)
-    (λ t. whole c.if-count-lt400.on (omega (arith, t.1)) ∙ sym (whole s.count t.0.false))
-    c.if-count-lt400.branch
+    (λ t. ap (λ n. take n s.literals) t.on-is)
+    (λ t. whole c.if-count-lt400.on (omega (arith, t.on-is)) ∙ sym (whole s.count t.if-count-lt400.false))
+    c.if-count-lt400.branch-raw
 
 returns : tie.Need-returns-then-symbols-count
 unfolding good_stack
