@@ -79,7 +79,7 @@ module _ (S : ℕ) (entries : List Entry) (held : List Bool) (ok : all (suits S)
       let may : ℕ → Bool = s.may (c - s.own.first) in
       let lost : ℕ → Bool = λ j. not (may j) || has gone (symbol_at s.partner j) in
       let each : (j : ℕ) → j < s.partner.count → (f : Bool) → s.may i j ≡ f → lost j ≡ true =
-      λ j b f. elim f [
+      λ j b f. elim f as (λ (k : Bool). s.may i j ≡ k → lost j ≡ true) [
         | true ↦ λ q. or_right (not (may j)) (has gone (symbol_at s.partner j)) (removed_found (away j b q) both.1 b)
         | false ↦ λ q. or_left (not (may j)) (has gone (symbol_at s.partner j)) (not_intro (may j) (rw back q))
       ] in

@@ -11,33 +11,27 @@ it s = let a = s.args in pair_table a.first a.count a.other a.others a.pairs
 
 append_side_requires : tie.Need-append_side-requires
 append_side_requires c κs =
-    let s = c.before.before in
-    let p = s.requires.0 in
+    let p = c.requires.0 in
     rw c.seen_from.ensures (
       record { some = (p.0, p.1); few = (p.2, p.3); within = (p.4, p.5) },
-      omega (arith, s.requires.1.0),
-      omega (arith, s.requires.1.1),
+      omega (arith, c.requires.1.0),
+      omega (arith, c.requires.1.1),
     )
 
 append_side_requires_2 : tie.Need-append_side-requires-2
 append_side_requires_2 c κs =
-    let a = c.before.before.before in
-    let s = a.before.before.before in
-    let p = s.requires.0 in
+    let p = c.requires.0 in
     rw c.seen_from-2.ensures (
       record { some = (p.1, p.0); few = (p.3, p.2); within = (p.5, p.4) },
-      omega (arith, s.requires.1.0),
-      omega (arith, s.requires.1.1, a.append_side.auto.table),
+      omega (arith, c.requires.1.0),
+      omega (arith, c.requires.1.1, c.append_side.auto.table),
     )
 
 returns : tie.Need-returns
 returns c =
-    let b = c.before in
-    let f = b.before.before in
-    let a = f.before.before in
-    let s = a.before.before.before in
-    b.append_side-2.ensures ∙ rw (b.before.seen_from-2.ensures, a.append_side.ensures, a.before.seen_from.ensures)
-    (both_written (it s) s.args.rows s.args.rules s.args.table-1.now s.requires.1.1)
+    let s = c.before.before.before.before.before.before.before.before in
+    c.append_side-2.ensures ∙ rw (c.seen_from-2.ensures, c.append_side.ensures, c.seen_from.ensures)
+    (both_written (it s) c.args.rows c.args.rules c.args.table.now c.requires.1.1)
 
 pub append_both_spec : {M : Type 1} → statement M
 append_both_spec = tie.close (tie.spec

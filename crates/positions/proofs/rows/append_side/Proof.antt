@@ -22,7 +22,7 @@ loop_again c =
 
 pub append_side_spec : {M : Type 1} → statement M
 append_side_spec = tie.close (tie.spec
-    invariant_loop decreases_loop (λ c. written_none (side_of c.args.v) c.args.rules c.args.row c.args.table-1.now) (λ c. omega arith)
+    invariant_loop decreases_loop (λ c. written_none (side_of c.args.v) c.args.rules c.args.row c.args.table.now) (λ c. omega arith)
     (λ c. omega arith) (λ c. omega arith) (λ c κs. ((start c.before).requires.0, c.before.loop-i-test.true, omega arith, omega arith)) (λ c. omega arith)
     (λ c. omega arith) loop_again (λ c. c.before.before.loop-i.invariant.same)
     (λ c. written_all _ _ _ _ _ _ c.before.before.loop-i.invariant c.loop-i-test.false))

@@ -13,35 +13,29 @@ else_start c = c.before.before.before.before
 
 returns : tie.Need-returns-then-v
 returns c =
-    let f = c.before.before in
-    let t = f.before.before in
-    let s = start t in
-    let a = s.args in
-    let p = f.put_partners in
+    let a = c.args in
+    let p = c.put_partners in
     let e = p.ensures in (
       e.0,
-      omega (arith, e.1, s.requires.0.few.1),
-      own_first (side_of a.v) a.i a.row-1.now t.if-v.true s.requires.2 p.new.0 p.result e.2,
+      omega (arith, e.1, c.requires.0.few.1),
+      own_first (side_of a.v) a.i a.row.now c.if-v.true c.requires.2 p.new.row p.result e.2,
     )
 
 returns_2 : tie.Need-returns
 returns_2 c =
-    let f = c.before.before in
-    let t = f.before.before in
-    let s = else_start t in
-    let a = s.args in
-    let p = f.put_partners-n in
+    let a = c.args in
+    let p = c.put_partners-n in
     let e = p.ensures in (
       simp length-set e.0,
-      omega (arith, e.1, s.requires.0.few.1),
-      own_last (side_of a.v) a.i a.row-1.now (omega (arith, t.if-v.false)) p.new.0 p.result (omega arith) e.2,
+      omega (arith, e.1, c.requires.0.few.1),
+      own_last (side_of a.v) a.i a.row.now (omega (arith, c.if-v.false)) p.new.row p.result (omega arith) e.2,
     )
 
 pub put_clause_spec : {M : Type 1} → statement M
 put_clause_spec = tie.close (tie.spec
     (λ c. omega arith) (λ c. omega arith) (λ c. omega arith) (λ c. omega arith) (λ c. omega arith)
     (λ c κs. (let s = start c.before in (s.requires.0, s.requires.1, omega arith, simp length-set s.requires.2)))
-    (λ c. (let p = c.before.before in p.put_partners.ensures.0 ∙ sym (start p.before.before).requires.2)) returns
+    (λ c. c.put_partners.ensures.0 ∙ sym c.requires.2) returns
     (λ c κs. (let s = else_start c.before in (s.requires.0, s.requires.1, omega arith, s.requires.2))) (λ c. search rules) (λ c. omega arith)
     (λ c. omega arith)
-    (λ c. (let p = c.before.before in simp length-set (p.put_partners-n.ensures.0 ∙ sym (else_start p.before.before).requires.2))) returns_2)
+    (λ c. simp length-set (c.put_partners-n.ensures.0 ∙ sym c.requires.2)) returns_2)

@@ -16,26 +16,23 @@ start c = c.before.before
 
 loop_again : tie.Need-loop-j-preserved invariant_loop decreases_loop
 loop_again c =
-    let m = c.before in
-    let t = m.before in
-    let l = t.before.before in
-    let a = (start l).args in
+    let a = c.args in
     ⊎_elim
-    (λ w. subst₂ (λ row n. Gathered (side_of a.v) a.i a.at a.row.now row n (l.loop-j.j + 1)) (sym w.2) (sym w.3)
-    (gathered_one _ _ _ _ _ _ _ l.loop-j.invariant t.loop-j-test.true (sym m.may.ensures ∙ w.0.true) (omega arith)))
-    (λ w. subst₂ (λ row n. Gathered (side_of a.v) a.i a.at a.row.now row n (l.loop-j.j + 1)) (sym w.1) (sym w.2)
-    (gathered_passed _ _ _ _ _ _ _ l.loop-j.invariant t.loop-j-test.true (sym m.may.ensures ∙ w.0.false)))
-    c.if-may.branch
+    (λ w. subst₂ (λ row n. Gathered (side_of a.v) a.i a.at a.row.now row n (c.loop-j.j + 1)) (sym w.row-is) (sym w.n-is)
+    (gathered_one _ _ _ _ _ _ _ c.loop-j.invariant c.loop-j-test.true (sym c.may.ensures ∙ w.if-may.true) (omega arith)))
+    (λ w. subst₂ (λ row n. Gathered (side_of a.v) a.i a.at a.row.now row n (c.loop-j.j + 1)) (sym w.row-is) (sym w.n-is)
+    (gathered_passed _ _ _ _ _ _ _ c.loop-j.invariant c.loop-j-test.true (sym c.may.ensures ∙ w.if-may.false)))
+    c.if-may.branch-raw
 
 returns : tie.Need-returns invariant_loop decreases_loop
 returns c =
-    let g = c.before.before.loop-j.invariant in
+    let g = c.loop-j.invariant in
     (g.long, omega (arith, g.few, g.within), gathered_all _ _ _ _ _ _ _ g c.loop-j-test.false)
 
 pub put_partners_spec : {M : Type 1} → statement M
 put_partners_spec = tie.close (tie.spec
     invariant_loop decreases_loop
-    (λ c. gathered_none (side_of c.before.args.v) c.before.args.i c.before.args.at c.before.args.row.now c.before.requires.3)
+    (λ c. gathered_none (side_of c.args.v) c.args.i c.args.at c.args.row.now c.requires.3)
     (λ c κs. (omega arith, omega arith)) (λ c. omega arith) (λ c. omega arith) (λ c. omega arith) (λ c. omega arith) (λ c. omega arith)
     (λ c. omega arith) (λ c. omega arith) (λ c. omega arith) loop_again
-    (λ c. (let l = c.before.before in l.loop-j.invariant.long ∙ sym (start l).requires.3)) returns)
+    (λ c. c.loop-j.invariant.long ∙ sym c.requires.3) returns)

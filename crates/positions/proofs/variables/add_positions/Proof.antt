@@ -10,54 +10,45 @@ use Rattle.positions.proofs.variables.add_positions.Statement.{statement}
 use Rattle.positions.proofs.variables.add_positions.Tie as tie
 
 abbrev start : tie.Else-not-good → tie.Start
-start c = c.before.before.before
+start c = c.before.before
 
 returns : tie.Need-returns-then-not-good
 returns c =
-    let g = c.before.before in
-    let a = g.before.before.args in
-    let spoilt = sym g.good2.ensures ∙ not-true _ c.before.if-not-good.true-raw in
-    let told = told_spoilt a.table-1.now a.board (variable_of a.first a.count) spoilt in
+    let a = c.args in
+    let spoilt = sym c.good.ensures ∙ not-true _ c.if-not-good.true-raw in
+    let told = told_spoilt a.table.now a.board (variable_of a.first a.count) spoilt in
     (c.refused.ensures ∙ told.answer_is, told.table_is)
 
 -- the board is good
-good : (c : tie.Else-not-good) → let a = (start c).args in good_board a.table-1.now a.board ≡ true
-good c = sym c.before.good2.ensures ∙ not-false _ c.if-not-good.false-raw
+good : (c : tie.Else-not-good) → let a = (start c).args in good_board a.table.now a.board ≡ true
+good c = sym c.good.ensures ∙ not-false _ c.if-not-good.false-raw
 
 returns_2 : tie.Need-returns-then-not-on_board
 unfolding symbols_fit
 returns_2 c =
-    let o = c.before.before in
-    let e = o.before in
-    let a = (start e).args in
-    let off = sym o.on_board.ensures ∙ not-true _ c.before.if-not-on_board.true-raw in
-    let told = told_own a.table-1.now a.board (variable_of a.first a.count) (good e) BadLiteral (rw off) in
+    let a = (start c.before.before.before).args in
+    let off = sym c.on_board.ensures ∙ not-true _ c.if-not-on_board.true-raw in
+    let told = told_own a.table.now a.board (variable_of a.first a.count) (good c.before.before.before) BadLiteral (rw off) in
     (c.refused-then-not-on_board.ensures ∙ told.answer_is, told.table_is)
 
 -- the variable is one of the board's
 on : (c : tie.Else-not-on_board) → let a = (start c.before.before).args in
     on_board a.board.symbols (record { first = a.first; count = a.count }) ≡ true
-on c = sym c.before.on_board.ensures ∙ not-false _ c.if-not-on_board.false-raw
+on c = sym c.on_board.ensures ∙ not-false _ c.if-not-on_board.false-raw
 
 returns_3 : tie.Need-returns-then-not-has_count
 unfolding symbols_fit well_formed
 returns_3 c =
-    let h = c.before.before in
-    let o = h.before in
-    let e = o.before.before in
-    let a = (start e).args in
-    let few = sym h.has_count.ensures ∙ not-true _ c.before.if-not-has_count.true-raw in
-    let told = told_own a.table-1.now a.board (variable_of a.first a.count) (good e) BadPositions (rw (on o, few)) in
+    let a = (start c.before.before.before.before.before).args in
+    let few = sym c.has_count.ensures ∙ not-true _ c.if-not-has_count.true-raw in
+    let told = told_own a.table.now a.board (variable_of a.first a.count) (good c.before.before.before.before.before) BadPositions (rw (on c.before.before.before, few)) in
     (c.refused-then-not-has_count.ensures ∙ told.answer_is, told.table_is)
 
 enter_requires : tie.Need-enter-requires
 unfolding symbols_fit well_formed possible
 enter_requires c κs =
-    let t = c.before in
-    let o = t.before.before in
-    let e = o.before.before in
-    let right = sym t.before.has_count.ensures ∙ not-false _ t.if-not-has_count.false-raw in
-    (good e, rw (on o, right))
+    let right = sym c.has_count.ensures ∙ not-false _ c.if-not-has_count.false-raw in
+    (good c.before.before.before.before.before, rw (on c.before.before.before, right))
 
 pub add_positions_spec : {M : Type 1} → statement M
 add_positions_spec = tie.close (tie.spec

@@ -17,7 +17,7 @@ abbrev start : tie.After-names-1 → tie.Start
 start c = c.before.before.before.before
 
 abbrev listing : tie.After-append_rule-arg-1 → tie.After-list_symbols
-listing c = c.before.before.before.before
+listing c = c.before.before.before
 
 -- how many values the truth table has
 abbrev values : tie.Start → ℕ
@@ -74,7 +74,7 @@ slice_aggregate_mark_single : tie.Need-slice_bounds-mark_single-end
 slice_aggregate_mark_single c = sym (ap length (falses c.before) ∙ length-replicate (values c.before) false)
 
 mark_single_requires : tie.Need-mark_single-requires
-mark_single_requires c κs = (c.before.requires.2, falses c.before ∙ ap (λ (n : ℕ). replicate n false) (values_is c.before))
+mark_single_requires c κs = (c.requires.2, falses c.before ∙ ap (λ (n : ℕ). replicate n false) (values_is c.before))
 
 list_symbols_requires : tie.Need-list_symbols-requires
 list_symbols_requires c κs = let s = start c in omega (arith, names s, s.requires.1)
@@ -83,7 +83,7 @@ array_share_prefix_names : tie.Need-slice_bounds-names-end-2
 array_share_prefix_names c =
     let l = listing c in
     let a = (start l.before).args in
-    omega (arith, listed_long l, length-append l.list_symbols.last.0 (drop a.count places))
+    omega (arith, listed_long l, length-append l.list_symbols.new.names (drop a.count places))
 
 slice_aggregate_append_rule : tie.Need-slice_bounds-append_rule-end
 slice_aggregate_append_rule c =
@@ -94,21 +94,19 @@ slice_aggregate_append_rule c =
 array_share_prefix_truth : tie.Need-slice_bounds-truth-end-2
 array_share_prefix_truth c =
     let m = (listing c.before).before.before.before in
-    omega (arith, table_long m, length-append m.mark_single.last.0 (drop (values m.before.before) (replicate 128 false)))
+    omega (arith, table_long m, length-append m.mark_single.new.truth (drop (values m.before.before) (replicate 128 false)))
 
 slice_aggregate_append_rule_2 : tie.Need-slice_bounds-append_rule-end-2
 slice_aggregate_append_rule_2 c =
     let m = (listing c.before.before).before.before.before in
-    let s = m.before.before in
-    sym (ap length (table m) ∙ length_only s.args.count ∙ sym (values_is s))
+    sym (ap length (table m) ∙ length_only m.args.count ∙ sym (values_is m.before.before))
 
 append_rule_requires : tie.Need-append_rule-requires
 append_rule_requires c κs =
-    let r = c.before.before.before in
-    let l = r.before.before.before in
+    let l = c.before.before.before.before.before in
     let m = l.before.before.before in
     let s = m.before.before in
-    let lent : r.rows_lent-lent.result ≡ rows_lent s.args.table-1.now = r.rows_lent-lent.ensures in
+    let lent : c.rows_lent-lent.result ≡ rows_lent s.args.table.now = c.rows_lent-lent.ensures in
     let long = length_from s.args.first s.args.count in (
       (
         omega (arith, ap length (listed l) ∙ long, s.requires.2),
@@ -120,13 +118,10 @@ append_rule_requires c κs =
 
 returns : tie.Need-returns
 returns c =
-    let a = c.before.append_rule in
-    let h = c.before.before in
-    let r = h.before.before.before in
-    let l = r.before.before.before in
+    let a = c.append_rule in
+    let l = c.before.before.before.before.before.before.before in
     let m = l.before.before.before in
-    let s = m.before.before in
-    let lent : r.rows_lent-lent.result ≡ rows_lent s.args.table-1.now = r.rows_lent-lent.ensures in
+    let lent : c.rows_lent-lent.result ≡ rows_lent c.args.table.now = c.rows_lent-lent.ensures in
     (a.ensures.0 ∙ rw (listed l, table m, lent), a.ensures.1 ∙ rw (listed l, table m, lent))
 
 pub append_spec : {M : Type 1} → statement M

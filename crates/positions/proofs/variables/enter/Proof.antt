@@ -24,9 +24,9 @@ abbrev rule : tie.Start → Rule
 rule s = rule_of s.args.board.symbols (exactly_one s.args.first (s.args.count - 1))
 
 abbrev lent : tie.Start → ℕ
-lent s = rows_lent s.args.table-1.now
+lent s = rows_lent s.args.table.now
 
-good : (s : tie.Start) → Good s.args.table-1.now s.args.board
+good : (s : tie.Start) → Good s.args.table.now s.args.board
 good s = good_is _ _ s.requires.0
 
 append_requires : tie.Need-append-requires
@@ -43,40 +43,37 @@ told c =
     sym (c.append.ensures.0 ∙ rule_answer s.args.board.symbols (it s) s.requires.1 s.args.board.rows s.args.board.rules (lent s))
 
 left : (c : tie.After-append) → let s = c.before.before in
-    c.append.new.table ≡ table_of (rule s) s.args.board.rows s.args.board.rules (lent s) s.args.table-1.now
+    c.append.new.table ≡ table_of (rule s) s.args.board.rows s.args.board.rules (lent s) s.args.table.now
 left c =
     let s = c.before.before in
     c.append.ensures.1
-    ∙ rule_table s.args.board.symbols (it s) s.requires.1 s.args.board.rows s.args.board.rules (lent s) s.args.table-1.now
+    ∙ rule_table s.args.board.symbols (it s) s.requires.1 s.args.board.rows s.args.board.rules (lent s) s.args.table.now
 
 returns : tie.Need-returns-in-Unsatisfiable
 returns c =
-    let t = c.before in
-    let a = t.before.before.before in
+    let a = c.before.before.before in
     let s = a.before.before in
     let b = s.args.board in
     clash (variable_satisfiable b.symbols (it s) s.requires.1)
-    (because (rule s) b.rows b.rules (lent s) (told a ∙ t.enum_told-1.given.1))
+    (because (rule s) b.rows b.rules (lent s) (told a ∙ c.in-Unsatisfiable.is))
 
 returns_2 : tie.Need-returns-in-Full
 returns_2 c =
-    let t = c.before in
-    let a = t.before.before.before in
+    let a = c.before.before.before in
     let s = a.before.before in
     let b = s.args.board in
-    let table = s.args.table-1.now in
-    let r = because (rule s) b.rows b.rules (lent s) (told a ∙ t.enum_told-in-Full-1.given.1) in
+    let table = s.args.table.now in
+    let r = because (rule s) b.rows b.rules (lent s) (told a ∙ c.in-Full.is) in
     let full = one_rule_fits b.symbols b.rows b.rules (lent s) (it s) (good s).few ∙ r.1 in
     let all = told_full table b (positions (it s)) s.requires.0 s.requires.1 full in
     (c.refused-in-Full.ensures ∙ all.answer_is, left a ∙ sym (table_full (rule s) b.rows b.rules (lent s) table r.0 r.1).1 ∙ all.table_is)
 
 done_requires : tie.Need-done-requires
 done_requires c κs =
-    let t = c.before in
-    let a = t.before.before.before in
+    let a = c.before.before in
     let s = a.before.before in
     let b = s.args.board in
-    let r = because (rule s) b.rows b.rules (lent s) (told a ∙ t.added-1.given.1) in
+    let r = because (rule s) b.rows b.rules (lent s) (told a ∙ c.in-Rows.is) in
     let f = fits_facts b.rows b.rules (lent s) (rows_of (rule s)) r.1 in
     (omega (arith, r.2, f.0), omega (arith, f.1, (good s).few))
 
@@ -88,12 +85,11 @@ rows s = append-nil (rows_of (rule s))
 returns_3 : tie.Need-returns-in-Rows
 unfolding formulae_of
 returns_3 c =
-    let t = c.before.before in
-    let a = t.before.before.before in
+    let a = c.before.before.before in
     let s = a.before.before in
     let b = s.args.board in
-    let table = s.args.table-1.now in
-    let r = because (rule s) b.rows b.rules (lent s) (told a ∙ t.added-1.given.1) in
+    let table = s.args.table.now in
+    let r = because (rule s) b.rows b.rules (lent s) (told a ∙ c.in-Rows.is) in
     let room = one_rule_fits b.symbols b.rows b.rules (lent s) (it s) (good s).few ∙ r.1 in
     let all = told_done table b (positions (it s)) s.requires.0 s.requires.1 room in (
       c.done.ensures ∙ rw (r.2 ∙ sym (ap length (rows s))) all.answer_is,

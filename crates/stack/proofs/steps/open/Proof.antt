@@ -6,11 +6,11 @@ use Rattle.stack.proofs.steps.open.Tie as tie
 
 returns : tie.Need-returns-in-Done
 unfolding opened_with
-returns c = let t = c.before in rw (← t.before.before.«open».ensures, t.enum_told-1.given.1, c.empty_stacks-next.ensures)
+returns c = rw (← c.open-change.ensures, c.in-Done.is, c.empty_stacks-next.ensures)
 
 returns_2 : tie.Need-returns-in-Refused
 unfolding opened_with
-returns_2 c = rw (← c.before.before.«open».ensures, c.enum_told-in-Refused-1.given.1)
+returns_2 c = rw (← c.open-change.ensures, c.in-Refused.is)
 
 pub open_spec : {M : Type 1} → statement M
 open_spec = tie.close (tie.spec (λ c κs. search rules) (λ c. search rules) (λ c κs. search rules) (λ c. search rules) returns returns_2)

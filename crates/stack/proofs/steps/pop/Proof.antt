@@ -13,15 +13,15 @@ use Rattle.stack.proofs.Known.{Known, known}
 use Rattle.stack.proofs.steps.pop.Statement.{statement}
 use Rattle.stack.proofs.steps.pop.Tie as tie
 
-good : (c : tie.Else-not-good_stacks) → let s = c.before.before in good_stacks s.args.board s.args.stacks ≡ true
-good c = sym c.before.good_stacks.ensures ∙ not-false _ c.if-not-good_stacks.false-raw
+good : (c : tie.Else-not-good_stacks) → let s = c in good_stacks s.args.board s.args.stacks ≡ true
+good c = sym c.good_stacks.ensures ∙ not-false _ c.if-not-good_stacks.false-raw
 
 -- where the stacks are known to be good
 abbrev first : tie.Else-not-good → tie.Else-not-good_stacks
 first c = c.before.before
 
-board : (c : tie.Else-not-good) → let a = (first c).before.before.args in good_board a.table.now a.board ≡ true
-board c = sym c.before.good2.ensures ∙ not-false _ c.if-not-good.false-raw
+board : (c : tie.Else-not-good) → let a = (first c).args in good_board a.table.now a.board ≡ true
+board c = sym c.good.ensures ∙ not-false _ c.if-not-good.false-raw
 
 -- where the board is, and where the call began
 abbrev second : tie.Else-not-is_furnace → tie.Else-not-good
@@ -31,7 +31,7 @@ abbrev start : tie.Else-not-is_furnace → tie.Start
 start c = (first (second c)).before.before
 
 furnace : (c : tie.Else-not-is_furnace) → is_furnace (start c).args.furnace ≡ true
-furnace c = sym c.before.is_furnace.ensures ∙ not-false _ c.if-not-is_furnace.false-raw
+furnace c = sym c.is_furnace.ensures ∙ not-false _ c.if-not-is_furnace.false-raw
 
 long : (s : tie.Start) → (length s.args.stacks.first.literals ≡ 400) × (length s.args.stacks.second.literals ≡ 400)
 long s = (search rules, search rules)
@@ -47,7 +47,7 @@ abbrev mine : tie.Else-stack-eq0 → Stack
 mine c = let a = (start (at c)).args in stack_of a.stacks a.furnace
 
 some : (c : tie.Else-stack-eq0) → 1 ≤ (mine c).count
-some c = rw (← c.before.before.stack_of-stack.ensures) (omega (arith, c.if-stack-eq0.false))
+some c = rw (← c.stack_of-stack.ensures) (omega (arith, c.if-stack-eq0.false))
 
 within : (c : tie.Else-stack-eq0) → in_range 200 (top (mine c)) ≡ true
 within c = let k = stack (at c) in range_more _ (top (mine c)) (top_held _ _ (mine c) k.good (some c) k.places).0 200 k.symbols
@@ -55,62 +55,54 @@ within c = let k = stack (at c) in range_more _ (top (mine c)) (top_held _ _ (mi
 -- what is placed is its top
 read : (c : tie.After-top_of) → back c.top_of.result ≡ top (mine c.before)
 read c =
-    let e = c.before in
-    ap back (c.top_of.ensures ∙ ap top e.before.before.stack_of-stack.ensures)
-    ∙ to_z-of_z (small_abs (top (mine e)) (omega (arith, (range_facts 200 (top (mine e)) (within e)).1)))
+    ap back (c.top_of.ensures ∙ ap top c.stack_of-stack.ensures)
+    ∙ to_z-of_z (small_abs (top (mine c.before)) (omega (arith, (range_facts 200 (top (mine c.before)) (within c.before)).1)))
 
 placed : (c : tie.After-place-p) → c.place-p.result ≡ place_of (top (mine c.before.before))
 placed c = c.place-p.ensures ∙ ap place_of (read c.before)
 
 returns : tie.Need-returns-then-not-good_stacks
 unfolding popped pop_faults
-returns c = rw (sym c.before.before.good_stacks.ensures ∙ not-true _ c.before.if-not-good_stacks.true-raw) c.refused.ensures
+returns c = rw (sym c.good_stacks.ensures ∙ not-true _ c.if-not-good_stacks.true-raw) c.refused.ensures
 
 returns_2 : tie.Need-returns-then-not-good
 unfolding popped pop_faults
-returns_2 c = let g = c.before.before in rw (good g.before, sym g.good2.ensures ∙ not-true _ c.before.if-not-good.true-raw) c.refused-then-not-good.ensures
+returns_2 c = let g = c in rw (good g.before.before.before, sym g.good.ensures ∙ not-true _ c.if-not-good.true-raw) c.refused-then-not-good.ensures
 
 returns_3 : tie.Need-returns-then-not-is_furnace
 unfolding popped pop_faults
 returns_3 c =
-    let f = c.before.before in
-    let b = f.before in
-    rw (good (first b), board b, sym f.is_furnace.ensures ∙ not-true _ c.before.if-not-is_furnace.true-raw) c.refused-then-not-is_furnace.ensures
+    rw (good (first c.before.before.before), board c.before.before.before, sym c.is_furnace.ensures ∙ not-true _ c.if-not-is_furnace.true-raw) c.refused-then-not-is_furnace.ensures
 
 returns_4 : tie.Need-returns-then-stack-eq0
 unfolding popped pop_faults
 returns_4 c =
-    let e = c.before in
-    let s = e.before.before in
-    let f = s.before in
-    let b = second f in
-    rw (good (first b), board b, furnace f, ← s.stack_of-stack.ensures, eq-eqb _ _ e.if-stack-eq0.true) c.refused-then-stack-eq0.ensures
+    let b = second c.before.before.before.before in
+    rw (good (first b), board b, furnace c.before.before.before.before, ← c.stack_of-stack.ensures, eq-eqb _ _ c.if-stack-eq0.true) c.refused-then-stack-eq0.ensures
 
 top_of_requires : tie.Need-top_of-requires
-top_of_requires c κs = rw c.before.before.stack_of-stack.ensures (some c, (stack (at c)).most)
+top_of_requires c κs = rw c.stack_of-stack.ensures (some c, (stack (at c)).most)
 
 place_requires : tie.Need-place-p-requires
-place_requires c κs = let e = c.before in rw (read c) (range_facts 200 (top (mine e)) (within e))
+place_requires c κs = let e = c in rw (read c) (range_facts 200 (top (mine e.before)) (within e.before))
 
 with_flag_requires : tie.Need-with_flag-requires
-with_flag_requires c κs = let e = c.before.before in omega (arith, placed c, place_fits 200 (top (mine e)) (within e))
+with_flag_requires c κs = let e = c in omega (arith, placed c, place_fits 200 (top (mine e.before.before)) (within e.before.before))
 
 less_top_requires : tie.Need-less_top-requires
-less_top_requires c κs = let e = c.before.before.before in (some e, (stack (at e)).most)
+less_top_requires c κs = let e = c in (some e.before.before.before, (stack (at e.before.before.before)).most)
 
 returns_5 : tie.Need-returns
 unfolding popped pop_faults
 returns_5 c =
-    let w = c.before in
-    let e = w.before.before.before in
-    let b = second (at e) in
+    let b = second (at c.before.before.before.before) in
     rw (
       good (first b),
       board b,
-      furnace (at e),
-      ne_eqb (mine e).count 0 (λ none. omega (arith, some e, none)),
-      w.with_flag.ensures,
-      placed w.before,
+      furnace (at c.before.before.before.before),
+      ne_eqb (mine c.before.before.before.before).count 0 (λ none. omega (arith, some c.before.before.before.before, none)),
+      c.with_flag.ensures,
+      placed c.before.before,
       c.less_top.ensures,
     )
 

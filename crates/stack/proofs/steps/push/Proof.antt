@@ -13,45 +13,43 @@ use Rattle.stack.proofs.steps.push.Tie as tie
 abbrev start : tie.After-hold-change → tie.Start
 start c = c.before.before.before
 
-good : (c : tie.Else-not-good_stacks) → let s = c.before.before in good_stacks s.args.board s.args.stacks ≡ true
-good c = sym c.before.good_stacks.ensures ∙ not-false _ c.if-not-good_stacks.false-raw
+good : (c : tie.Else-not-good_stacks) → let s = c in good_stacks s.args.board s.args.stacks ≡ true
+good c = sym c.good_stacks.ensures ∙ not-false _ c.if-not-good_stacks.false-raw
 
 long : (s : tie.Start) → (length s.args.stacks.first.literals ≡ 400) × (length s.args.stacks.second.literals ≡ 400)
 long s = (search rules, search rules)
 
 -- the change is the board's
 same : (c : tie.After-hold-change) → let a = (start c).args in c.hold-change.result ≡ hold_answer a.table.now a.board a.furnace a.l
-same c = let s = start c in c.hold-change.ensures ∙ ap (hold_answer s.args.table.now s.args.board s.args.furnace) (to_z-of_z s.ranges.l.fits)
+same c = let s = start c in c.hold-change.ensures ∙ ap (hold_answer s.args.table.now s.args.board s.args.furnace) (to_z-of_z s.ranges.l)
 
-says : (c : tie.After-hold-change) → let a = (start c).args in (hold_answer a.table.now a.board a.furnace a.l).outcome-1 ≡ c.hold-change.result.outcome-1
-says c = ap (λ r. r.outcome-1) (sym (same c))
+says : (c : tie.After-hold-change) → let a = (start c).args in (hold_answer a.table.now a.board a.furnace a.l).outcome ≡ c.hold-change.result.outcome
+says c = ap (λ r. r.outcome) (sym (same c))
 
 returns : tie.Need-returns-then-not-good_stacks
 unfolding pushed push_faults
-returns c = rw (sym c.before.before.good_stacks.ensures ∙ not-true _ c.before.if-not-good_stacks.true-raw) c.refused.ensures
+returns c = rw (sym c.good_stacks.ensures ∙ not-true _ c.if-not-good_stacks.true-raw) c.refused.ensures
 
 on_top_requires : tie.Need-on_top-requires
 on_top_requires c κs =
-    let h = c.before.before in
-    let s = start h in
+    let w = c.before in
+    let s = start w in
     let a = s.args in
-    let d = flag_done _ _ _ _ true AlreadyHeld (says h ∙ c.enum_told-1.given.1) in
-    let k = known _ _ _ _ (good h.before) d.is_good_lem d.is_furnace (long s).0 (long s).1 in
+    let d = flag_done _ _ _ _ true AlreadyHeld (says w ∙ c.in-Done.is) in
+    let k = known _ _ _ _ (good w.before) d.is_good_lem d.is_furnace (long s).0 (long s).1 in
     omega (arith, room_left _ _ _ a.l k.is_good_lem k.places d.in_range_lem d.was, k.symbols)
 
 returns_2 : tie.Need-returns-in-Refused
 unfolding pushed push_faults flag_changed
 returns_2 c =
-    let o = c.before.before in
-    let h = o.before.before in
-    rw (good h.before, says h ∙ o.outcome-1.given.1) c.refused-in-Refused.ensures
+    let w = c.before.before in
+    rw (good w.before, says w ∙ c.in-Refused.is) c.refused-in-Refused.ensures
 
 returns_3 : tie.Need-returns-in-Done
 unfolding pushed push_faults flag_changed
 returns_3 c =
-    let t = c.before in
-    let h = t.before.before in
-    rw (same h, c.on_top.ensures, to_z-of_z (start h).ranges.l, good h.before, says h ∙ t.enum_told-1.given.1)
+    let w = c.before.before in
+    rw (same w, c.on_top.ensures, to_z-of_z w.ranges.l, good w.before, says w ∙ c.in-Done.is)
 
 pub push_spec : {M : Type 1} → statement M
 push_spec = tie.close (tie.spec

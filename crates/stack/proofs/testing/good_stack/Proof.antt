@@ -13,7 +13,7 @@ long : (c : tie.Joined-count-lt400) → length (start c).args.stack.literals ≡
 long c = search rules
 
 short : (c : tie.Joined-count-lt400) → c.if-count-lt400.on ≤ 400
-short c = ⊎_elim (λ t. omega (arith, t.0.true, t.1)) (λ t. omega (arith, t.1)) c.if-count-lt400.branch
+short c = ⊎_elim (λ t. omega (arith, t.if-count-lt400.true, t.on-is)) (λ t. omega (arith, t.on-is)) c.if-count-lt400.branch-raw
 
 -- the literals that are looked at are those on the stack
 same : (c : tie.Joined-count-lt400) → take c.if-count-lt400.on (start c).args.stack.literals ≡ on_stack (start c).args.stack
@@ -21,22 +21,21 @@ same c =
     let s = (start c).args.stack in
     let whole : (n : ℕ) → 400 ≤ n → take n s.literals ≡ s.literals = λ n h. take_all n s.literals (omega (arith, long c, h)) in
     ⊎_elim
-    (λ t. ap (λ n. take n s.literals) t.1)
-    (λ t. whole c.if-count-lt400.on (omega (arith, t.1)) ∙ sym (whole s.count t.0.false))
-    c.if-count-lt400.branch
+    (λ t. ap (λ n. take n s.literals) t.on-is)
+    (λ t. whole c.if-count-lt400.on (omega (arith, t.on-is)) ∙ sym (whole s.count t.if-count-lt400.false))
+    c.if-count-lt400.branch-raw
 
 returns : tie.Need-returns-then-symbols-count
 unfolding good_stack
-returns c = let a = c.before.before.args in rw (lt-leb a.stack.count (2 * a.symbols) (omega (arith, c.if-symbols-count.true)))
+returns c = let a = c.args in rw (lt-leb a.stack.count (2 * a.symbols) (omega (arith, c.if-symbols-count.true)))
 
 returns_2 : tie.Need-returns
 returns_2 c =
-    let j = c.before.before.before in
-    let a = (start j).args in
-    c.all_held.ensures ∙ ap (all_struck a.symbols a.held) (same j)
-    ∙ sym (good_struck a.symbols a.held a.stack (omega (arith, j.before.if-symbols-count.false)))
+    let a = (start c.before.before.before).args in
+    c.all_held.ensures ∙ ap (all_struck a.symbols a.held) (same c.before.before.before)
+    ∙ sym (good_struck a.symbols a.held a.stack (omega (arith, c.if-symbols-count.false)))
 
 pub good_stack_spec : {M : Type 1} → statement M
 good_stack_spec = tie.close (tie.spec
     (λ c. search rules) (λ c. search rules) returns (λ c. omega (arith, short c.before, long c.before))
-    (λ c. let j = c.before.before in sym (length-take-le _ _ (omega (arith, short j, long j)))) (λ c κs. search rules) returns_2)
+    (λ c. let j = c in sym (length-take-le _ _ (omega (arith, short j.before.before, long j.before.before)))) (λ c κs. search rules) returns_2)

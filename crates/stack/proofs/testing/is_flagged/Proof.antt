@@ -13,29 +13,26 @@ abbrev start : tie.Else-not-in_range → tie.Start
 start c = c.before.before.before
 
 within : (c : tie.Else-not-in_range-2) → in_range 200 (back (start c.before.before).args.l) ≡ true
-within c = sym c.before.in_range-2.ensures ∙ not-false _ c.if-not-in_range-2.false-raw
+within c = sym c.in_range-2.ensures ∙ not-false _ c.if-not-in_range-2.false-raw
 
 returns : tie.Need-returns-then-not-in_range
-returns c = let s = c.before.before.before in rw (range_is s.ranges.l _ _ c.before.in_range.ensures ∙ not-true _ c.if-not-in_range.true-raw)
+returns c = let s = c in rw (range_is s.ranges.l _ _ c.in_range.ensures ∙ not-true _ c.if-not-in_range.true-raw)
 
 returns_2 : tie.Need-returns-then-not-in_range-2
 returns_2 c =
     let s = start c.before.before in
-    let out = range_is s.ranges.l.fits 200 _ c.before.in_range-2.ensures ∙ not-true _ c.if-not-in_range-2.true-raw in
+    let out = range_is s.ranges.l 200 _ c.in_range-2.ensures ∙ not-true _ c.if-not-in_range-2.true-raw in
     sym (false_of _ (λ e. clash (flag_within s.args.symbols 200 s.args.flags.now s.args.l s.requires e) out))
 
 shared_slice_read_result : tie.Need-bounds-flags-place
 shared_slice_read_result c =
-    let p = c.before in
-    let s = start p.before.before.before in
-    omega (arith, p.place.ensures, place_fits 200 (back s.args.l) (within p.before), s.requires)
+    let s = start c.before.before.before.before in
+    omega (arith, c.place.ensures, place_fits 200 (back s.args.l) (within c.before.before), s.requires)
 
 returns_3 : tie.Need-returns
 returns_3 c =
-    let p = c.before in
-    let e = p.before.before.before in
-    let s = start e in
-    rw (range_is s.ranges.l.fits _ _ e.before.in_range.ensures ∙ not-false _ e.if-not-in_range.false-raw, ← place_is s.ranges.l.fits _ p.place.ensures)
+    let s = start c.before.before.before.before in
+    rw (range_is s.ranges.l _ _ c.in_range.ensures ∙ not-false _ c.if-not-in_range.false-raw, ← place_is s.ranges.l _ c.place.ensures)
 
 pub is_flagged_spec : {M : Type 1} → statement M
 is_flagged_spec = tie.close (tie.spec

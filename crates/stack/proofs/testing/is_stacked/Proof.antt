@@ -14,14 +14,14 @@ long : (c : tie.After-places-1) → length (start c).args.stack.literals ≡ 400
 long c = search rules
 
 is_on_requires : tie.Need-is_on-requires
-is_on_requires c κs = let s = start c.before in (s.requires.1, ap (in_range 200) (to_z-of_z s.ranges.l.fits) ∙ s.requires.2)
+is_on_requires c κs = let s = start c.before in (s.requires.1, ap (in_range 200) (to_z-of_z s.ranges.l) ∙ s.requires.2)
 
 returns : tie.Need-returns
 returns c =
     let s = start c.before.before in
-    c.is_on.ensures ∙ ap (λ l. member (place_of l) (places_of (on_stack s.args.stack))) (to_z-of_z s.ranges.l.fits)
+    c.is_on.ensures ∙ ap (λ l. member (place_of l) (places_of (on_stack s.args.stack))) (to_z-of_z s.ranges.l)
 
 pub is_stacked_spec : {M : Type 1} → statement M
 is_stacked_spec = tie.close (tie.spec
     (λ c. search rules) (λ c. omega (arith, (start c).requires.0, long c))
-    (λ c. let p = c.before in sym (length-take-le _ _ (omega (arith, (start p).requires.0, long p)))) is_on_requires returns)
+    (λ c. let p = c in sym (length-take-le _ _ (omega (arith, (start p.before).requires.0, long p.before)))) is_on_requires returns)
