@@ -17,7 +17,7 @@ abbrev first : tie.Else-not-all_literals → tie.Else-not-good
 first c = c.before.before.before.before
 
 is_good_lem : (c : tie.Else-not-good) → let a = (start c).args in good_board a.table.now a.board ≡ true
-is_good_lem c = sym c.before.good2.ensures ∙ not-false _ c.if-not-good.false-raw
+is_good_lem c = sym c.before.good.ensures ∙ not-false _ c.if-not-good.false-raw
 
 named : (c : tie.Else-not-is_furnace) → let a = (start c.before.before).args in is_furnace a.furnace ≡ true
 named c = sym c.before.is_furnace.ensures ∙ not-false _ c.if-not-is_furnace.false-raw
@@ -30,7 +30,7 @@ returns c =
     let a = c.before.before.before.args in
     c.refused.ensures
     ∙ bad_board a.table.now a.board a.furnace a.candidates.now
-    (sym c.before.before.good2.ensures ∙ not-true _ c.before.if-not-good.true-raw)
+    (sym c.before.before.good.ensures ∙ not-true _ c.before.if-not-good.true-raw)
 
 returns_2 : tie.Need-returns-then-not-is_furnace
 returns_2 c =

@@ -26,7 +26,7 @@ same c = let a = (start c).args in ap (leaves_conflict a.table.now a.board a.fur
 
 returns : tie.Need-returns-in-Leaves
 returns c =
-    let f = c.before.before.before in
+    let f = c.before.before in
     let p = f.before in
     let a = (start p).args in
     let l = effect_leaves a.table.now a.board a.furnace a.places.now (p.power-sets.result - 1)
@@ -34,9 +34,9 @@ returns c =
     c.refused.ensures ∙ stays a.table.now a.board a.furnace a.places.now (sym (same p) ∙ l.0)
 
 -- no conflict is left once all are struck off
-quiet : (c : tie.In-Ends) → left c.before.before.before ≡ false
+quiet : (c : tie.In-Ends) → left c.before.before ≡ false
 quiet c =
-    let f = c.before.before in
+    let f = c.before in
     let p = f.before in
     let a = (start p).args in
     sym (same p)
@@ -46,14 +46,14 @@ quiet c =
 cast_set : tie.Need-overflow_cast-result
 cast_set c =
     let e = c.before.before.before in
-    let s = start e.before.before.before in
+    let s = start e.before.before in
     let a = s.args in
     omega (arith, c.before.search.ensures, least_few a.table.now a.board a.furnace a.places.now s.requires.1.0 (quiet e))
 
 returns_2 : tie.Need-returns-in-Ends
 returns_2 c =
     let e = c.before.before.before in
-    let a = (start e.before.before.before).args in
+    let a = (start e.before.before).args in
     ended a.table.now a.board a.furnace a.places.now (quiet e) c.before.search.ensures
 
 pub least_held_spec : {M : Type 1} → statement M

@@ -14,7 +14,7 @@ use Rattle.least.proofs.call.least_placed.Tie as tie
 
 -- where the places are written, and where the call began
 abbrev placing : tie.After-repeated → tie.After-write_places
-placing c = c.before.before.before.before
+placing c = c.before.before.before
 
 abbrev start : tie.After-write_places → tie.Start
 start c = c.before.before.before

@@ -9,7 +9,7 @@ use Rattle.least.proofs.effects.effect_of.Tie as tie
 
 -- where blame was asked, and where the call began
 abbrev asked : tie.After-marks-in-Done-1 → tie.After-blame
-asked c = c.before.before.before.before
+asked c = c.before.before.before
 
 abbrev start : tie.After-blame → tie.Start
 start c = c.before.before.before.before
@@ -42,7 +42,7 @@ returns c =
 
 returns_2 : tie.Need-returns-in-Refused
 returns_2 c =
-    let b = c.before.before.before in
+    let b = c.before.before in
     let t = b.before.before in
     let s = start b in
     let a = s.args in

@@ -19,7 +19,7 @@ few : (c : tie.At-loop-i invariant_loop decreases_loop) → c.loop-i.set < 4096
 few c = let a = c.before.args in omega (arith, c.loop-i.invariant.1, marked_few a.marks.now a.places.now c.loop-i.i c.before.requires.0)
 
 one_small : (c : tie.Joined-marks-places-eq1 invariant_loop decreases_loop) → c.if-marks-places-eq1.one ≤ 1
-one_small c = ⊎_elim (λ w. omega (arith, w.1)) (λ w. omega (arith, w.1)) c.if-marks-places-eq1.branch
+one_small c = ⊎_elim (λ w. omega (arith, w.one-is)) (λ w. omega (arith, w.one-is)) c.if-marks-places-eq1.branch-raw
 
 loop_again : tie.Need-loop-i-preserved invariant_loop decreases_loop
 loop_again c =
@@ -28,8 +28,8 @@ loop_again c =
     let i = l.loop-i.i in
     let test = eqb (get_or a.marks.now (get_or a.places.now (i - 1) 0) 0) 1 in
     let value : c.before.if-marks-places-eq1.one ≡ cond test 1 0 =
-    ⊎_elim (λ w. w.1 ∙ sym (ap (λ (b : Bool). cond b 1 0) (eq-eqb _ 1 w.0.true)))
-    (λ w. w.1 ∙ sym (ap (λ (b : Bool). cond b 1 0) (ne_eqb _ 1 w.0.false))) c.before.if-marks-places-eq1.branch in (
+    ⊎_elim (λ w. w.one-is ∙ sym (ap (λ (b : Bool). cond b 1 0) (eq-eqb _ 1 w.if-marks-places-eq1.true)))
+    (λ w. w.one-is ∙ sym (ap (λ (b : Bool). cond b 1 0) (ne_eqb _ 1 w.if-marks-places-eq1.false))) c.before.if-marks-places-eq1.branch-raw in (
       omega (arith, l.loop-i.invariant.0),
       ap₂ (λ (one set : ℕ). one + 2 * set) value l.loop-i.invariant.1
           ∙ sym (marked_more a.marks.now a.places.now i (omega arith) l.loop-i.invariant.0),

@@ -19,13 +19,13 @@ loop_again c =
     let l = c.before.before in (
       omega arith,
       marked_turn l.before.args.places.now l.loop-i.i l.loop-i.rest struck_off false (λ h p ps. refl) (omega arith) l.loop-i.invariant.1
-          (⊎_elim (λ w. inl (w.0.true, w.2)) (λ w. inr (w.0.false, w.1)) c.if-rest-eq1.branch),
+          (⊎_elim (λ w. inl (w.if-rest-eq1.true, w.left-is)) (λ w. inr (w.if-rest-eq1.false, w.left-is)) c.if-rest-eq1.branch-raw),
     )
 
 returns : tie.Need-returns invariant_loop decreases_loop
 returns c =
     let l = c.before in
-    sym (ap (struck_off l.loop-i.false) (chosen_end l.before.args.places.now l.loop-i.i l.loop-i.rest (omega arith))) ∙ l.loop-i.invariant.1
+    sym (ap (struck_off l.loop-i.left) (chosen_end l.before.args.places.now l.loop-i.i l.loop-i.rest (omega arith))) ∙ l.loop-i.invariant.1
 
 pub strike_spec : {M : Type 1} → statement M
 strike_spec = tie.close (tie.spec

@@ -41,7 +41,7 @@ loop_again : tie.Need-loop-k-preserved invariant_loop decreases_loop
 loop_again c =
     let z = sized c in
     let l = z.before.before.before in (
-      z.search_size-tried.kept.1.1.1.1.1.1.0 ∙ l.loop-k.invariant.0,
+      z.search_size-tried.auto.cores ∙ l.loop-k.invariant.0,
       ⊎_elim (λ x. rw (add-one l.loop-k.k) x.1) (λ x. absurd (omega (arith, x.0, x.1, c.if-tried.false))) z.search_size-tried.ensures,
     )
 
@@ -54,5 +54,5 @@ returns_2 c =
 pub search_spec : {M : Type 1} → statement M
 search_spec = tie.close (tie.spec
     invariant_loop decreases_loop (λ c. (refl, none_searched _ _ _)) search_size_requires (λ c. omega arith)
-    (λ c. (let z = found c in z.search_size-tried.kept.1.1.1.1.1.1.0 ∙ z.before.before.before.loop-k.invariant.0))
+    (λ c. (let z = found c in z.search_size-tried.auto.cores ∙ z.before.before.before.loop-k.invariant.0))
     returns (λ c. omega arith) (λ c. omega arith) loop_again (λ c. omega arith) (λ c. c.before.loop-k.invariant.0) returns_2)

@@ -34,7 +34,7 @@ test s = let a = s.args in ends (2 * a.board.symbols) (rows_on a.table.now a.boa
 
 -- a set that is tried has k candidates
 abbrev worth : tie.After-worth_trying invariant_loop decreases_loop → tie.At-loop-set invariant_loop decreases_loop
-worth w = w.before.before.before
+worth w = w.before.before
 
 has_k : (c : tie.Then-worth_trying invariant_loop decreases_loop) → let l = worth c.before in let a = (start l).args in size (length a.places.now) l.loop-set.set ≡ a.k
 has_k c =
@@ -42,7 +42,7 @@ has_k c =
     let a = (start l).args in
     let n = length a.places.now in
     eqb-true (size n l.loop-set.set) a.k
-    (both_true (eqb (size n l.loop-set.set) a.k) (not (misses_one (take l.loop-set.kept l.loop-set.cores-1) l.loop-set.set))
+    (both_true (eqb (size n l.loop-set.set) a.k) (not (misses_one (take l.loop-set.kept l.loop-set.cores) l.loop-set.set))
     (sym c.before.worth_trying.ensures ∙ c.if-worth_trying.true)).0
 
 -- the last of those sets, in the powers that code computes
@@ -67,14 +67,14 @@ past c = omega (arith, c.loop-set-test.false, last_is c.before)
 try_set_requires : tie.Need-try_set-tried-requires invariant_loop decreases_loop
 try_set_requires c κs =
     let t = c.before in
-    let i = t.before.before.before in
+    let i = t.before.before in
     let l = i.before in
     let s = start l in
     let n = length s.args.places.now in (
       s.requires.0,
       (
         (s.requires.1.0.0, s.requires.1.0.1, below i),
-        subst (λ (j : ℕ). Searched (test s) n j l.loop-set.set l.loop-set.auto l.loop-set.cores-1) (sym (has_k t)) l.loop-set.invariant.1,
+        subst (λ (j : ℕ). Searched (test s) n j l.loop-set.set l.loop-set.kept l.loop-set.cores) (sym (has_k t)) l.loop-set.invariant.1,
       ),
     )
 
@@ -91,8 +91,8 @@ loop_holds c =
     let a = s.args in
     let n = length a.places.now in (
       refl,
-      subst (λ (j : ℕ). Searched (test s) n a.k (j - 1) a.known a.cores-1.now) (sym c.power-set.ensures)
-          (size_begun (test s) n a.k a.known a.cores-1.now s.requires.1.1),
+      subst (λ (j : ℕ). Searched (test s) n a.k (j - 1) a.known a.cores.now) (sym c.power-set.ensures)
+          (size_begun (test s) n a.k a.known a.cores.now s.requires.1.1),
     )
 
 returns : tie.Need-returns-then-tried invariant_loop decreases_loop
@@ -105,17 +105,17 @@ loop_again c =
     let s = start l in
     ⊎_elim
     (λ t. (
-      ap length t.7 ∙ t.2.kept.1.1.1.1.1.1.0 ∙ l.loop-set.invariant.0,
-      searched_as (has_k record { before = w; if1 = t.0 }) t.7 t.8
-          (⊎_elim (λ x. x.1) (λ x. absurd (omega (arith, x.0, x.1, t.6.false))) t.2.ensures),
+      ap length t.cores-is ∙ t.try_set-tried.auto.cores ∙ l.loop-set.invariant.0,
+      searched_as (has_k record { before = w; if-worth_trying = t.if-worth_trying }) t.cores-is t.kept-is
+          (⊎_elim (λ x. x.1) (λ x. absurd (omega (arith, x.0, x.1, t.if-tried.false))) t.try_set-tried.ensures),
     ))
     (λ t. (
-      ap length t.1 ∙ l.loop-set.invariant.0,
-      searched_as refl t.1 t.2
-          (passed_over (test s) (length s.args.places.now) s.args.k l.loop-set.set l.loop-set.kept l.loop-set.cores-1 l.loop-set.invariant.1
-          (sym w.worth_trying.ensures ∙ t.0.false)),
+      ap length t.cores-is ∙ l.loop-set.invariant.0,
+      searched_as refl t.cores-is t.kept-is
+          (passed_over (test s) (length s.args.places.now) s.args.k l.loop-set.set l.loop-set.kept l.loop-set.cores l.loop-set.invariant.1
+          (sym w.worth_trying.ensures ∙ t.if-worth_trying.false)),
     ))
-    c.if-worth_trying.branch
+    c.if-worth_trying.branch-raw
 
 returns_2 : tie.Need-returns invariant_loop decreases_loop
 returns_2 c =
@@ -123,7 +123,7 @@ returns_2 c =
     let s = start l in
     let n = length s.args.places.now in
     let end = past c in
-    inl (refl, size_searched (test s) n s.args.k l.loop-set.auto l.loop-set.cores-1 l.loop-set.set end l.loop-set.invariant.1)
+    inl (refl, size_searched (test s) n s.args.k l.loop-set.kept l.loop-set.cores l.loop-set.set end l.loop-set.invariant.1)
 
 pub search_size_spec : {M : Type 1} → statement M
 search_size_spec = tie.close (tie.spec
@@ -133,6 +133,6 @@ search_size_spec = tie.close (tie.spec
     (λ c. omega (arith, c.power-set.ensures, one-le-pow (begun c.before).args.k 2 (omega arith))) loop_holds
     (λ c. c.before.loop-set.invariant.1.room) (λ c. sym (length-take-le _ _ c.before.before.loop-set.invariant.1.room))
     (λ c κs. (start c.before.before).requires.1.0.0) try_set_requires (λ c. omega arith)
-    (λ c. (let z = tried c in z.try_set-tried.kept.1.1.1.1.1.1.0 ∙ (worth z.before.before.before).loop-set.invariant.0))
+    (λ c. (let z = tried c in z.try_set-tried.auto.cores ∙ (worth z.before.before.before).loop-set.invariant.0))
     returns (λ c. omega (arith, few c.before.before.before)) (λ c. omega arith) loop_again (λ c. omega arith) (λ c. c.before.loop-set.invariant.0)
     returns_2)

@@ -24,7 +24,7 @@ list_noted_requires : tie.Need-list_noted-requires
 list_noted_requires c κs =
     let p = c.before.before in
     let s = start p in (
-      (s.requires.0.0, ap (in_range s.args.board.symbols) (to_z-of_z s.ranges.l.fits) ∙ s.requires.0.1),
+      (s.requires.0.0, ap (in_range s.args.board.symbols) (to_z-of_z s.ranges.l) ∙ s.requires.0.1),
       (s.requires.1.0, s.requires.1.1, part p ∙ p.power-all.ensures),
     )
 
@@ -33,8 +33,8 @@ returns c =
     let n = c.before.before.before in
     let s = start n.before.before.before in
     let a = s.args in
-    let same = ap (smallest_at a.table.now a.board a.places.now) (to_z-of_z s.ranges.l.fits) in
-    let t = told_as (ap (λ (list : List ℕ). by_room list a.sets-1.now) same) same
+    let same = ap (smallest_at a.table.now a.board a.places.now) (to_z-of_z s.ranges.l) in
+    let t = told_as (ap (λ (list : List ℕ). by_room list a.sets.now) same) same
     record { answered = n.list_noted.ensures.0; written = n.list_noted.ensures.1 } in
     (t.answered, t.written)
 

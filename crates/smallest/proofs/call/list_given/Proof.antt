@@ -24,8 +24,8 @@ part c = let n = length (start c).args.candidates.now in length-take-le n blank 
 returns : tie.Need-returns-then-n-gt-MOST_CANDIDATES
 returns c =
     let a = c.before.before.before.args in
-    let e = many_fault a.table.now a.board a.candidates.now a.l (length a.sets-1.now) c.before.if-n-gt-MOST_CANDIDATES.true in
-    let t = told_refused BadCandidates (smallest_on a.table.now a.board a.candidates.now a.l) a.sets-1.now e in
+    let e = many_fault a.table.now a.board a.candidates.now a.l (length a.sets.now) c.before.if-n-gt-MOST_CANDIDATES.true in
+    let t = told_refused BadCandidates (smallest_on a.table.now a.board a.candidates.now a.l) a.sets.now e in
     (c.refused.ensures ∙ t.answered, t.written)
 
 list_placed_requires : tie.Need-list_placed-requires
@@ -33,7 +33,7 @@ list_placed_requires c κs =
     let e = c.before.before in
     let s = start e in
     let a = s.args in
-    let given = ap (λ (z : ℤ). all (in_range a.board.symbols) (z ∷ a.candidates.now)) (to_z-of_z s.ranges.l.fits) ∙ s.requires.1 in
+    let given = ap (λ (z : ℤ). all (in_range a.board.symbols) (z ∷ a.candidates.now)) (to_z-of_z s.ranges.l) ∙ s.requires.1 in
     ((s.requires.0, given), (omega arith, part e))
 
 returns_2 : tie.Need-returns
@@ -42,9 +42,9 @@ returns_2 c =
     let e = n.before.before.before in
     let s = start e in
     let a = s.args in
-    let read = to_z-of_z s.ranges.l.fits in
-    let by = not_many a.table.now a.board a.candidates.now a.l (length a.sets-1.now) (omega arith) in
-    let first : ℤ → Outcome = λ z. first_fault (candidate_faults false a.table.now a.board a.candidates.now z (length a.sets-1.now)) in
+    let read = to_z-of_z s.ranges.l in
+    let by = not_many a.table.now a.board a.candidates.now a.l (length a.sets.now) (omega arith) in
+    let first : ℤ → Outcome = λ z. first_fault (candidate_faults false a.table.now a.board a.candidates.now z (length a.sets.now)) in
     let t = told_as (ap first read ∙ sym by) (ap (smallest_on a.table.now a.board a.candidates.now) read)
     record { answered = n.list_placed.ensures.0; written = n.list_placed.ensures.1 } in
     (t.answered, t.written)

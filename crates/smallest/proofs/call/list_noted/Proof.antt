@@ -11,7 +11,7 @@ use Rattle.smallest.proofs.call.list_noted.Tie as tie
 
 -- where the sets are noted, and where the call began
 abbrev noting : tie.After-count_listed-count → tie.After-note_sets
-noting c = c.before.before.before.before
+noting c = c.before.before.before
 
 abbrev begun : tie.After-note_sets-arg-1 → tie.Start
 begun c = c.before.before.before.before
@@ -28,7 +28,7 @@ noted c =
     let s = start c in
     let a = s.args in
     c.note_sets.ensures
-    ∙ ap (λ (z : ℤ). notes_of (2 * a.board.symbols) (rows_on a.table.now a.board) a.places.now (place_of z)) (to_z-of_z s.ranges.l.fits)
+    ∙ ap (λ (z : ℤ). notes_of (2 * a.board.symbols) (rows_on a.table.now a.board) a.places.now (place_of z)) (to_z-of_z s.ranges.l)
 
 -- the list that is due, and that as many are counted
 abbrev list : tie.After-note_sets → List ℕ
@@ -45,30 +45,30 @@ written c = let a = (start c).args in the_list a.table.now a.board a.places.now 
 note_sets_requires : tie.Need-note_sets-requires
 note_sets_requires c κs =
     let s = begun c in
-    ((s.requires.0.0, ap (in_range s.args.board.symbols) (to_z-of_z s.ranges.l.fits) ∙ s.requires.0.1), s.requires.1)
+    ((s.requires.0.0, ap (in_range s.args.board.symbols) (to_z-of_z s.ranges.l) ∙ s.requires.0.1), s.requires.1)
 
 returns : tie.Need-returns-then-sets-count
 returns c =
     let t = c.before.before in
-    let w = told_short (list (noting t)) (start (noting t)).args.sets-1.now (omega (arith, count_is t, c.before.if-sets-count.true)) in
+    let w = told_short (list (noting t)) (start (noting t)).args.sets.now (omega (arith, count_is t, c.before.if-sets-count.true)) in
     (c.refused.ensures ∙ w.answered, w.written)
 
-fits : (c : tie.Else-sets-count) → let t = c.before in length (list (noting t)) ≤ length (start (noting t)).args.sets-1.now
+fits : (c : tie.Else-sets-count) → let t = c.before in length (list (noting t)) ≤ length (start (noting t)).args.sets.now
 fits c = omega (arith, count_is c.before, c.if-sets-count.false)
 
 write_listed_requires : tie.Need-write_listed-requires
 write_listed_requires c κs =
-    let e = c.before.before in
+    let e = c.before in
     let n = noting e.before in
     let s = start n in
-    ((s.requires.1.0, n.note_sets.kept.1.1.1.1.0 ∙ s.requires.1.2), omega (arith, fits e, ap length (written n)))
+    ((s.requires.1.0, n.note_sets.auto.notes ∙ s.requires.1.2), omega (arith, fits e, ap length (written n)))
 
 returns_2 : tie.Need-returns
 returns_2 c =
     let w = c.before.before in
-    let e = w.before.before.before in
+    let e = w.before.before in
     let n = noting e.before in
-    let lent = (start n).args.sets-1.now in
+    let lent = (start n).args.sets.now in
     let t = told_list (list n) lent (fits e) in (
       ap (λ (k : ℕ). record { outcome = Done; count = k }) (count_is e.before) ∙ t.answered,
       w.write_listed.ensures ∙ ap (sets lent 0) (written n) ∙ t.written,

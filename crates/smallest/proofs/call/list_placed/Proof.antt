@@ -14,7 +14,7 @@ use Rattle.smallest.proofs.call.list_placed.Tie as tie
 
 -- where the places are written, and where the call began
 abbrev placing : tie.After-repeated → tie.After-write_places
-placing c = c.before.before.before.before
+placing c = c.before.before.before
 
 abbrev start : tie.After-write_places → tie.Start
 start c = c.before.before.before.before
@@ -44,16 +44,16 @@ returns : tie.Need-returns-then-repeated
 returns c =
     let t = c.before.before in
     let a = (start (placing t)).args in
-    let e = repeated_fault a.table.now a.board a.candidates.now a.l (length a.sets-1.now) (repeats_is t ∙ c.before.if-repeated.true) in
-    let t = told_refused BadCandidates (smallest_on a.table.now a.board a.candidates.now a.l) a.sets-1.now e in
+    let e = repeated_fault a.table.now a.board a.candidates.now a.l (length a.sets.now) (repeats_is t ∙ c.before.if-repeated.true) in
+    let t = told_refused BadCandidates (smallest_on a.table.now a.board a.candidates.now a.l) a.sets.now e in
     (c.refused.ensures ∙ t.answered, t.written)
 
 list_requires : tie.Need-list-requires
 list_requires c κs =
-    let w = placing c.before.before.before in
+    let w = placing c.before.before in
     let s = start w in
     let a = s.args in (
-      (s.requires.0.0, ap (in_range a.board.symbols) (to_z-of_z s.ranges.l.fits) ∙ (ranges s).0),
+      (s.requires.0.0, ap (in_range a.board.symbols) (to_z-of_z s.ranges.l) ∙ (ranges s).0),
       (
         omega (arith, ap length (placed w), length-map a.candidates.now place_of, s.requires.1.0),
         ap (all (λ p. ltb p (2 * a.board.symbols))) (placed w) ∙ places_low a.board.symbols a.candidates.now (ranges s).1,
@@ -63,13 +63,13 @@ list_requires c κs =
 returns_2 : tie.Need-returns
 returns_2 c =
     let n = c.before.before in
-    let e = n.before.before.before in
+    let e = n.before.before in
     let w = placing e.before in
     let s = start w in
     let a = s.args in
-    let by = different a.table.now a.board a.candidates.now a.l (length a.sets-1.now) (repeats_is e.before ∙ e.if-repeated.false) in
-    let same = ap₂ (smallest_at a.table.now a.board) (placed w) (to_z-of_z s.ranges.l.fits) in
-    let t = told_as (ap (λ (list : List ℕ). by_room list a.sets-1.now) same ∙ sym by) same
+    let by = different a.table.now a.board a.candidates.now a.l (length a.sets.now) (repeats_is e.before ∙ e.if-repeated.false) in
+    let same = ap₂ (smallest_at a.table.now a.board) (placed w) (to_z-of_z s.ranges.l) in
+    let t = told_as (ap (λ (list : List ℕ). by_room list a.sets.now) same ∙ sym by) same
     record { answered = n.list.ensures.0; written = n.list.ensures.1 } in
     (t.answered, t.written)
 

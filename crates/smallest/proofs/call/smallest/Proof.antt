@@ -18,11 +18,11 @@ abbrev start : tie.Else-not-good → tie.Start
 start c = c.before.before.before
 
 is_good_lem : (c : tie.Else-not-good) → let a = (start c).args in good_board a.table.now a.board ≡ true
-is_good_lem c = sym c.before.good2.ensures ∙ not-false _ c.if-not-good.false-raw
+is_good_lem c = sym c.before.good.ensures ∙ not-false _ c.if-not-good.false-raw
 
 -- whether the literal to explain is the board's, and whether the candidates are too
 literal : (c : tie.After-in_range) → let a = (start c.before).args in in_range a.board.symbols a.l ≡ c.in_range.result
-literal c = let s = start c.before in range_is s.ranges.l.fits s.args.board.symbols c.in_range.result c.in_range.ensures
+literal c = let s = start c.before in range_is s.ranges.l s.args.board.symbols c.in_range.result c.in_range.ensures
 
 given : (c : tie.After-all_literals) → let a = (start c.before.before.before).args in
     all (in_range a.board.symbols) (a.l ∷ a.candidates.now) ≡ c.all_literals.result
@@ -35,21 +35,21 @@ returns : tie.Need-returns-then-not-good
 returns c =
     let g = c.before.before in
     let a = g.before.before.args in
-    let bad = bad_board a.table.now a.board a.candidates.now a.l a.sets-1.now
-    (sym g.good2.ensures ∙ not-true _ c.before.if-not-good.true-raw) in
-    let t = told_refused BadBoard (smallest_on a.table.now a.board a.candidates.now a.l) a.sets-1.now bad in
-    let w = contract a.table.now a.board a.candidates.now a.l a.sets-1.now t in
+    let bad = bad_board a.table.now a.board a.candidates.now a.l a.sets.now
+    (sym g.good.ensures ∙ not-true _ c.before.if-not-good.true-raw) in
+    let t = told_refused BadBoard (smallest_on a.table.now a.board a.candidates.now a.l) a.sets.now bad in
+    let w = contract a.table.now a.board a.candidates.now a.l a.sets.now t in
     (c.refused.ensures ∙ w.0, w.1)
 
 -- where a literal is not the board's
 other : (e : tie.Else-not-good) → let a = (start e).args in all (in_range a.board.symbols) (a.l ∷ a.candidates.now) ≡ false
-    → Told (smallest_outcome a.table.now a.board a.candidates.now a.l a.sets-1.now)
-    (smallest_on a.table.now a.board a.candidates.now a.l) a.sets-1.now a.sets-1.now
+    → Told (smallest_outcome a.table.now a.board a.candidates.now a.l a.sets.now)
+    (smallest_on a.table.now a.board a.candidates.now a.l) a.sets.now a.sets.now
     (record { outcome = Refused BadLiteral; count = 0 })
 other e h =
     let a = (start e).args in
-    told_refused BadLiteral (smallest_on a.table.now a.board a.candidates.now a.l) a.sets-1.now
-    (bad_literal a.table.now a.board a.candidates.now a.l a.sets-1.now (is_good_lem e) h)
+    told_refused BadLiteral (smallest_on a.table.now a.board a.candidates.now a.l) a.sets.now
+    (bad_literal a.table.now a.board a.candidates.now a.l a.sets.now (is_good_lem e) h)
 
 returns_2 : tie.Need-returns-then-not-in_range
 returns_2 c =
@@ -57,7 +57,7 @@ returns_2 c =
     let a = (start t.before).args in
     let rest = all (in_range a.board.symbols) a.candidates.now in
     let told = other t.before (ap (λ (b : Bool). b && rest) (literal t ∙ not-true _ c.before.if-not-in_range.true-raw)) in
-    let w = contract a.table.now a.board a.candidates.now a.l a.sets-1.now told in
+    let w = contract a.table.now a.board a.candidates.now a.l a.sets.now told in
     (c.refused-then-not-in_range.ensures ∙ w.0, w.1)
 
 returns_3 : tie.Need-returns-then-not-all_literals
@@ -65,7 +65,7 @@ returns_3 c =
     let t = c.before.before in
     let e = t.before.before.before in
     let a = (start e).args in
-    let w = contract a.table.now a.board a.candidates.now a.l a.sets-1.now (other e (given t ∙ not-true _ c.before.if-not-all_literals.true-raw)) in
+    let w = contract a.table.now a.board a.candidates.now a.l a.sets.now (other e (given t ∙ not-true _ c.before.if-not-all_literals.true-raw)) in
     (c.refused-then-not-all_literals.ensures ∙ w.0, w.1)
 
 list_given_requires : tie.Need-list_given-requires
@@ -74,7 +74,7 @@ list_given_requires c κs =
     let e = t.before.before.before in
     let s = start e in
     let a = s.args in
-    let all-given = ap (λ (z : ℤ). all (in_range a.board.symbols) (z ∷ a.candidates.now)) (to_z-of_z s.ranges.l.fits) in
+    let all-given = ap (λ (z : ℤ). all (in_range a.board.symbols) (z ∷ a.candidates.now)) (to_z-of_z s.ranges.l) in
     (is_good_lem e, all-given ∙ given t ∙ not-false _ c.before.if-not-all_literals.false-raw)
 
 returns_4 : tie.Need-returns
@@ -85,12 +85,12 @@ returns_4 c =
     let e = t.before.before.before in
     let s = start e in
     let a = s.args in
-    let read = to_z-of_z s.ranges.l.fits in
+    let read = to_z-of_z s.ranges.l in
     let by =
-    literals_given a.table.now a.board a.candidates.now a.l a.sets-1.now (is_good_lem e) (given t ∙ not-false _ f.if-not-all_literals.false-raw) in
+    literals_given a.table.now a.board a.candidates.now a.l a.sets.now (is_good_lem e) (given t ∙ not-false _ f.if-not-all_literals.false-raw) in
     let first : ℤ → Outcome = λ z.
-    first_fault (candidate_faults (too_many a.candidates.now) a.table.now a.board a.candidates.now z (length a.sets-1.now)) in
-    contract a.table.now a.board a.candidates.now a.l a.sets-1.now
+    first_fault (candidate_faults (too_many a.candidates.now) a.table.now a.board a.candidates.now z (length a.sets.now)) in
+    contract a.table.now a.board a.candidates.now a.l a.sets.now
     (told_as (ap first read ∙ sym by) (ap (smallest_on a.table.now a.board a.candidates.now) read)
     record { answered = n.list_given.ensures.0; written = n.list_given.ensures.1 })
 

@@ -20,9 +20,9 @@ loop_again : tie.Need-loop-i-preserved invariant_loop decreases_loop
 loop_again c =
     let l = c.before.before in (
       omega arith,
-      ⊎_elim (λ w. ap length w.2 ∙ simp length-set l.loop-i.invariant.1) (λ w. ap length w.1 ∙ l.loop-i.invariant.1) c.if-rest-eq1.branch,
+      ⊎_elim (λ w. ap length w.first-is ∙ simp length-set l.loop-i.invariant.1) (λ w. ap length w.first-is ∙ l.loop-i.invariant.1) c.if-rest-eq1.branch-raw,
       marked_turn l.before.args.places.now l.loop-i.i l.loop-i.rest holding true (λ h p ps. refl) (omega arith) l.loop-i.invariant.2
-          (⊎_elim (λ w. inl (w.0.true, w.2)) (λ w. inr (w.0.false, w.1)) c.if-rest-eq1.branch),
+          (⊎_elim (λ w. inl (w.if-rest-eq1.true, w.first-is)) (λ w. inr (w.if-rest-eq1.false, w.first-is)) c.if-rest-eq1.branch-raw),
     )
 
 returns : tie.Need-returns invariant_loop decreases_loop

@@ -26,7 +26,7 @@ told c =
     let s = start e in
     let a = s.args in
     let board = ap (λ (b : Board). asked_whole a.table.now b 1 (back a.l)) c.before.alone.ensures in
-    let literal = ap (asked_whole a.table.now (alone_on a.board a.places.now a.set) 1) (to_z-of_z s.ranges.l.fits) in
+    let literal = ap (asked_whole a.table.now (alone_on a.board a.places.now a.set) 1) (to_z-of_z s.ranges.l) in
     free _ _ _ (sym e.before.stops_fewer.ensures ∙ e.if-stops_fewer.false) (ap standing_note (c.ask_whole.ensures ∙ board ∙ literal))
 
 pub note_spec : {M : Type 1} → statement M

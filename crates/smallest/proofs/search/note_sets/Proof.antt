@@ -34,13 +34,13 @@ low s =
 
 loop_again : tie.Need-loop-set-preserved invariant_loop decreases_loop
 loop_again c =
-    let l = c.before.before.before in
+    let l = c.before.before in
     let s = start l in
     let a = s.args in
     let rows = rows_on a.table.now a.board in
     let m = l.loop-set.set in
     let p = place_of (back a.l) in
-    let range = ap (in_range a.board.symbols) (to_z-of_z s.ranges.l.fits) ∙ s.requires.0.1 in
+    let range = ap (in_range a.board.symbols) (to_z-of_z s.ranges.l) ∙ s.requires.0.1 in
     let stood = asked_alone a.table.now a.board a.places.now m s.requires.1.1 s.requires.0.0 (back a.l) range in
     let noted : c.note.result ≡ note_of (2 * a.board.symbols) rows a.places.now p m =
     c.note.ensures
@@ -61,7 +61,7 @@ returns c =
     let rows = rows_on a.table.now a.board in
     tabulate_ext 0 (2 ^ length a.places.now) (note_of (2 * a.board.symbols) rows a.places.now (place_of (back a.l))) l.loop-set.notes
     (l.loop-set.invariant.1 ∙ s.requires.1.2) (λ m h. l.loop-set.invariant.2 m (omega (arith, s.requires.1.2)))
-    ∙ ap (λ (z : ℤ). notes_of (2 * a.board.symbols) rows a.places.now (place_of z)) (to_z-of_z s.ranges.l.fits)
+    ∙ ap (λ (z : ℤ). notes_of (2 * a.board.symbols) rows a.places.now (place_of z)) (to_z-of_z s.ranges.l)
 
 pub note_sets_spec : {M : Type 1} → statement M
 note_sets_spec = tie.close (tie.spec

@@ -57,8 +57,8 @@ loop_again c =
     let a = (start l).args in
     below_on _ a.n _ l.loop-i.invariant (omega arith)
     (⊎_elim
-    (λ w. unseen (bit l.loop-i.i a.set) _ (ap (λ (k : ℕ). get_or a.notes.now (a.set - k) 0) (sym w.1.ensures) ∙ w.3.false))
-    (λ w. missing (bit l.loop-i.i a.set) (get_or a.notes.now (a.set - 2 ^ l.loop-i.i) 0) (sym h.has.ensures ∙ w.false)) c.if-has.branch)
+    (λ w. unseen (bit l.loop-i.i a.set) _ (ap (λ (k : ℕ). get_or a.notes.now (a.set - k) 0) (sym w.power.ensures) ∙ w.if-notes-set-ne-GOES_ON.false))
+    (λ w. missing (bit l.loop-i.i a.set) (get_or a.notes.now (a.set - 2 ^ l.loop-i.i) 0) (sym h.has.ensures ∙ w.if-has.false)) c.if-has.branch-raw)
 
 returns_2 : tie.Need-returns invariant_loop decreases_loop
 unfolding stops_fewer

@@ -20,9 +20,9 @@ loop_again c =
     let notes = l.before.args.notes.now in
     let turn = count_next notes (length notes) l.loop-set.set (omega arith) in
     ⊎_elim
-    (λ w. let one = ap tally (eq-eqb _ 2 w.0.true) in (omega arith, omega arith, omega (arith, turn, one, w.1, l.loop-set.invariant.2)))
-    (λ w. let none = ap tally (ne_eqb _ 2 w.0.false) in (omega arith, omega arith, omega (arith, turn, none, w.1, l.loop-set.invariant.2)))
-    c.if-notes-set-eq-LISTED.branch
+    (λ w. let one = ap tally (eq-eqb _ 2 w.if-notes-set-eq-LISTED.true) in (omega arith, omega arith, omega (arith, turn, one, w.count-is, l.loop-set.invariant.2)))
+    (λ w. let none = ap tally (ne_eqb _ 2 w.if-notes-set-eq-LISTED.false) in (omega arith, omega arith, omega (arith, turn, none, w.count-is, l.loop-set.invariant.2)))
+    c.if-notes-set-eq-LISTED.branch-raw
 
 returns : tie.Need-returns invariant_loop decreases_loop
 returns c =

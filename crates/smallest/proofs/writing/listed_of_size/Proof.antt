@@ -15,7 +15,7 @@ returns c =
 returns_2 : tie.Need-returns
 returns_2 c =
     let a = (start c).args in
-    let same = ap (λ (s : ℕ). eqb s a.k) c.type_size.ensures in
+    let same = ap (λ (s : ℕ). eqb s a.k) c.size_of.ensures in
     same ∙ sym (ap (λ (b : Bool). eqb (size a.n a.set) a.k && b) (eq-eqb _ 2 c.before.if-notes-set-ne-LISTED.false)
     ∙ and-true (eqb (size a.n a.set) a.k))
 

@@ -49,5 +49,5 @@ returns c =
 
 pub write_listed_spec : {M : Type 1} → statement M
 write_listed_spec = tie.close (tie.spec
-    invariant_loop decreases_loop (λ c. (omega arith, stands_none c.before.before.args.out-1.now 0)) write_size_requires (λ c. omega arith) (λ c. omega arith)
+    invariant_loop decreases_loop (λ c. (omega arith, stands_none c.before.before.args.out.now 0)) write_size_requires (λ c. omega arith) (λ c. omega arith)
     loop_again (λ c. stands_long c.before.loop-k.invariant.1) returns)

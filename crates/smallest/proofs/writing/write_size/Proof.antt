@@ -66,16 +66,16 @@ loop_again c =
     (λ w. (
       omega arith,
       stands_more l.loop-set.invariant.1 (next l (omega arith))
-          (rw (one_in (size a.n) (listed_in a.notes.now) a.k m (sym t.listed_of_size.ensures ∙ w.0.true), w.1, w.2)
+          (rw (one_in (size a.n) (listed_in a.notes.now) a.k m (sym t.listed_of_size.ensures ∙ w.if-listed_of_size.true), w.out-is, w.next-is)
           (stands_one l.loop-set.out l.loop-set.next m)),
     ))
     (λ w. (
       omega arith,
       stands_more l.loop-set.invariant.1 (next l (omega arith))
-          (rw (one_out (size a.n) (listed_in a.notes.now) a.k m (sym t.listed_of_size.ensures ∙ w.0.false), w.1, w.2)
+          (rw (one_out (size a.n) (listed_in a.notes.now) a.k m (sym t.listed_of_size.ensures ∙ w.if-listed_of_size.false), w.out-is, w.next-is)
           (stands_none l.loop-set.out l.loop-set.next)),
     ))
-    c.if-listed_of_size.branch
+    c.if-listed_of_size.branch-raw
 
 returns : tie.Need-returns invariant_loop decreases_loop
 returns c =
