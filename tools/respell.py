@@ -20,7 +20,7 @@ ALIAS = re.compile(r"\bas ([^\s(){};,.\"]+)")
 
 
 # names that stand beside another in one declaration, and locals
-BESIDE = {"asksWhole": "asks_whole", "newHeads": "new_heads", "newLinks": "new_links", "each_aRule": "each_a_rule"}
+BESIDE = {"asksWhole": "asks_whole", "each_aRule": "each_a_rule"}
 # our names for some of the kit's
 CHOSEN = {
     "Bool·beq": "bool_beq",
