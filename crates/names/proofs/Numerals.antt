@@ -1,5 +1,5 @@
 -- Laws of a number's last digits: how many there are, how they are written, and that they spell it.
-use Rattle.meaning.proofs.Kit.{◌≡◌, ◌∙◌, sym, ap, refl, true, List, [], ◌∷◌, ◌++◌, append-nil, append_assoc, ◌≤◌, ℕ, ◌<◌, ◌-◌, ◌+◌, suc, zero, ◌/◌}
+use Rattle.meaning.proofs.Kit.{◌≡◌, ◌∙◌, sym, ap, refl, true, List, [], ◌∷◌, ◌++◌, append-nil, append_assoc, ◌≤◌, ℕ, ◌<◌, ◌+◌, suc, zero, ◌/◌}
 use Rattle.meaning.proofs.Kit.{◌%◌, arith, length, drop, set, length-append, length-set, drop-cons, get_or-set_same, drop-length, drop-set-lt}
 use Rattle.meaning.specs.Tests.{all}
 use Rattle.meaning.proofs.Tests.{all_append}

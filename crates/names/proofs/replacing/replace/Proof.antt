@@ -50,7 +50,7 @@ loop_again_2 c =
     let same = run_length t.text t.at (end f) (omega arith) t.invariant.0 (runs f) (names_at l) r.new.part r.ensures in (
       omega (arith, same, inside f),
       same ∙ t.invariant.1,
-      t.invariant.2 ∙ coming_run t.text t.at (end f) (omega arith) t.invariant.0 (runs f) (names_at l) r.new.0 r.ensures,
+      t.invariant.2 ∙ coming_run t.text t.at (end f) (omega arith) t.invariant.0 (runs f) (names_at l) r.new.part r.ensures,
     )
 
 returns : tie.Need-returns invariant_loop decreases_loop
