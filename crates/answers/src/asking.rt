@@ -10,124 +10,128 @@ use orders::order::Order;
 use saying::pieces::{say, say_comma, say_literal, say_number, say_place, say_symbol};
 use saying::premises::{is_held, is_tried, literal_of};
 use saying::showing::refuse;
+use std::io;
 
 // What settle leaves in the place of a literal that is not derived.
 const NO_RANK: u16 = 65535;
 
 // How a literal stands.
-pub fn ask(desk: Desk, table: &[i16], names: &[u8], l: i16)
+pub fn ask(rt: &impl Print, desk: Desk, table: &[i16], names: &[u8], l: i16) -> io::Result<()>
     requires { length names.now ≡ table_length }
 {
     let board = desk.board;
     let standing = board::asking::ask(board, table, desk.furnace, l);
     if let Standing::Refused(why) = standing {
-        refuse(Order::Ask, why);
-        return;
+        return refuse(rt, Order::Ask, why);
     }
-    say(b"  ");
-    say_literal(names, l);
+    say(rt, b"  ")?;
+    say_literal(rt, names, l)?;
     match standing {
-        Standing::Stands => say(b" stands\n"),
-        Standing::RuledOut => say(b" is ruled out\n"),
-        Standing::Conflict => say(b" is in conflict\n"),
-        _ => say(b" is open\n"),
+        Standing::Stands => say(rt, b" stands\n"),
+        Standing::RuledOut => say(rt, b" is ruled out\n"),
+        Standing::Conflict => say(rt, b" is in conflict\n"),
+        _ => say(rt, b" is open\n"),
     }
 }
 
 // The literals that are marked, or that there are none.
-fn say_marked(names: &[u8], marks: &[u8])
+fn say_marked(rt: &impl Print, names: &[u8], marks: &[u8]) -> io::Result<()>
     requires { length names.now ≡ table_length }
 {
     let mut count = 0;
     let mut p = 0;
     while p < marks.len() {
         if marks[p] != 0 {
-            say_comma(count);
-            say_place(names, p);
+            say_comma(rt, count)?;
+            say_place(rt, names, p)?;
             count += 1;
         }
         p += 1;
     }
     if count == 0 {
-        say(b"the rules alone");
+        say(rt, b"the rules alone")?;
     }
-    say(b"\n");
+    say(rt, b"\n")
 }
 
 // The premises that a literal stands on.
-pub fn ground(desk: Desk, table: &[i16], names: &[u8], l: i16)
+pub fn ground(rt: &impl Print, desk: Desk, table: &[i16], names: &[u8], l: i16) -> io::Result<()>
     requires { length names.now ≡ table_length }
 {
     let board = desk.board;
     let mut marks = [0u8; 400];
     match board::grounds::ground(board, table, desk.furnace, l, &mut marks) {
-        Outcome::Refused(why) => refuse(Order::Ground, why),
+        Outcome::Refused(why) => refuse(rt, Order::Ground, why),
         Outcome::Done => {
-            say(b"  ");
-            say_literal(names, l);
-            say(b" stands on ");
-            say_marked(names, &marks);
+            say(rt, b"  ")?;
+            say_literal(rt, names, l)?;
+            say(rt, b" stands on ")?;
+            say_marked(rt, names, &marks)
         }
     }
 }
 
 // The premises to blame for a conflict.
-pub fn blame(desk: Desk, table: &[i16], names: &[u8])
+pub fn blame(rt: &impl Print, desk: Desk, table: &[i16], names: &[u8]) -> io::Result<()>
     requires { length names.now ≡ table_length }
 {
     let board = desk.board;
     let mut marks = [0u8; 400];
     match board::grounds::blame(board, table, desk.furnace, &mut marks) {
-        Outcome::Refused(why) => refuse(Order::Blame, why),
+        Outcome::Refused(why) => refuse(rt, Order::Blame, why),
         Outcome::Done => {
-            say(b"  to blame: ");
-            say_marked(names, &marks);
+            say(rt, b"  to blame: ")?;
+            say_marked(rt, names, &marks)
         }
     }
 }
 
 // How a derived literal came up: tried, held or by a rule.
-fn say_way(desk: Desk, l: i16, rank: u16) {
+fn say_way(rt: &impl Print, desk: Desk, l: i16, rank: u16) -> io::Result<()> {
     if is_tried(desk, l) {
-        say(b", held on trial");
-        return;
+        return say(rt, b", held on trial");
     }
     if is_held(desk, l) {
-        say(b", held");
-        return;
+        return say(rt, b", held");
     }
-    say(b", rank ");
-    say_number(rank as usize);
+    say(rt, b", rank ")?;
+    say_number(rt, rank as usize)
 }
 
 // A symbol and how its literal makes it: it stands, or it is ruled out.
-pub fn say_derived(names: &[u8], l: i16)
+pub fn say_derived(rt: &impl Print, names: &[u8], l: i16) -> io::Result<()>
     requires { length names.now ≡ table_length }
 {
-    say_symbol(names, literals::symbol(l));
+    say_symbol(rt, names, literals::symbol(l))?;
     if l < 0 {
-        say(b" is ruled out");
-        return;
+        return say(rt, b" is ruled out");
     }
-    say(b" stands");
+    say(rt, b" stands")
 }
 
 // The mark of a derived literal, by its place.
-fn say_mark(desk: Desk, names: &[u8], p: usize, rank: u16, opposed: bool)
+fn say_mark(
+    rt: &impl Print,
+    desk: Desk,
+    names: &[u8],
+    p: usize,
+    rank: u16,
+    opposed: bool,
+) -> io::Result<()>
     requires { (length names.now ≡ table_length) × (p < 400) }
 {
     let l = literal_of(p);
-    say(b"  ");
-    say_derived(names, l);
-    say_way(desk, l, rank);
+    say(rt, b"  ")?;
+    say_derived(rt, names, l)?;
+    say_way(rt, desk, l, rank)?;
     if opposed {
-        say(b", in conflict");
+        say(rt, b", in conflict")?;
     }
-    say(b"\n");
+    say(rt, b"\n")
 }
 
 // The marks of ranks, a line each, or that there are none.
-fn say_marks(desk: Desk, names: &[u8], ranks: &[u16])
+fn say_marks(rt: &impl Print, desk: Desk, names: &[u8], ranks: &[u16]) -> io::Result<()>
     requires { (length names.now ≡ table_length) × (length ranks.now ≡ 400) }
 {
     let mut none = true;
@@ -135,18 +139,19 @@ fn say_marks(desk: Desk, names: &[u8], ranks: &[u16])
     while p < 400 {
         if ranks[p] != NO_RANK {
             let opposite = if p % 2 == 0 { p + 1 } else { p - 1 };
-            say_mark(desk, names, p, ranks[p], ranks[opposite] != NO_RANK);
+            say_mark(rt, desk, names, p, ranks[p], ranks[opposite] != NO_RANK)?;
             none = false;
         }
         p += 1;
     }
     if none {
-        say(b"  nothing stands, nothing is ruled out\n");
+        say(rt, b"  nothing stands, nothing is ruled out\n")?;
     }
+    Ok(())
 }
 
 // All that stands and all that is ruled out.
-pub fn marks(desk: Desk, table: &[i16], names: &[u8])
+pub fn marks(rt: &impl Print, desk: Desk, table: &[i16], names: &[u8]) -> io::Result<()>
     requires { length names.now ≡ table_length }
 {
     let board = desk.board;
@@ -161,7 +166,7 @@ pub fn marks(desk: Desk, table: &[i16], names: &[u8])
         &mut ranks,
         &mut supports,
     ) {
-        Outcome::Refused(why) => refuse(Order::Marks, why),
-        Outcome::Done => say_marks(desk, names, &ranks),
+        Outcome::Refused(why) => refuse(rt, Order::Marks, why),
+        Outcome::Done => say_marks(rt, desk, names, &ranks),
     }
 }

@@ -13,6 +13,7 @@ use orders::{Desk, Slip};
 use saying::pieces::{say, say_comma, say_literal};
 use saying::premises::{is_held, literal_of};
 use saying::showing::{refuse, show_slip};
+use std::io;
 
 // The most literals that are given: as many as a furnace can hold, which is more than a line has words.
 const MOST_GIVEN: usize = 400;
@@ -63,78 +64,104 @@ fn gather_held(desk: Desk, given: &mut [i16]) -> usize
 }
 
 // The literals of a set, or that there are none.
-fn say_set(names: &[u8], given: &[i16], set: u16, none: &[u8])
+fn say_set(rt: &impl Print, names: &[u8], given: &[i16], set: u16, none: &[u8]) -> io::Result<()>
     requires { length names.now ≡ table_length }
 {
     let mut count = 0;
     let mut i = 0;
     while i < given.len() && i < 16 {
         if has(set as usize, i) {
-            say_comma(count);
-            say_literal(names, given[i]);
+            say_comma(rt, count)?;
+            say_literal(rt, names, given[i])?;
             count += 1;
         }
         i += 1;
     }
     if count == 0 {
-        say(none);
+        say(rt, none)?;
     }
-    say(b"\n");
+    say(rt, b"\n")
 }
 
 // The least of some literals to drop.
-fn say_least(desk: Desk, table: &[i16], names: &[u8], given: &[i16])
+fn say_least(
+    rt: &impl Print,
+    desk: Desk,
+    table: &[i16],
+    names: &[u8],
+    given: &[i16],
+) -> io::Result<()>
     requires { length names.now ≡ table_length }
 {
     let board = desk.board;
     let least = least::call::least(board, table, desk.furnace, given);
     let outcome = least.outcome;
     match outcome {
-        Outcome::Refused(why) => refuse(Order::Least, why),
+        Outcome::Refused(why) => refuse(rt, Order::Least, why),
         Outcome::Done => {
-            say(b"  to drop: ");
-            say_set(names, given, least.set, b"nothing, there is no conflict");
+            say(rt, b"  to drop: ")?;
+            say_set(
+                rt,
+                names,
+                given,
+                least.set,
+                b"nothing, there is no conflict",
+            )
         }
     }
 }
 
 // `least` with the literals of its line, or with all that the furnace holds.
-pub fn least_line(desk: Desk, table: &[i16], names: &[u8], line: &[u8], echo: bool)
+pub fn least_line(
+    rt: &impl Print,
+    desk: Desk,
+    table: &[i16],
+    names: &[u8],
+    line: &[u8],
+    echo: bool,
+) -> io::Result<()>
     requires { length names.now ≡ table_length }
 {
     let mut given = [0i16; 400];
     if ends_at(line, 1) {
         let count = gather_held(desk, &mut given);
-        say_least(desk, table, names, &given[..count]);
-        return;
+        return say_least(rt, desk, table, names, &given[..count]);
     }
     match gather(names, line, 1, &mut given) {
-        Given::Not(slip, k) => show_slip(line, echo, slip, k),
-        Given::Count(count) => say_least(desk, table, names, &given[..count]),
+        Given::Not(slip, k) => show_slip(rt, line, echo, slip, k),
+        Given::Count(count) => say_least(rt, desk, table, names, &given[..count]),
     }
 }
 
 // The sets that carry a literal, a line each.
-fn say_sets(names: &[u8], given: &[i16], l: i16, sets: &[u16])
+fn say_sets(rt: &impl Print, names: &[u8], given: &[i16], l: i16, sets: &[u16]) -> io::Result<()>
     requires { length names.now ≡ table_length }
 {
     let mut k = 0;
     while k < sets.len() {
-        say(b"  ");
-        say_literal(names, l);
-        say(b" by ");
-        say_set(names, given, sets[k], b"the rules alone");
+        say(rt, b"  ")?;
+        say_literal(rt, names, l)?;
+        say(rt, b" by ")?;
+        say_set(rt, names, given, sets[k], b"the rules alone")?;
         k += 1;
     }
     if k == 0 {
-        say(b"  ");
-        say_literal(names, l);
-        say(b" by no set of these\n");
+        say(rt, b"  ")?;
+        say_literal(rt, names, l)?;
+        say(rt, b" by no set of these\n")?;
     }
+    Ok(())
 }
 
 // The smallest sets of some literals that carry one. Of 12 literals no more than 924 sets can be listed, none of them inside another.
-fn list_sets(desk: Desk, table: &[i16], names: &[u8], given: &[i16], l: i16)
+fn list_sets(
+    rt: &impl Print,
+    desk: Desk,
+    table: &[i16],
+    names: &[u8],
+    given: &[i16],
+    l: i16,
+) -> io::Result<()>
     requires { length names.now ≡ table_length }
 {
     let board = desk.board;
@@ -142,24 +169,31 @@ fn list_sets(desk: Desk, table: &[i16], names: &[u8], given: &[i16], l: i16)
     let listing = smallest::call::smallest(board, table, given, l, &mut sets);
     let outcome = listing.outcome;
     match outcome {
-        Outcome::Refused(why) => refuse(Order::Sets, why),
+        Outcome::Refused(why) => refuse(rt, Order::Sets, why),
         Outcome::Done => {
             let count = listing.count;
-            say_sets(names, given, l, &sets[..count]);
+            say_sets(rt, names, given, l, &sets[..count])
         }
     }
 }
 
 // `sets` with the literal and those to choose from.
-pub fn sets_line(desk: Desk, table: &[i16], names: &[u8], line: &[u8], echo: bool)
+pub fn sets_line(
+    rt: &impl Print,
+    desk: Desk,
+    table: &[i16],
+    names: &[u8],
+    line: &[u8],
+    echo: bool,
+) -> io::Result<()>
     requires { length names.now ≡ table_length }
 {
     let mut given = [0i16; 400];
     match literal_in(names, word(line, 1)) {
-        Literal::Not(slip) => show_slip(line, echo, slip, 1),
+        Literal::Not(slip) => show_slip(rt, line, echo, slip, 1),
         Literal::Of(l) => match gather(names, line, 2, &mut given) {
-            Given::Not(slip, k) => show_slip(line, echo, slip, k),
-            Given::Count(count) => list_sets(desk, table, names, &given[..count], l),
+            Given::Not(slip, k) => show_slip(rt, line, echo, slip, k),
+            Given::Count(count) => list_sets(rt, desk, table, names, &given[..count], l),
         },
     }
 }

@@ -12,74 +12,74 @@ use orders::Desk;
 use orders::order::Order;
 use saying::pieces::{say, say_literal, say_number};
 use saying::showing::refuse;
+use std::io;
 
 // Literals with bars between.
-fn say_alternatives(names: &[u8], part: &[i16])
+fn say_alternatives(rt: &impl Print, names: &[u8], part: &[i16]) -> io::Result<()>
     requires { length names.now ≡ table_length }
 {
     let mut k = 0;
     while k < part.len() {
         if 0 < k {
-            say(b" | ");
+            say(rt, b" | ")?;
         }
-        say_literal(names, part[k]);
+        say_literal(rt, names, part[k])?;
         k += 1;
     }
-    say(b"\n");
+    say(rt, b"\n")
 }
 
 // A row of the table.
-fn say_row(table: &[i16], names: &[u8], row: usize)
+fn say_row(rt: &impl Print, table: &[i16], names: &[u8], row: usize) -> io::Result<()>
     requires { (length names.now ≡ table_length) × (width * (row + 1) ≤ length table.now) }
 {
     let at = WIDTH * row;
     let n = literals::literal_count(table, at);
-    say(b"  row ");
-    say_number(row);
-    say(b", rule ");
-    say_number(literals::rule_at(table, row));
-    say(b": ");
-    say_alternatives(names, &table[at..at + n]);
+    say(rt, b"  row ")?;
+    say_number(rt, row)?;
+    say(rt, b", rule ")?;
+    say_number(rt, literals::rule_at(table, row))?;
+    say(rt, b": ")?;
+    say_alternatives(rt, names, &table[at..at + n])
 }
 
 // So many rows.
-fn say_rows(table: &[i16], names: &[u8], rows: usize)
+fn say_rows(rt: &impl Print, table: &[i16], names: &[u8], rows: usize) -> io::Result<()>
     requires { (length names.now ≡ table_length) × (width * rows ≤ length table.now) }
 {
     if rows == 0 {
-        say(b"  no row\n");
-        return;
+        return say(rt, b"  no row\n");
     }
     let mut row = 0;
     while row < rows {
-        say_row(table, names, row);
+        say_row(rt, table, names, row)?;
         row += 1;
     }
+    Ok(())
 }
 
 // The rows in use.
-pub fn rows(desk: Desk, table: &[i16], names: &[u8])
+pub fn rows(rt: &impl Print, desk: Desk, table: &[i16], names: &[u8]) -> io::Result<()>
     requires { length names.now ≡ table_length }
 {
     let board = desk.board;
     if !good(board, table) {
-        refuse(Order::Rows, Refusal::BadBoard);
-        return;
+        return refuse(rt, Order::Rows, Refusal::BadBoard);
     }
-    say_rows(table, names, board.rows);
+    say_rows(rt, table, names, board.rows)
 }
 
 // The rows in use as DIMACS text: no text of 2,048 rows has more bytes than there is room for.
-pub fn cnf(desk: Desk, table: &[i16]) {
+pub fn cnf(rt: &impl Print, desk: Desk, table: &[i16]) -> io::Result<()> {
     let board = desk.board;
     let mut out = [0u8; 86031];
     let writing = dimacs::writing::write(board, table, &mut out);
     let outcome = writing.outcome;
     match outcome {
-        Outcome::Refused(why) => refuse(Order::Cnf, why),
+        Outcome::Refused(why) => refuse(rt, Order::Cnf, why),
         Outcome::Done => {
             let n = writing.bytes;
-            say(&out[..n]);
+            say(rt, &out[..n])
         }
     }
 }

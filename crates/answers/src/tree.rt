@@ -14,6 +14,7 @@ use saying::pieces::{say, say_blanks, say_literal, say_number};
 use saying::premises::{is_held, is_tried, literal_of};
 use saying::showing::refuse;
 use saying::texts::say_rule;
+use std::io;
 
 // So many lines may wait to be shown: each of 400 literals is gone into once, and has at most seven below it.
 const MOST_LINES: usize = 2816;
@@ -22,39 +23,46 @@ const MOST_LINES: usize = 2816;
 const DEEPEST: usize = 400;
 
 // A premise.
-fn say_premise(desk: Desk, names: &[u8], l: i16)
+fn say_premise(rt: &impl Print, desk: Desk, names: &[u8], l: i16) -> io::Result<()>
     requires { length names.now ≡ table_length }
 {
-    say_literal(names, l);
+    say_literal(rt, names, l)?;
     if is_tried(desk, l) {
-        say(b" is held on trial\n");
-        return;
+        return say(rt, b" is held on trial\n");
     }
-    say(b" is held\n");
+    say(rt, b" is held\n")
 }
 
 // The line of a literal that is derived. Answers whether it has something below it: a premise has nothing, nor has a literal that was shown before.
-fn say_node(desk: Desk, table: &[i16], names: &[u8], texts: &[u8], l: i16, again: bool) -> bool
+fn say_node(
+    rt: &impl Print,
+    desk: Desk,
+    table: &[i16],
+    names: &[u8],
+    texts: &[u8],
+    l: i16,
+    again: bool,
+) -> io::Result<bool>
     requires { (length names.now ≡ table_length) × (length texts.now ≡ kept_length) }
 {
     let board = desk.board;
     let reason = board::asking::explain_numbers(board, table, desk.furnace, l);
     let outcome = reason.outcome;
     if let Outcome::Refused(_) = outcome {
-        say_premise(desk, names, l);
-        return false;
+        say_premise(rt, desk, names, l)?;
+        return Ok(false);
     }
-    say_derived(names, l);
-    say(b", rank ");
-    say_number(reason.rank as usize);
+    say_derived(rt, names, l)?;
+    say(rt, b", rank ")?;
+    say_number(rt, reason.rank as usize)?;
     if again {
-        say(b": as above\n");
-        return false;
+        say(rt, b": as above\n")?;
+        return Ok(false);
     }
-    say(b": ");
-    say_rule(texts, reason.rule as usize);
-    say(b"\n");
-    true
+    say(rt, b": ")?;
+    say_rule(rt, texts, reason.rule as usize)?;
+    say(rt, b"\n")?;
+    Ok(true)
 }
 
 // What waits is a depth and a place in one number.
@@ -83,7 +91,14 @@ fn put_below(row: &[i16], l: i16, depth: usize, waiting: &mut [u32], count: usiz
 }
 
 // The tree of a derived literal, by its place.
-fn say_tree(desk: Desk, table: &[i16], names: &[u8], texts: &[u8], root: usize)
+fn say_tree(
+    rt: &impl Print,
+    desk: Desk,
+    table: &[i16],
+    names: &[u8],
+    texts: &[u8],
+    root: usize,
+) -> io::Result<()>
     requires { (length names.now ≡ table_length) × (length texts.now ≡ kept_length) × (root < 400) }
 {
     let board = desk.board;
@@ -99,13 +114,14 @@ fn say_tree(desk: Desk, table: &[i16], names: &[u8], texts: &[u8], root: usize)
         let p = *line as usize % 400;
         let depth = *line as usize / 400;
         let l = literal_of(p);
-        say_blanks(2 + 2 * depth);
-        if say_node(desk, table, names, texts, l, shown[p]) && depth < DEEPEST {
+        say_blanks(rt, 2 + 2 * depth)?;
+        if say_node(rt, desk, table, names, texts, l, shown[p])? && depth < DEEPEST {
             shown[p] = true;
             let row = board::asking::explain(board, table, desk.furnace, l);
             count = put_below(row, l, depth + 1, &mut waiting, count);
         }
     }
+    Ok(())
 }
 
 // Whether a literal is derived.
@@ -120,28 +136,40 @@ fn is_derived(desk: Desk, table: &[i16], l: i16) -> bool {
 }
 
 // Why the literal of a place stands, or its opposite.
-fn say_why(desk: Desk, table: &[i16], names: &[u8], texts: &[u8], p: usize)
+fn say_why(
+    rt: &impl Print,
+    desk: Desk,
+    table: &[i16],
+    names: &[u8],
+    texts: &[u8],
+    p: usize,
+) -> io::Result<()>
     requires { (length names.now ≡ table_length) × (length texts.now ≡ kept_length) × (p < 400) }
 {
     if is_derived(desk, table, literal_of(p)) {
-        say_tree(desk, table, names, texts, p);
-        return;
+        return say_tree(rt, desk, table, names, texts, p);
     }
     let opposite = if p % 2 == 0 { p + 1 } else { p - 1 };
     if is_derived(desk, table, literal_of(opposite)) {
-        say_tree(desk, table, names, texts, opposite);
-        return;
+        return say_tree(rt, desk, table, names, texts, opposite);
     }
-    refuse(Order::Why, Refusal::NothingToShow);
+    refuse(rt, Order::Why, Refusal::NothingToShow)
 }
 
 // Why a literal stands, or why it is ruled out.
-pub fn why(desk: Desk, table: &[i16], names: &[u8], texts: &[u8], l: i16)
+pub fn why(
+    rt: &impl Print,
+    desk: Desk,
+    table: &[i16],
+    names: &[u8],
+    texts: &[u8],
+    l: i16,
+) -> io::Result<()>
     requires { (length names.now ≡ table_length) × (length texts.now ≡ kept_length) }
 {
     let board = desk.board;
     match board::testing::place_on(board, table, desk.furnace, l) {
-        Placed::Refused(why) => refuse(Order::Why, why),
-        Placed::At(p) => say_why(desk, table, names, texts, p),
+        Placed::Refused(why) => refuse(rt, Order::Why, why),
+        Placed::At(p) => say_why(rt, desk, table, names, texts, p),
     }
 }

@@ -8,8 +8,9 @@ ghost use Rattle.cnf.specs.Rewriting.{made, read_made, rows_made};
 
 use board::{Board, Outcome};
 use dimacs::header::Counts;
-use libc::{STDERR_FILENO, STDIN_FILENO, STDOUT_FILENO};
 use literals::refusal::Refusal;
+use std::io;
+use std::io::{Read, Stderr};
 
 // The most bytes of input that are taken.
 const MOST_INPUT: usize = 262144;
@@ -65,39 +66,44 @@ fn rewrite(table: &mut [i16], text: &[u8], out: &mut [u8]) -> Rewritten
 }
 
 // Says a line with a number in it.
-fn say(before: &[u8], n: usize, after: &[u8])
+fn say(err: Stderr, before: &[u8], n: usize, after: &[u8]) -> io::Result<()>
     requires { length before.now + 20 + length after.now ≤ 128 }
 {
     let mut line = [0u8; 128];
     let at = spelling::put_named(&mut line, 0, before, n);
     let end = spelling::put_word(&mut line, at, after);
-    io::write_all(STDERR_FILENO, &line[..end]);
+    err.write_all(&line[..end])
 }
 
 // Says why a text is refused, and where a clause is at fault which: the one behind so many.
-fn say_refusal(why: Refusal, before: usize)
+fn say_refusal(err: Stderr, why: Refusal, before: usize) -> io::Result<()>
     requires { before < beyond }
 {
     let clause = before + 1;
     match why {
-        Refusal::BadText => {
-            io::write_all(
-                STDERR_FILENO,
-                b"cnf: refused 15: the text breaks the form, has not the header's number of clauses, or has a literal beyond its variables\n",
-            );
-        }
+        Refusal::BadText => err.write_all(
+            b"cnf: refused 15: the text breaks the form, has not the header's number of clauses, or has a literal beyond its variables\n",
+        ),
         Refusal::TooManySymbols => say(
+            err,
             b"cnf: refused 7: clause ",
             clause,
             b" has more than 8 different symbols\n",
         ),
-        Refusal::NoAssignment => say(b"cnf: refused 8: clause ", clause, b" has no literal\n"),
+        Refusal::NoAssignment => say(
+            err,
+            b"cnf: refused 8: clause ",
+            clause,
+            b" has no literal\n",
+        ),
         Refusal::TableFull => say(
+            err,
             b"cnf: refused 9: clause ",
             clause,
             b" needs a row more than the 2048 there are\n",
         ),
         _ => say(
+            err,
             b"cnf: refused ",
             literals::refusal::number(why) as usize,
             b"\n",
@@ -105,27 +111,24 @@ fn say_refusal(why: Refusal, before: usize)
     }
 }
 
-fn main() {
-    let mut input = [0u8; 262145];
-    let n = io::read_full(STDIN_FILENO, &mut input);
-    if MOST_INPUT < n {
-        io::write_all(
-            STDERR_FILENO,
-            b"cnf: input too long: more than 262144 bytes\n",
-        );
-        return;
+fn main(rt: HostRuntime) -> io::Result<()> {
+    let mut input = Vec::new(rt.alloc());
+    rt.reader().take(262145).read_to_end(&mut input)?;
+    if MOST_INPUT < input.len() {
+        return rt
+            .stderr()
+            .write_all(b"cnf: input too long: more than 262144 bytes\n");
     }
     let mut table = [0i16; 18432];
     let mut out = [0u8; 86031];
-    match rewrite(&mut table, &input[..n], &mut out) {
-        Rewritten::Text(bytes) => {
-            io::write_all(STDOUT_FILENO, &out[..bytes]);
-        }
+    match rewrite(&mut table, input.as_slice(), &mut out) {
+        Rewritten::Text(bytes) => rt.write_all(&out[..bytes]),
         Rewritten::NoBoard(variables) => say(
+            rt.stderr(),
             b"cnf: refused 2: the header counts ",
             variables,
             b" variables, and a board has 1 to 200\n",
         ),
-        Rewritten::Refused(why, before) => say_refusal(why, before),
+        Rewritten::Refused(why, before) => say_refusal(rt.stderr(), why, before),
     }
 }

@@ -1,5 +1,5 @@
 -- The bytes of the input as lines, and the desk's state after them.
-use Rattle.std.specs.Prelude.{ℕ, suc, ◌-◌, Bool, false, cond, List, [], ◌∷◌, ◌++◌, eqb, ℤ, length, take, get_or}
+use Rattle.std.specs.Prelude.{ℕ, suc, ◌-◌, ◌≡◌, Bool, false, cond, List, [], ◌∷◌, ◌++◌, eqb, ℤ, length, take, get_or}
 use Rattle.board.specs.Changes.{empty_board}
 use Rattle.stack.specs.Stacking.{empty_stacks}
 use Rattle.orders.specs.States.{State, state_of, ordered, did}
@@ -26,6 +26,10 @@ plain line = take (plain_length line) line
 
 unfoldable pub after_line : State → List ℕ → State
 after_line s line = did s (ordered s (plain line))
+
+-- what is left where an answer cannot be written: the table and the names of a state
+abbrev pub Leaves : State → (table : List ℤ) → (names : List ℕ) → Type 0
+Leaves s table names = (table ≡ s.world.table) × (names ≡ s.names)
 
 -- ---- bytes
 

@@ -1,9 +1,9 @@
 // The bytes of the input as lines, each taken and answered.
 
-ghost use Rattle.std.specs.Prelude.{◌≡◌, ◌++◌, ◌≤◌, min, length, take};
+ghost use Rattle.std.specs.Prelude.{ℕ, ◌≡◌, ◌++◌, ◌≤◌, min, length, take, IfOk, OnErr};
 ghost use Rattle.names.specs.Names.{table_length};
 ghost use Rattle.saying.specs.Limits.{kept_length};
-ghost use Rattle.desk.specs.Sittings.{after_bytes, after_end, after_line, after_part, kept, line_length, plain_length, sat, starting};
+ghost use Rattle.desk.specs.Sittings.{after_bytes, after_end, after_line, after_part, kept, Leaves, line_length, plain_length, sat, starting};
 ghost use Rattle.orders.specs.States.{state_of};
 ghost use Rattle.stack.specs.Stacking.{empty_stack};
 
@@ -13,6 +13,7 @@ use orders::Desk;
 use orders::taking::{MOST_BYTES, take};
 use saying::pieces::say_line;
 use stack::{Stack, Stacks};
+use std::io;
 
 // How far the desk is: its state beside the table and the names; whether lines are printed; how many were read; and how many bytes of the next one
 // are in its buffer.
@@ -98,30 +99,33 @@ fn counted(lines: usize) -> usize {
     if lines < MOST_LINES { lines + 1 } else { lines }
 }
 
-// Takes and answers a line.
+// Takes and answers a line. Where its answer cannot be written, the table and the names are as the line leaves them.
 fn take_line(
+    rt: &impl Print,
     sitting: Sitting,
     table: &mut [i16],
     names: &mut [u8],
     texts: &mut [u8],
     line: &[u8],
-) -> Sitting
+) -> io::Result<Sitting>
     requires { (length names.old ≡ table_length) × (length texts.old ≡ kept_length) }
-    ensures names_after { state_of result.desk table.new names.new
-        ≡ after_line (state_of sitting.desk table.old names.old) line.now }
-    ensures filled_value { result.filled ≡ 0 }
+    ensures names_after { IfOk result (λ next. state_of next.desk table.new names.new
+        ≡ after_line (state_of sitting.desk table.old names.old) line.now) }
+    ensures filled_value { IfOk result (λ next. next.filled ≡ 0) }
+    ensures failed { OnErr result (Leaves (after_line (state_of sitting.desk table.old names.old) line.now) table.new names.new) }
 {
     let n = plain_length(line);
     let text = &line[..n];
-    if sitting.echo && n <= MOST_BYTES {
-        say_line(text);
-    }
     let before = sitting.desk;
     let taken = take(before, table, names, text);
+    if sitting.echo && n <= MOST_BYTES {
+        say_line(rt, text)?;
+    }
     let after = taken.desk;
     let lines = counted(sitting.lines);
     let told = taken.told;
     let echo = answer(
+        rt,
         before,
         after,
         told,
@@ -131,13 +135,13 @@ fn take_line(
         text,
         sitting.echo,
         lines,
-    );
-    Sitting {
+    )?;
+    Ok(Sitting {
         desk: after,
         echo,
         lines,
         filled: 0,
-    }
+    })
 }
 
 // How many of so many bytes there is room for.
@@ -164,23 +168,27 @@ fn gather(line: &mut [u8], filled: usize, bytes: &[u8]) -> usize
 
 // Takes and answers the line in the buffer.
 fn take_filled(
+    rt: &impl Print,
     sitting: Sitting,
     table: &mut [i16],
     names: &mut [u8],
     texts: &mut [u8],
     line: &[u8],
-) -> Sitting
+) -> io::Result<Sitting>
     requires { (length names.old ≡ table_length) × (length texts.old ≡ kept_length) × (sitting.filled ≤ length line.now) }
-    ensures names_after { state_of result.desk table.new names.new
-        ≡ after_line (state_of sitting.desk table.old names.old) (take sitting.filled line.now) }
-    ensures filled_value { result.filled ≡ 0 }
+    ensures names_after { IfOk result (λ next. state_of next.desk table.new names.new
+        ≡ after_line (state_of sitting.desk table.old names.old) (take sitting.filled line.now)) }
+    ensures filled_value { IfOk result (λ next. next.filled ≡ 0) }
+    ensures failed { OnErr result
+        (Leaves (after_line (state_of sitting.desk table.old names.old) (take sitting.filled line.now)) table.new names.new) }
 {
     let n = sitting.filled;
-    take_line(sitting, table, names, texts, &line[..n])
+    take_line(rt, sitting, table, names, texts, &line[..n])
 }
 
 // Takes bytes without a line feed, and where one follows them the line that it ends.
 fn take_part(
+    rt: &impl Print,
     sitting: Sitting,
     table: &mut [i16],
     names: &mut [u8],
@@ -188,40 +196,47 @@ fn take_part(
     line: &mut [u8],
     part: &[u8],
     ends: bool,
-) -> Sitting
+) -> io::Result<Sitting>
     requires { (length names.old ≡ table_length) × (length texts.old ≡ kept_length) × (length line.old ≡ 502) × (sitting.filled ≤ 502) }
-    ensures line_after { sat result table.new names.new line.new
-        ≡ after_part (sat sitting table.old names.old line.old) part.now ends }
-    ensures filled_bound { result.filled ≤ 502 }
+    ensures line_after { IfOk result (λ next. sat next table.new names.new line.new
+        ≡ after_part (sat sitting table.old names.old line.old) part.now ends) }
+    ensures filled_bound { IfOk result (λ next. next.filled ≤ 502) }
+    ensures failed { OnErr result
+        (Leaves (after_part (sat sitting table.old names.old line.old) part.now ends).state table.new names.new) }
 {
     let filled = gather(line, sitting.filled, part);
     let next = Sitting { filled, ..sitting };
     if ends {
-        return take_filled(next, table, names, texts, line);
+        return take_filled(rt, next, table, names, texts, line);
     }
-    next
+    Ok(next)
 }
 
-// Takes the next bytes of the input: each line that they end is taken and answered, and what is left over waits in the buffer.
+// Takes the next bytes of the input: each line that they end is taken and answered, and what is left over waits in the buffer. Where an answer cannot
+// be written, the table and the names are as the lines up to that one leave them.
 pub fn take_bytes(
+    rt: &impl Print,
     sitting: Sitting,
     table: &mut [i16],
     names: &mut [u8],
     texts: &mut [u8],
     line: &mut [u8],
     bytes: &[u8],
-) -> Sitting
+) -> io::Result<Sitting>
     requires { (length names.old ≡ table_length) × (length texts.old ≡ kept_length) × (length line.old ≡ 502) × (sitting.filled ≤ 502)
         × (length bytes.now ≤ 4096) }
-    ensures line_after { sat result table.new names.new line.new
-        ≡ after_bytes (sat sitting table.old names.old line.old) bytes.now }
-    ensures filled_bound { result.filled ≤ 502 }
+    ensures line_after { IfOk result (λ next. sat next table.new names.new line.new
+        ≡ after_bytes (sat sitting table.old names.old line.old) bytes.now) }
+    ensures filled_bound { IfOk result (λ next. next.filled ≤ 502) }
+    ensures failed { OnErr result
+        ((n : ℕ) × Leaves (after_bytes (sat sitting table.old names.old line.old) (take n bytes.now)).state table.new names.new) }
 {
     let mut here = sitting;
     let mut at = 0;
     while at < bytes.len() {
         let end = at + line_length(&bytes[at..]);
         here = take_part(
+            rt,
             here,
             table,
             names,
@@ -229,26 +244,28 @@ pub fn take_bytes(
             line,
             &bytes[at..end],
             end < bytes.len(),
-        );
+        )?;
         at = end + 1;
     }
-    here
+    Ok(here)
 }
 
 // Takes what is left of the input where it has ended, if anything is.
 pub fn end_line(
+    rt: &impl Print,
     sitting: Sitting,
     table: &mut [i16],
     names: &mut [u8],
     texts: &mut [u8],
     line: &[u8],
-) -> Sitting
+) -> io::Result<Sitting>
     requires { (length names.old ≡ table_length) × (length texts.old ≡ kept_length) × (length line.now ≡ 502) × (sitting.filled ≤ 502) }
-    ensures { state_of result.desk table.new names.new
-        ≡ after_end (sat sitting table.old names.old line.now) }
+    ensures ended { IfOk result (λ last. state_of last.desk table.new names.new
+        ≡ after_end (sat sitting table.old names.old line.now)) }
+    ensures failed { OnErr result (Leaves (after_end (sat sitting table.old names.old line.now)) table.new names.new) }
 {
     if sitting.filled == 0 {
-        return sitting;
+        return Ok(sitting);
     }
-    take_filled(sitting, table, names, texts, line)
+    take_filled(rt, sitting, table, names, texts, line)
 }

@@ -5,7 +5,8 @@ ghost use Rattle.std.specs.Prelude.{◌+◌, ◌≤◌, ◌<◌, ◌≡◌, true
 ghost use Rattle.journal.specs.Told.{left, more, Runs, starting, told};
 
 use board::Board;
-use libc::{STDIN_FILENO, STDOUT_FILENO};
+use std::io;
+use std::io::Read;
 
 // The most bytes of input that are taken.
 const MOST_INPUT: usize = 32768;
@@ -95,22 +96,22 @@ fn fill(run: Run, table: &mut [i16], input: &[u8], out: &mut [u8]) -> Run
 }
 
 // Carries out all commands, and writes their lines a buffer at a time.
-fn journal(table: &mut [i16], input: &[u8]) {
+fn journal(rt: &impl Print, table: &mut [i16], input: &[u8]) -> io::Result<()> {
     let mut out = [0u8; 4096];
     let mut run = start();
     while goes_on(run, input) {
         run = fill(run, table, input, &mut out);
-        io::write_all(STDOUT_FILENO, &out[..run.filled]);
+        rt.write_all(&out[..run.filled])?;
     }
+    Ok(())
 }
 
-fn main() {
-    let mut input = [0u8; 32769];
-    let n = io::read_full(STDIN_FILENO, &mut input);
-    if MOST_INPUT < n {
-        io::write_all(STDOUT_FILENO, b"input too long\n");
-        return;
+fn main(rt: HostRuntime) -> io::Result<()> {
+    let mut input = Vec::new(rt.alloc());
+    rt.reader().take(32769).read_to_end(&mut input)?;
+    if MOST_INPUT < input.len() {
+        return rt.write_all(b"input too long\n");
     }
     let mut table = [0i16; 18432];
-    journal(&mut table, &input[..n]);
+    journal(&rt, &mut table, input.as_slice())
 }

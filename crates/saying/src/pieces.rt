@@ -3,15 +3,15 @@
 ghost use Rattle.std.specs.Prelude.{◌≡◌, ◌≤◌, length};
 ghost use Rattle.names.specs.Names.{table_length};
 
-use libc::STDOUT_FILENO;
 use names::naming::{SYMBOLS, WIDTH};
+use std::io;
 
-pub fn say(words: &[u8]) {
-    io::write_all(STDOUT_FILENO, words);
+pub fn say(rt: &impl Print, words: &[u8]) -> io::Result<()> {
+    rt.write_all(words)
 }
 
-pub fn say_number(n: usize) {
-    io::print_decimal(STDOUT_FILENO, n as u64);
+pub fn say_number(rt: &impl Print, n: usize) -> io::Result<()> {
+    rt.print(n)
 }
 
 // How many bytes stand before the first zero.
@@ -29,55 +29,53 @@ pub fn word_length(slot: &[u8]) -> usize
 }
 
 // The name of a slot, or the symbol's number where it has none.
-fn say_slot(slot: &[u8], symbol: usize) {
+fn say_slot(rt: &impl Print, slot: &[u8], symbol: usize) -> io::Result<()> {
     let n = word_length(slot);
     if n == 0 {
-        say_number(symbol);
-        return;
+        return say_number(rt, symbol);
     }
-    say(&slot[..n]);
+    say(rt, &slot[..n])
 }
 
 // A symbol by its name, or by its number.
-pub fn say_symbol(names: &[u8], symbol: usize)
+pub fn say_symbol(rt: &impl Print, names: &[u8], symbol: usize) -> io::Result<()>
     requires { length names.now ≡ table_length }
 {
     if symbol < 1 {
-        say_number(symbol);
-        return;
+        return say_number(rt, symbol);
     }
     if SYMBOLS < symbol {
-        say_number(symbol);
-        return;
+        return say_number(rt, symbol);
     }
     let at = WIDTH * (symbol - 1);
-    say_slot(&names[at..at + WIDTH], symbol);
+    say_slot(rt, &names[at..at + WIDTH], symbol)
 }
 
-pub fn say_literal(names: &[u8], l: i16)
+pub fn say_literal(rt: &impl Print, names: &[u8], l: i16) -> io::Result<()>
     requires { length names.now ≡ table_length }
 {
     if l < 0 {
-        say(b"-");
+        say(rt, b"-")?;
     }
-    say_symbol(names, literals::symbol(l));
+    say_symbol(rt, names, literals::symbol(l))
 }
 
 // The literal of a place: +s at 2(s - 1), -s next.
-pub fn say_place(names: &[u8], p: usize)
+pub fn say_place(rt: &impl Print, names: &[u8], p: usize) -> io::Result<()>
     requires { length names.now ≡ table_length }
 {
     if p % 2 == 1 {
-        say(b"-");
+        say(rt, b"-")?;
     }
-    say_symbol(names, p / 2 + 1);
+    say_symbol(rt, names, p / 2 + 1)
 }
 
 // A blank and a comma before all but the first of a list.
-pub fn say_comma(count: usize) {
+pub fn say_comma(rt: &impl Print, count: usize) -> io::Result<()> {
     if 0 < count {
-        say(b", ");
+        say(rt, b", ")?;
     }
+    Ok(())
 }
 
 // A byte as it is, or `?` where it does not print.
@@ -92,20 +90,20 @@ fn shown(byte: u8) -> u8 {
 }
 
 // A line again, as much of it as a line may have.
-pub fn say_line(line: &[u8]) {
+pub fn say_line(rt: &impl Print, line: &[u8]) -> io::Result<()> {
     let mut room = [0u8; 500];
     let mut k = 0;
     while k < line.len() && k < 500 {
         room[k] = shown(line[k]);
         k += 1;
     }
-    say(&room[..k]);
-    say(b"\n");
+    say(rt, &room[..k])?;
+    say(rt, b"\n")
 }
 
 // So many blanks, as many as a line may have bytes.
-pub fn say_blanks(n: usize) {
+pub fn say_blanks(rt: &impl Print, n: usize) -> io::Result<()> {
     let room = [b' '; 500];
     let k = if n < 500 { n } else { 500 };
-    say(&room[..k]);
+    say(rt, &room[..k])
 }

@@ -13,44 +13,48 @@ use orders::Slip;
 use orders::order::Order;
 use orders::reading::{Number, number_in};
 use orders::words::{rest, word_place};
+use std::io;
 
 // The line, where it does not stand there already, and a caret in a column.
-pub fn point_at(line: &[u8], echo: bool, column: usize) {
+pub fn point_at(rt: &impl Print, line: &[u8], echo: bool, column: usize) -> io::Result<()> {
     if !echo {
-        say_line(line);
+        say_line(rt, line)?;
     }
-    say_blanks(column);
-    say(b"^ ");
+    say_blanks(rt, column)?;
+    say(rt, b"^ ")
 }
 
 // A refusal that has no place.
-pub fn refuse(order: Order, why: Refusal) {
-    say(b"  ");
-    say_refusal(order, why);
+pub fn refuse(rt: &impl Print, order: Order, why: Refusal) -> io::Result<()> {
+    say(rt, b"  ")?;
+    say_refusal(rt, order, why)
 }
 
 // A line that is not taken, by the word at fault.
-pub fn show_slip(line: &[u8], echo: bool, slip: Slip, word: usize) {
-    point_at(line, echo, word_place(line, word));
-    say_slip(slip);
+pub fn show_slip(
+    rt: &impl Print,
+    line: &[u8],
+    echo: bool,
+    slip: Slip,
+    word: usize,
+) -> io::Result<()> {
+    point_at(rt, line, echo, word_place(line, word))?;
+    say_slip(rt, slip)
 }
 
 // Where a formula's text is refused with 15: what stands there in the text that is read, or that it ends.
-fn say_broken(text: &[u8], place: usize) {
-    say(b"refused 15: ");
+fn say_broken(rt: &impl Print, text: &[u8], place: usize) -> io::Result<()> {
+    say(rt, b"refused 15: ")?;
     if text.len() <= place {
-        say(b"the formula ends too soon\n");
-        return;
+        return say(rt, b"the formula ends too soon\n");
     }
     if names::naming::is_letter(text[place]) {
-        say(b"no symbol has this name\n");
-        return;
+        return say(rt, b"no symbol has this name\n");
     }
     if text[place] == b'(' {
-        say(b"no bracket may open here\n");
-        return;
+        return say(rt, b"no bracket may open here\n");
     }
-    say(b"no formula goes on like this\n");
+    say(rt, b"no formula goes on like this\n")
 }
 
 // Whether a run is no number, or that of a symbol of the board.
@@ -81,7 +85,13 @@ fn bad_number(text: &[u8], symbols: usize) -> usize
 }
 
 // A rule refused with 15, at its place.
-fn show_broken(line: &[u8], names: &[u8], echo: bool, place: usize)
+fn show_broken(
+    rt: &impl Print,
+    line: &[u8],
+    names: &[u8],
+    echo: bool,
+    place: usize,
+) -> io::Result<()>
     requires { (length names.now ≡ table_length) × (length line.now ≤ most_bytes) }
 {
     let typed = rest(line, 1);
@@ -94,21 +104,29 @@ fn show_broken(line: &[u8], names: &[u8], echo: bool, place: usize)
     } else {
         line.len()
     };
-    point_at(line, echo, column);
-    say_broken(&room[..n], place);
+    point_at(rt, line, echo, column)?;
+    say_broken(rt, &room[..n], place)
 }
 
 // A rule that is refused, at the place in the line where there is one.
-pub fn show_rule(line: &[u8], names: &[u8], echo: bool, symbols: usize, why: Refusal, place: usize)
+pub fn show_rule(
+    rt: &impl Print,
+    line: &[u8],
+    names: &[u8],
+    echo: bool,
+    symbols: usize,
+    why: Refusal,
+    place: usize,
+) -> io::Result<()>
     requires { (length names.now ≡ table_length) × (length line.now ≤ most_bytes) }
 {
     match why {
-        Refusal::BadText => show_broken(line, names, echo, place),
+        Refusal::BadText => show_broken(rt, line, names, echo, place),
         Refusal::BadLiteral => {
             let from = word_place(line, 1);
-            point_at(line, echo, from + bad_number(&line[from..], symbols));
-            say_refusal(Order::Rule, why);
+            point_at(rt, line, echo, from + bad_number(&line[from..], symbols))?;
+            say_refusal(rt, Order::Rule, why)
         }
-        _ => refuse(Order::Rule, why),
+        _ => refuse(rt, Order::Rule, why),
     }
 }

@@ -6,6 +6,7 @@ ghost use Rattle.saying.specs.Limits.{kept_length};
 use crate::pieces::{say, say_number, word_length};
 use names::slots::put;
 use orders::taking::MOST_BYTES;
+use std::io;
 
 // The rules whose text is kept, from 1 on.
 pub const MOST_KEPT: usize = 2048;
@@ -36,20 +37,20 @@ pub fn keep(texts: &mut [u8], before: usize, last: usize, text: &[u8])
 }
 
 // The number of a rule and its text.
-pub fn say_rule(texts: &[u8], rule: usize)
+pub fn say_rule(rt: &impl Print, texts: &[u8], rule: usize) -> io::Result<()>
     requires { length texts.now ≡ kept_length }
 {
-    say(b"rule ");
-    say_number(rule);
+    say(rt, b"rule ")?;
+    say_number(rt, rule)?;
     if rule < 1 {
-        return;
+        return Ok(());
     }
     if MOST_KEPT < rule {
-        return;
+        return Ok(());
     }
     let at = MOST_BYTES * (rule - 1);
     let slot = &texts[at..at + MOST_BYTES];
     let n = word_length(slot);
-    say(b", ");
-    say(&slot[..n]);
+    say(rt, b", ")?;
+    say(rt, &slot[..n])
 }

@@ -9,7 +9,8 @@ mod showing;
 
 ghost use Rattle.std.specs.Prelude.{ℕ, ◌+◌, ◌*◌, ◌<◌, ◌≤◌, ◌≡◌, length, get_or};
 
-use libc::STDIN_FILENO;
+use std::io;
+use std::io::Read;
 
 // The most bytes of input that are taken.
 const MOST_INPUT: usize = 32768;
@@ -31,34 +32,42 @@ fn line_length(rest: &[u8]) -> usize
 }
 
 // Answers each line, with an empty line between two answers. The buffers are for one line's rows, its bytes and what is shown of it.
-fn answer_lines(input: &[u8], table: &mut [i16], bytes: &mut [u8], page: &mut [u8])
+fn answer_lines(
+    rt: &impl Print,
+    input: &[u8],
+    table: &mut [i16],
+    bytes: &mut [u8],
+    page: &mut [u8],
+) -> io::Result<()>
     requires { (2 * length input.now ≤ length bytes.old) × (6 * length input.now + 4 ≤ length page.old) }
 {
     let mut at = 0;
     while at < input.len() {
         if 0 < at {
-            sentences::say(b"\n");
+            sentences::say(rt, b"\n")?;
         }
         let end = at + line_length(&input[at..]);
-        answering::answer(&input[at..end], table, bytes, page);
+        answering::answer(rt, &input[at..end], table, bytes, page)?;
         at = end + 1;
     }
+    Ok(())
 }
 
 // Reads the input, and answers its lines. No input at all asks for help.
-fn main() {
-    let mut input = [0u8; 32769];
-    let n = io::read_full(STDIN_FILENO, &mut input);
-    if n == 0 {
-        sentences::help();
-        return;
+fn main(rt: HostRuntime) -> io::Result<()> {
+    let mut input = Vec::new(rt.alloc());
+    rt.reader().take(32769).read_to_end(&mut input)?;
+    if input.is_empty() {
+        return sentences::help(rt.stderr());
     }
-    if MOST_INPUT < n {
-        sentences::complain(b"spell: input too long: more than 32768 bytes\n");
-        return;
+    if MOST_INPUT < input.len() {
+        return sentences::complain(
+            rt.stderr(),
+            b"spell: input too long: more than 32768 bytes\n",
+        );
     }
     let mut table = [0i16; 18432];
     let mut bytes = [0u8; 65536];
     let mut page = [0u8; 196612];
-    answer_lines(&input[..n], &mut table, &mut bytes, &mut page);
+    answer_lines(&rt, input.as_slice(), &mut table, &mut bytes, &mut page)
 }

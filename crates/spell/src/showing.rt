@@ -5,38 +5,38 @@ ghost use Rattle.literals.specs.Row.{width};
 ghost use Rattle.spell.specs.Shown.{shown_of};
 
 use crate::pieces::{put_barred, put_blanks, put_hex, put_line};
-use libc::STDOUT_FILENO;
 use literals::WIDTH;
 use spelling::put_word;
+use std::io;
 
 // So many bytes in hex fit on a screen of 80 columns.
 const SCREEN: usize = 26;
 
 // A line of input again.
-pub fn show_line(page: &mut [u8], line: &[u8])
+pub fn show_line(rt: &impl Print, page: &mut [u8], line: &[u8]) -> io::Result<()>
     requires { length line.now + 1 ≤ length page.old }
 {
     let mid = put_line(page, 0, line);
     let end = put_word(page, mid, b"\n");
-    io::write_all(STDOUT_FILENO, &page[..end]);
+    rt.write_all(&page[..end])
 }
 
 // A caret in a column, counted from 0.
-pub fn show_caret(page: &mut [u8], column: usize)
+pub fn show_caret(rt: &impl Print, page: &mut [u8], column: usize) -> io::Result<()>
     requires { column + 2 ≤ length page.old }
 {
     let mid = put_blanks(page, 0, column);
     let end = put_word(page, mid, b"^\n");
-    io::write_all(STDOUT_FILENO, &page[..end]);
+    rt.write_all(&page[..end])
 }
 
 // Bytes in hex, and what ends their line. The blank before the first byte is left out.
-pub fn show_bytes(page: &mut [u8], bytes: &[u8], tail: &[u8])
+pub fn show_bytes(rt: &impl Print, page: &mut [u8], bytes: &[u8], tail: &[u8]) -> io::Result<()>
     requires { (1 ≤ length tail.now) × (3 * length bytes.now + length tail.now ≤ length page.old) }
 {
     let mid = put_hex(page, 0, bytes);
     let end = put_word(page, mid, tail);
-    io::write_all(STDOUT_FILENO, &page[1..end]);
+    rt.write_all(&page[1..end])
 }
 
 // How many bytes are shown where one is at fault: all where they fit on a screen, else those up to the one at fault.
@@ -52,46 +52,46 @@ fn shown_of(count: usize, place: usize) -> usize
 }
 
 // The first so many bytes, with two points behind them where more follow.
-fn show_front(page: &mut [u8], bytes: &[u8], n: usize)
+fn show_front(rt: &impl Print, page: &mut [u8], bytes: &[u8], n: usize) -> io::Result<()>
     requires { (n ≤ length bytes.now) × (3 * length bytes.now + 4 ≤ length page.old) }
 {
     if n == bytes.len() {
-        show_bytes(page, bytes, b"\n");
-        return;
+        return show_bytes(rt, page, bytes, b"\n");
     }
-    show_bytes(page, &bytes[..n], b" ..\n");
+    show_bytes(rt, page, &bytes[..n], b" ..\n")
 }
 
 // The bytes and a caret under the one at a place; nothing where there is no such byte.
-pub fn show_place(page: &mut [u8], bytes: &[u8], place: usize)
+pub fn show_place(rt: &impl Print, page: &mut [u8], bytes: &[u8], place: usize) -> io::Result<()>
     requires { 3 * length bytes.now + 4 ≤ length page.old }
 {
     if bytes.len() <= place {
-        return;
+        return Ok(());
     }
-    show_front(page, bytes, shown_of(bytes.len(), place));
-    show_caret(page, 3 * place);
+    show_front(rt, page, bytes, shown_of(bytes.len(), place))?;
+    show_caret(rt, page, 3 * place)
 }
 
 // A row's literals with bars between. The bar before the first is left out.
-fn show_row(part: &[i16])
+fn show_row(rt: &impl Print, part: &[i16]) -> io::Result<()>
     requires { length part.now ≤ 8 }
 {
     let mut line = [0u8; 64];
     let mid = put_barred(&mut line, 0, part);
     let end = put_word(&mut line, mid, b"\n");
-    io::write_all(STDOUT_FILENO, &line[1..end]);
+    rt.write_all(&line[1..end])
 }
 
 // The first so many rows of a table, one a line.
-pub fn show_rows(table: &[i16], rows: usize)
+pub fn show_rows(rt: &impl Print, table: &[i16], rows: usize) -> io::Result<()>
     requires { width * rows ≤ length table.now }
 {
     let mut row = 0;
     while row < rows {
         let at = WIDTH * row;
         let n = literals::literal_count(table, at);
-        show_row(&table[at..at + n]);
+        show_row(rt, &table[at..at + n])?;
         row += 1;
     }
+    Ok(())
 }

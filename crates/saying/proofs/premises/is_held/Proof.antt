@@ -6,12 +6,12 @@ use Rattle.literals.proofs.Arguments.{range_facts, place_fits}
 use Rattle.saying.proofs.premises.is_held.Statement.{statement}
 use Rattle.saying.proofs.premises.is_held.Tie as tie
 
-within : (c : tie.Else1) → in_range 200 (back c.before.before.args.l) ≡ true
-within c = sym c.before.in_range_lem.ensures ∙ not-false _ c.if1.false
+within : (c : tie.Else-not-in_range) → in_range 200 (back c.before.before.args.l) ≡ true
+within c = sym c.before.in_range.ensures ∙ not-false _ c.if-not-in_range.false-raw
 
 -- the place lies among the flags
-place : (c : tie.After-place) → c.place.result < 400
-place c = omega (arith, c.place.ensures, place_fits 200 (back c.before.before.before.args.l) (within c.before))
+place : (c : tie.After-place-p) → c.place-p.result < 400
+place c = omega (arith, c.place-p.ensures, place_fits 200 (back c.before.before.before.args.l) (within c.before))
 
 pub is_held_spec : {M : Type 1} → statement M
 is_held_spec = tie.close (tie.spec

@@ -1,0 +1,14 @@
+-- `main` is safe: a text that is made lies within the bytes lent for it, and few clauses come before one at fault.
+use Rattle.std.proofs.Common.{sym, subst, length-take-le}
+use Rattle.cnf.proofs.Within.{Fits, Within, made_within}
+use Rattle.cnf.proofs.main.Goals as goal
+
+pub slice_bounds-out-end : goal.slice_bounds-out-end
+slice_bounds-out-end c = subst (Fits _) c.in-Text.is (subst Within (sym c.rewrite.ensures) (made_within _ _ _))
+
+pub slice_bounds-write_all-end-in-Text : goal.slice_bounds-write_all-end-in-Text
+slice_bounds-write_all-end-in-Text c =
+    sym (length-take-le _ _ (subst (Fits _) c.in-Text.is (subst Within (sym c.rewrite.ensures) (made_within _ _ _))))
+
+pub say_refusal-requires : goal.say_refusal-requires
+say_refusal-requires c = subst (Fits _) c.in-Refused.is (subst Within (sym c.rewrite.ensures) (made_within _ _ _))
