@@ -11,9 +11,6 @@ invariant_loop row₀ at v i n₀ j₀ row n j = Gathered (side_of v) i at row�
 abbrev decreases_loop : tie.decreases-loop-j
 decreases_loop row₀ at v i n₀ j₀ row n j = v.choices - j
 
-abbrev start : tie.At-loop-j invariant_loop decreases_loop → tie.Start invariant_loop decreases_loop
-start c = c.before.before
-
 loop_again : tie.Need-loop-j-preserved invariant_loop decreases_loop
 loop_again c =
     let a = c.args in

@@ -26,9 +26,10 @@ good c = sym c.good.ensures ∙ not-false _ c.if-not-good.false-raw
 returns_2 : tie.Need-returns-then-not-on_board
 unfolding symbols_fit
 returns_2 c =
-    let a = (start c.before.before.before).args in
+    let e = c.before.before.before in
+    let a = (start e).args in
     let off = sym c.on_board.ensures ∙ not-true _ c.if-not-on_board.true-raw in
-    let told = told_own a.table.now a.board (variable_of a.first a.count) (good c.before.before.before) BadLiteral (rw off) in
+    let told = told_own a.table.now a.board (variable_of a.first a.count) (good e) BadLiteral (rw off) in
     (c.refused-then-not-on_board.ensures ∙ told.answer_is, told.table_is)
 
 -- the variable is one of the board's
@@ -39,16 +40,19 @@ on c = sym c.on_board.ensures ∙ not-false _ c.if-not-on_board.false-raw
 returns_3 : tie.Need-returns-then-not-has_count
 unfolding symbols_fit well_formed
 returns_3 c =
-    let a = (start c.before.before.before.before.before).args in
+    let o = c.before.before.before in
+    let e = o.before.before in
+    let a = (start e).args in
     let few = sym c.has_count.ensures ∙ not-true _ c.if-not-has_count.true-raw in
-    let told = told_own a.table.now a.board (variable_of a.first a.count) (good c.before.before.before.before.before) BadPositions (rw (on c.before.before.before, few)) in
+    let told = told_own a.table.now a.board (variable_of a.first a.count) (good e) BadPositions (rw (on o, few)) in
     (c.refused-then-not-has_count.ensures ∙ told.answer_is, told.table_is)
 
 enter_requires : tie.Need-enter-requires
 unfolding symbols_fit well_formed possible
 enter_requires c κs =
+    let o = c.before.before.before in
     let right = sym c.has_count.ensures ∙ not-false _ c.if-not-has_count.false-raw in
-    (good c.before.before.before.before.before, rw (on c.before.before.before, right))
+    (good o.before.before, rw (on o, right))
 
 pub add_positions_spec : {M : Type 1} → statement M
 add_positions_spec = tie.close (tie.spec

@@ -13,7 +13,7 @@ use Rattle.stack.proofs.Known.{Known, known}
 use Rattle.stack.proofs.steps.pop.Statement.{statement}
 use Rattle.stack.proofs.steps.pop.Tie as tie
 
-good : (c : tie.Else-not-good_stacks) → let s = c in good_stacks s.args.board s.args.stacks ≡ true
+good : (c : tie.Else-not-good_stacks) → good_stacks c.args.board c.args.stacks ≡ true
 good c = sym c.good_stacks.ensures ∙ not-false _ c.if-not-good_stacks.false-raw
 
 -- where the stacks are known to be good
@@ -67,40 +67,44 @@ returns c = rw (sym c.good_stacks.ensures ∙ not-true _ c.if-not-good_stacks.tr
 
 returns_2 : tie.Need-returns-then-not-good
 unfolding popped pop_faults
-returns_2 c = let g = c in rw (good g.before.before.before, sym g.good.ensures ∙ not-true _ c.if-not-good.true-raw) c.refused-then-not-good.ensures
+returns_2 c = rw (good c.before.before.before, sym c.good.ensures ∙ not-true _ c.if-not-good.true-raw) c.refused-then-not-good.ensures
 
 returns_3 : tie.Need-returns-then-not-is_furnace
 unfolding popped pop_faults
 returns_3 c =
-    rw (good (first c.before.before.before), board c.before.before.before, sym c.is_furnace.ensures ∙ not-true _ c.if-not-is_furnace.true-raw) c.refused-then-not-is_furnace.ensures
+    let b = c.before.before.before in
+    let off = sym c.is_furnace.ensures ∙ not-true _ c.if-not-is_furnace.true-raw in
+    rw (good (first b), board b, off) c.refused-then-not-is_furnace.ensures
 
 returns_4 : tie.Need-returns-then-stack-eq0
 unfolding popped pop_faults
 returns_4 c =
-    let b = second c.before.before.before.before in
-    rw (good (first b), board b, furnace c.before.before.before.before, ← c.stack_of-stack.ensures, eq-eqb _ _ c.if-stack-eq0.true) c.refused-then-stack-eq0.ensures
+    let f = c.before.before.before.before in
+    let b = second f in
+    rw (good (first b), board b, furnace f, ← c.stack_of-stack.ensures, eq-eqb _ _ c.if-stack-eq0.true) c.refused-then-stack-eq0.ensures
 
 top_of_requires : tie.Need-top_of-requires
 top_of_requires c κs = rw c.stack_of-stack.ensures (some c, (stack (at c)).most)
 
 place_requires : tie.Need-place-p-requires
-place_requires c κs = let e = c in rw (read c) (range_facts 200 (top (mine e.before)) (within e.before))
+place_requires c κs = let e = c.before in rw (read c) (range_facts 200 (top (mine e)) (within e))
 
 with_flag_requires : tie.Need-with_flag-requires
-with_flag_requires c κs = let e = c in omega (arith, placed c, place_fits 200 (top (mine e.before.before)) (within e.before.before))
+with_flag_requires c κs = let e = c.before.before in omega (arith, placed c, place_fits 200 (top (mine e)) (within e))
 
 less_top_requires : tie.Need-less_top-requires
-less_top_requires c κs = let e = c in (some e.before.before.before, (stack (at e.before.before.before)).most)
+less_top_requires c κs = let e = c.before.before.before in (some e, (stack (at e)).most)
 
 returns_5 : tie.Need-returns
 unfolding popped pop_faults
 returns_5 c =
-    let b = second (at c.before.before.before.before) in
+    let e = c.before.before.before.before in
+    let b = second (at e) in
     rw (
       good (first b),
       board b,
-      furnace (at c.before.before.before.before),
-      ne_eqb (mine c.before.before.before.before).count 0 (λ none. omega (arith, some c.before.before.before.before, none)),
+      furnace (at e),
+      ne_eqb (mine e).count 0 (λ none. omega (arith, some e, none)),
       c.with_flag.ensures,
       placed c.before.before,
       c.less_top.ensures,

@@ -13,7 +13,7 @@ use Rattle.stack.proofs.steps.push.Tie as tie
 abbrev start : tie.After-hold-change → tie.Start
 start c = c.before.before.before
 
-good : (c : tie.Else-not-good_stacks) → let s = c in good_stacks s.args.board s.args.stacks ≡ true
+good : (c : tie.Else-not-good_stacks) → good_stacks c.args.board c.args.stacks ≡ true
 good c = sym c.good_stacks.ensures ∙ not-false _ c.if-not-good_stacks.false-raw
 
 long : (s : tie.Start) → (length s.args.stacks.first.literals ≡ 400) × (length s.args.stacks.second.literals ≡ 400)

@@ -48,20 +48,21 @@ within c =
     (sym c.is_flagged.ensures ∙ not-false _ c.if-not-is_flagged.false-raw)
 
 returns : tie.Need-returns-then-not-is_flagged invariant_loop decreases_loop
-returns c = let f = c in sym (next f.before ∙ ap (λ (b : Bool). b && rest (at f.before)) (not-true f.is_flagged.result c.if-not-is_flagged.true-raw))
+returns c = let f = c.before in sym (next f ∙ ap (λ (b : Bool). b && rest (at f)) (not-true c.is_flagged.result c.if-not-is_flagged.true-raw))
 
 array_write_left : tie.Need-bounds-left-place invariant_loop decreases_loop
-array_write_left c = let e = c in omega (arith, c.place.ensures, place_fits 200 (back (here (at e.before.before))) (within e.before))
+array_write_left c = let e = c.before in omega (arith, c.place.ensures, place_fits 200 (back (here (at e.before))) (within e))
 
 loop_again : tie.Need-loop-k-preserved invariant_loop decreases_loop
 loop_again c =
-    let l = at c.before.before in
+    let f = c.before.before in
+    let l = at f in
     let a = l.args in (
       omega arith,
       simp length-set l.loop-k.invariant.1,
       ap (λ p. all_struck a.symbols (set l.loop-k.left p false) (drop (l.loop-k.k + 1) a.on.now))
-          (c.place.ensures ∙ ap place_of (to_z-of_z (fits c.before.before.before.before)))
-          ∙ sym (next c.before.before ∙ ap (λ (b : Bool). b && rest l) (not-false c.is_flagged.result c.if-not-is_flagged.false-raw)),
+          (c.place.ensures ∙ ap place_of (to_z-of_z (fits f.before.before)))
+          ∙ sym (next f ∙ ap (λ (b : Bool). b && rest l) (not-false c.is_flagged.result c.if-not-is_flagged.false-raw)),
     )
 
 returns_2 : tie.Need-returns invariant_loop decreases_loop

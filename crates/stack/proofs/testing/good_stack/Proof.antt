@@ -31,11 +31,12 @@ returns c = let a = c.args in rw (lt-leb a.stack.count (2 * a.symbols) (omega (a
 
 returns_2 : tie.Need-returns
 returns_2 c =
-    let a = (start c.before.before.before).args in
-    c.all_held.ensures ∙ ap (all_struck a.symbols a.held) (same c.before.before.before)
+    let j = c.before.before.before in
+    let a = (start j).args in
+    c.all_held.ensures ∙ ap (all_struck a.symbols a.held) (same j)
     ∙ sym (good_struck a.symbols a.held a.stack (omega (arith, c.if-symbols-count.false)))
 
 pub good_stack_spec : {M : Type 1} → statement M
 good_stack_spec = tie.close (tie.spec
     (λ c. search rules) (λ c. search rules) returns (λ c. omega (arith, short c.before, long c.before))
-    (λ c. let j = c in sym (length-take-le _ _ (omega (arith, short j.before.before, long j.before.before)))) (λ c κs. search rules) returns_2)
+    (λ c. let j = c.before.before in sym (length-take-le _ _ (omega (arith, short j, long j)))) (λ c κs. search rules) returns_2)

@@ -16,7 +16,7 @@ within : (c : tie.Else-not-in_range-2) → in_range 200 (back (start c.before.be
 within c = sym c.in_range-2.ensures ∙ not-false _ c.if-not-in_range-2.false-raw
 
 returns : tie.Need-returns-then-not-in_range
-returns c = let s = c in rw (range_is s.ranges.l _ _ c.in_range.ensures ∙ not-true _ c.if-not-in_range.true-raw)
+returns c = rw (range_is c.ranges.l _ _ c.in_range.ensures ∙ not-true _ c.if-not-in_range.true-raw)
 
 returns_2 : tie.Need-returns-then-not-in_range-2
 returns_2 c =

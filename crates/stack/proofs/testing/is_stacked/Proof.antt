@@ -24,4 +24,4 @@ returns c =
 pub is_stacked_spec : {M : Type 1} → statement M
 is_stacked_spec = tie.close (tie.spec
     (λ c. search rules) (λ c. omega (arith, (start c).requires.0, long c))
-    (λ c. let p = c in sym (length-take-le _ _ (omega (arith, (start p.before).requires.0, long p.before)))) is_on_requires returns)
+    (λ c. let p = c.before in sym (length-take-le _ _ (omega (arith, (start p).requires.0, long p)))) is_on_requires returns)
