@@ -5,7 +5,7 @@ DEST := $(DESTDIR)$(PREFIX)
 SEED ?= 1
 COUNT ?= 20000
 KIT := set -euo pipefail; . tools/kit.sh;
-ARCHIVE := target/staticlib/libpanel.a
+ARCHIVE := crates/panel/out/libpanel.a
 PANEL ?= $(ARCHIVE)
 
 .PHONY: help test run desk lib install demo valves tries second bench stack peer peer-needs clean
@@ -23,8 +23,8 @@ help:
 	@echo 'make second SEED=n COUNT=n    the independent second program on random boards'
 	@echo 'make bench                    the library against plain C'
 	@echo 'make stack                    bytes of native stack that each call takes at most, measured'
-	@echo 'make peer PANEL=FILE          the library against MiniSat, where that is installed; FILE is an archive for this processor'
-	@echo 'make clean                    remove target/'
+	@echo 'make peer                     the library against MiniSat, where that is installed; with PANEL=FILE the archive FILE in its place'
+	@echo 'make clean                    remove what was built, with the proofs that are kept: target/ and the out/ of each crate'
 
 test:
 	@.ci/run
@@ -38,9 +38,9 @@ desk:
 lib: $(ARCHIVE)
 	@echo 'the archive is $(ARCHIVE)'
 
-# Made from the crates that panel reaches. Their folders count too, so that a file that is gone is noticed.
-$(ARCHIVE): crates.txt $(shell . tools/kit.sh; find $$(reached panel | sed 's,^,crates/,') -name must-fail -prune -o -print)
-	@$(KIT) prove staticlib panel
+# Made from the crates that panel reaches. Folders count too, so that a file that is gone is noticed.
+$(ARCHIVE): crates.txt $(shell . tools/kit.sh; find $$(reached panel | sed 's,^,crates/,') -mindepth 1 \( -name out -o -name must-fail \) -prune -o -print)
+	@$(KIT) prove lib panel
 
 install: $(ARCHIVE)
 	install -d $(DEST)/include $(DEST)/lib/pkgconfig
@@ -59,29 +59,29 @@ target/trend target/valves target/tries target/second target/bench target/stack:
 	@$(KIT) build_c $@ $(filter %.c,$^)
 
 demo: target/trend
-	@$(KIT) run_c $< target/trend.svg; echo 'the picture is target/trend.svg'
+	@$< target/trend.svg && echo 'the picture is target/trend.svg'
 
 valves: target/valves
-	@$(KIT) run_c $<
+	@$<
 
 tries: target/tries
-	@$(KIT) run_c $<
+	@$<
 
 second: target/second
-	@$(KIT) run_c $< $(SEED) $(COUNT)
+	@$< $(SEED) $(COUNT)
 
 bench: target/bench
-	@$(KIT) run_c $<
+	@$<
 
 stack: target/stack
-	@$(KIT) run_c $<
+	@$<
 
-# The peer runs on the machine's own processor. What is missing is said before anything is proved.
+# What is missing is said before anything is proved.
 peer-needs:
-	@$(KIT) need_peer $(PANEL) $(ARCHIVE)
+	@$(KIT) need_peer
 
 peer: peer-needs $(PANEL)
 	@$(KIT) build_peer target/peer $(PANEL) bench/peer.cc bench/boards.c bench/plain.c bench/dimacs.c; target/peer
 
 clean:
-	rm -rf target
+	rm -rf target crates/*/out

@@ -30,7 +30,7 @@ due() { # <text
         END { print "p cnf " variables " " rows + 0; for (r = 1; r <= rows; r++) print row[r] }'
 }
 
-prove check cnf
+prove run cnf
 
 for folder in examples/cnf/cases/*/; do
     cp "$folder/input.cnf" "$room/input"

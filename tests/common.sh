@@ -9,7 +9,7 @@ passed=0 failed=0
 
 # Runs the program on standard input. $room/wrote is its standard output, $room/told its standard error.
 run_program() {
-    run_x86 "target/bin/$program" >"$room/wrote" 2>"$room/told"
+    "crates/$program/out/$program" >"$room/wrote" 2>"$room/told"
 }
 
 # Counts what gives what is due, and what does not.

@@ -6,9 +6,9 @@ cd "$(dirname "$0")/.."
 . tests/common.sh desk
 not_kept='  the text of a rule above 2048 is not kept'
 
-# Runs desk on standard input for a minute at most, in a shell of its own that can be ended. Where it does not end well a line more says so.
+# Runs desk on standard input for a minute at most. Where it does not end well a line more says so.
 run_program() {
-    timeout 60 bash -c '. tools/kit.sh && run_x86 target/bin/desk' >"$room/wrote" 2>"$room/told" || echo "desk: it ended with $?" >>"$room/wrote"
+    timeout 60 crates/desk/out/desk >"$room/wrote" 2>"$room/told" || echo "desk: it ended with $?" >>"$room/wrote"
 }
 
 # Runs desk on a stored file, and expects what another has.
@@ -18,7 +18,7 @@ stored() { # NAME INPUT EXPECTED
     writes "$1"
 }
 
-prove check desk
+prove run desk
 
 for folder in examples/desk/cases/*/; do
     stored "$(basename "$folder")" "$folder/input" "$folder/expected"

@@ -10,7 +10,7 @@ numbered() { # N TEXT
     seq "$1" | sed "s/\$/ $2/"
 }
 
-prove check journal
+prove run journal
 
 for folder in examples/cases/*/; do
     examples/hex "$folder/input.hex" >"$room/input"

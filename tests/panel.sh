@@ -13,7 +13,7 @@ make -s target/trend target/valves target/tries target/second
 
 # the demo's text is stored; its picture is written and looked at for what both furnaces have to show, what a mark needs, and what a conflict leaves
 # and asks for
-run_c target/trend "$room/trend.svg" >"$room/trend.txt"
+target/trend "$room/trend.svg" >"$room/trend.txt"
 diff "$room/trend.txt" examples/trend.expected
 grep -q 'TC-3 struck off 03:10' "$room/trend.svg"
 grep -q 'TC-3 of furnace 1 struck off: nothing moves here' "$room/trend.svg"
@@ -27,7 +27,7 @@ echo "demo: it printed what examples/trend.expected has, and drew the shift"
 # the valves check each answer by removing positions without the board, the tries by deriving and by keeping premises and stacks beside it; what they
 # print is stored
 for story in valves tries; do
-    run_c "target/$story" >"$room/$story.txt" || {
+    "target/$story" >"$room/$story.txt" || {
         tail -1 "$room/$story.txt"
         exit 1
     }
@@ -35,15 +35,15 @@ for story in valves tries; do
     echo "$story: they printed what examples/$story.expected has, with $(tail -1 "$room/$story.txt" | cut -d ' ' -f 1) checks of their own"
 done
 
-run_c target/second "${SEED:-1}" "${COUNT:-20000}"
+target/second "${SEED:-1}" "${COUNT:-20000}"
 
 # Has the second program write so many inputs, and a proved program run on them; what it writes and says has to be just what the second program
 # expects. An input has so many of what is counted.
 by_second() { # PROGRAM SECOND'S-WORD INPUTS OF-EACH WHAT
     program=$1
-    prove check "$program"
+    prove run "$program"
     mkdir "$room/$2"
-    run_c target/second "$2" "$room/$2" "${SEED:-1}" "$3"
+    target/second "$2" "$room/$2" "${SEED:-1}" "$3"
     ran=0
     for input in "$room/$2"/*.in; do
         due=${input%.in}
@@ -60,8 +60,8 @@ by_second cnf texts 120 1 texts
 by_second desk desk 100 100 scripts
 
 # its lines of noise, to whose end desk has to come
-run_c target/second noise "${SEED:-1}" 100000 >"$room/noise"
-timeout 300 bash -c '. tools/kit.sh && run_x86 target/bin/desk' <"$room/noise" >"$room/wrote"
+target/second noise "${SEED:-1}" 100000 >"$room/noise"
+timeout 300 crates/desk/out/desk <"$room/noise" >"$room/wrote"
 [ "$(tail -1 "$room/wrote")" = '100000 lines read' ] || {
     echo "desk: of 100000 lines of noise its last line is: $(tail -1 "$room/wrote" | cut -c 1-160)"
     exit 1

@@ -1,14 +1,15 @@
 #!/usr/bin/env bash
-# Holds the promises to their proofs. Each type promised in a specs/ folder has a law of that very type, under its name in small letters, and a
-# place in docs/PROMISES.md; each public function of a crate that has proofs/Unique stands in it. What a proof is worth, the checker says.
+# Holds the promises to their proofs. Each type promised in a specs/ folder has a law of that very type, under its name in small letters (with _lem
+# where a definition has that name), and a place in docs/PROMISES.md; each public function of a crate that has proofs/Unique stands in it. What a proof
+# is worth, the checker says.
 set -euo pipefail
 cd "$(dirname "$0")/.."
 
 promises=0
 for file in crates/*/specs/{Promises,Demands}.antt; do
     for promise in $(sed -n 's/^abbrev pub \([A-Z][A-Za-z]*\) : Type 0$/\1/p' "$file"); do
-        law=$(sed 's/\([A-Z]\)/-\L\1/g; s/^-//' <<<"$promise")
-        grep -rqx "pub $law : $promise" "${file%/specs/*}/proofs" --include='*.antt' || {
+        law=$(sed 's/\([A-Z]\)/_\L\1/g; s/^_//' <<<"$promise")
+        grep -rqx "pub $law\(_lem\)\? : $promise" "${file%/specs/*}/proofs" --include='*.antt' || {
             echo "$file: nothing proves $promise: there is no 'pub $law : $promise'"
             exit 1
         }

@@ -15,7 +15,7 @@ due() { # COLUMN SENTENCE [BYTES]
     printf '^\n%s\n' "$2"
 }
 
-prove check spell
+prove run spell
 
 for folder in examples/spell/cases/*/; do
     cp "$folder/input" "$room/input"

@@ -1,7 +1,4 @@
 -- Laws of what crosses to C, and of a record that is lent by reference.
 pub mod Flags
 pub mod Narrow
-mod WalkKit
-mod Lent
-mod LentLiteral
 mod Unique

@@ -4,17 +4,17 @@ use Rattle.panel.proofs.Narrow.{narrow_entered}
 use Rattle.panel.proofs.tup_add_pairs.Statement.{statement}
 use Rattle.panel.proofs.tup_add_pairs.Tie as tie
 
-addition_out_requires : tie.Need-addition-out-requires
+addition_out_requires : tie.Need-addition_out-requires
 addition_out_requires c κs =
-    let a = c.before in
-    let given = a.before.before.before.well-formed in
-    rw (a.add-pairs.ensures.0, a.before.before.board-in.ensures)
+    let a = c in
+    let given = a.well-formed in
+    rw (a.add_pairs-addition.ensures.0, a.board_in.ensures)
     (narrow_entered _ _ (record { symbols = omega arith; rows = omega arith; rules = omega arith }) _)
 
 returns : tie.Need-returns
 returns c =
-    let a = c.before.before in
-    rw (← a.before.before.board-in.ensures, ← a.add-pairs.ensures.0) (c.addition-out.ensures, a.add-pairs.ensures.1)
+    let a = c in
+    rw (← a.board_in.ensures, ← a.add_pairs-addition.ensures.0) (c.addition_out.ensures, a.add_pairs-addition.ensures.1)
 
 pub tup_add_pairs_spec : {M : Type 1} → statement M
 tup_add_pairs_spec = tie.close (tie.spec (λ c κs. search rules) (λ c κs. search rules) addition_out_requires (λ c. search rules) returns)

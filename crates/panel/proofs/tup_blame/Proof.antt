@@ -6,9 +6,9 @@ use Rattle.panel.proofs.tup_blame.Tie as tie
 
 returns : tie.Need-returns
 returns c =
-    let w = c.before.before.before in
-    let b = w.before.before in
-    rw (← b.board-in.ensures) (c.number_of.ensures ∙ ap number_in w.blame.ensures.0, w.blame.ensures.1)
+    let w = c in
+    let b = w in
+    rw (← b.board_in.ensures) (c.number_of.ensures ∙ ap number_in w.blame-outcome.ensures.0, w.blame-outcome.ensures.1)
 
 pub tup_blame_spec : {M : Type 1} → statement M
 tup_blame_spec = tie.close (tie.spec (λ c κs. search rules) (λ c κs. search rules) (λ c κs. search rules) (λ c. search rules) returns)

@@ -4,18 +4,18 @@ use Rattle.panel.proofs.Narrow.{narrow_read}
 use Rattle.panel.proofs.tup_read_dimacs.Statement.{statement}
 use Rattle.panel.proofs.tup_read_dimacs.Tie as tie
 
-reading_out_requires : tie.Need-reading-out-requires
+reading_out_requires : tie.Need-reading_out-requires
 reading_out_requires c κs =
-    let a = c.before in
-    let b = a.before.before in
-    let given = b.before.before.well-formed in
-    rw (a.read.ensures.0, b.board-in.ensures)
+    let a = c in
+    let b = a in
+    let given = b.well-formed in
+    rw (a.read-reading.ensures.0, b.board_in.ensures)
     (narrow_read _ _ (record { symbols = omega arith; rows = omega arith; rules = omega arith }) _)
 
 returns : tie.Need-returns
 returns c =
-    let a = c.before.before in
-    rw (← a.before.before.board-in.ensures, ← a.read.ensures.0) (c.reading-out.ensures, a.read.ensures.1)
+    let a = c in
+    rw (← a.board_in.ensures, ← a.read-reading.ensures.0) (c.reading_out.ensures, a.read-reading.ensures.1)
 
 pub tup_read_dimacs_spec : {M : Type 1} → statement M
 tup_read_dimacs_spec = tie.close (tie.spec (λ c κs. search rules) (λ c κs. search rules) reading_out_requires (λ c. search rules) returns)

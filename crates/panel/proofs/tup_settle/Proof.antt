@@ -7,13 +7,13 @@ use Rattle.panel.proofs.tup_settle.Tie as tie
 
 returns : tie.Need-returns
 returns c =
-    let u = c.before.before.before in
-    let v = u.before.before.before in
-    let w = v.before in
-    let k = w.before.before in
-    let board = k.before.before.board-in.ensures in
+    let u = c in
+    let v = u in
+    let w = v in
+    let k = w in
+    let board = k.board_in.ensures in
     let number = c.number_of.ensures in
-    let told = w.settle.ensures in
+    let told = w.settle-outcome.ensures in
     rw (← board) (
       number ∙ ap number_in told.0,
       (told.1.0, (told.1.1.0, (told.1.1.1.0, λ zero. rw board at (told.1.1.1.1 (done_alone _ (sym number ∙ zero)))))),

@@ -6,11 +6,11 @@ use Rattle.panel.proofs.tup_smallest.Tie as tie
 
 returns : tie.Need-returns
 returns c =
-    let w = c.before.before.before in
-    let b = w.before.before in
-    rw (← b.board-in.ensures, ← to_z-of_z b.before.before.ranges.l) (
-      c.listing-out.ensures ∙ ap listing_out w.smallest.ensures.0,
-      w.smallest.ensures.1,
+    let w = c in
+    let b = w in
+    rw (← b.board_in.ensures, ← to_z-of_z b.ranges.l) (
+      c.listing_out.ensures ∙ ap listing_out w.smallest-listing.ensures.0,
+      w.smallest-listing.ensures.1,
     )
 
 pub tup_smallest_spec : {M : Type 1} → statement M

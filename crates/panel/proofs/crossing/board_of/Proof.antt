@@ -5,23 +5,23 @@ use Rattle.panel.proofs.Flags.{Made, made_none, made_more, made_all}
 use Rattle.panel.proofs.crossing.board_of.Statement.{statement}
 use Rattle.panel.proofs.crossing.board_of.Tie as tie
 
-abbrev invariant_loop : tie.invariant-loop
+abbrev invariant_loop : tie.invariant-loop-k
 invariant_loop symbols rows rules first second board₀ k₀ board k =
     (board.symbols ≡ symbols) × (board.rows ≡ rows) × (board.rules ≡ rules)
     × Made flag_of first board.first k × Made flag_of second board.second k
 
-abbrev decreases_loop : tie.decreases-loop
+abbrev decreases_loop : tie.decreases-loop-k
 decreases_loop symbols rows rules first second board₀ k₀ board k = 400 - k
 
 -- where the call began
-abbrev start : tie.At-loop invariant_loop decreases_loop → tie.Start invariant_loop decreases_loop
+abbrev start : tie.At-loop-k invariant_loop decreases_loop → tie.Start invariant_loop decreases_loop
 start c = c.before
 
-loop_again : tie.Need-loop-preserved invariant_loop decreases_loop
+loop_again : tie.Need-loop-k-preserved invariant_loop decreases_loop
 loop_again c =
-    let l = c.before.before.before in
-    let p = (start l).requires in
-    let i = l.loop.invariant in (
+    let l = c in
+    let p = (start l.before.before.before).requires in
+    let i = l.loop-k.invariant in (
       i.0,
       i.1,
       i.2,
@@ -31,15 +31,15 @@ loop_again c =
 
 returns : tie.Need-returns invariant_loop decreases_loop
 returns c =
-    let l = c.before in
-    let p = (start l).requires in
-    let i = l.loop.invariant in
+    let l = c in
+    let p = (start l.before).requires in
+    let i = l.loop-k.invariant in
     rw (
       i.0,
       i.1,
       i.2,
-      made_all flag_of _ _ l.loop.k i.3 (omega (arith, p.0)),
-      made_all flag_of _ _ l.loop.k i.4 (omega (arith, p.1)),
+      made_all flag_of _ _ l.loop-k.k i.3 (omega (arith, p.0)),
+      made_all flag_of _ _ l.loop-k.k i.4 (omega (arith, p.1)),
     )
 
 pub board_of_spec : {M : Type 1} → statement M

@@ -10,41 +10,41 @@ byte_is : (flag : Bool) → bool_byte flag ≡ byte_of flag
 byte_is true = refl
 byte_is false = refl
 
-abbrev invariant_loop : tie.invariant-loop
+abbrev invariant_loop : tie.invariant-loop-k
 invariant_loop symbols rows rules first second out₀ k₀ out k =
     (out.symbols ≡ symbols) × (out.rows ≡ rows) × (out.rules ≡ rules) × Made byte_of first out.first k × Made byte_of second out.second k
 
-abbrev decreases_loop : tie.decreases-loop
+abbrev decreases_loop : tie.decreases-loop-k
 decreases_loop symbols rows rules first second out₀ k₀ out k = 400 - k
 
 -- where the call began
-abbrev start : tie.At-loop invariant_loop decreases_loop → tie.Start invariant_loop decreases_loop
+abbrev start : tie.At-loop-k invariant_loop decreases_loop → tie.Start invariant_loop decreases_loop
 start c = c.before
 
-loop_again : tie.Need-loop-preserved invariant_loop decreases_loop
+loop_again : tie.Need-loop-k-preserved invariant_loop decreases_loop
 loop_again c =
-    let l = c.before.before.before in
-    let p = (start l).requires in
-    let a = (start l).args in
-    let i = l.loop.invariant in (
+    let l = c in
+    let p = (start l.before.before.before).requires in
+    let a = (start l.before.before.before).args in
+    let i = l.loop-k.invariant in (
       i.0,
       i.1,
       i.2,
-      made_more byte_of _ false _ _ i.3 (omega (arith, p.0)) (byte_is (get_or a.first.now l.loop.k false)),
-      made_more byte_of _ false _ _ i.4 (omega (arith, p.1)) (byte_is (get_or a.second.now l.loop.k false)),
+      made_more byte_of _ false _ _ i.3 (omega (arith, p.0)) (byte_is (get_or a.first.now l.loop-k.k false)),
+      made_more byte_of _ false _ _ i.4 (omega (arith, p.1)) (byte_is (get_or a.second.now l.loop-k.k false)),
     )
 
 returns : tie.Need-returns invariant_loop decreases_loop
 returns c =
-    let l = c.before in
-    let p = (start l).requires in
-    let i = l.loop.invariant in
+    let l = c in
+    let p = (start l.before).requires in
+    let i = l.loop-k.invariant in
     rw (
       i.0,
       i.1,
       i.2,
-      made_all byte_of _ _ l.loop.k i.3 (omega (arith, p.0)),
-      made_all byte_of _ _ l.loop.k i.4 (omega (arith, p.1)),
+      made_all byte_of _ _ l.loop-k.k i.3 (omega (arith, p.0)),
+      made_all byte_of _ _ l.loop-k.k i.4 (omega (arith, p.1)),
     )
 
 pub panel_of_spec : {M : Type 1} → statement M

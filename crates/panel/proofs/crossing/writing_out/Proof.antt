@@ -1,7 +1,0 @@
--- `crossing::writing_out` meets its contract, from that of `number_of`.
-use Rattle.meaning.proofs.Kit.{rules}
-use Rattle.panel.proofs.crossing.writing_out.Statement.{statement}
-use Rattle.panel.proofs.crossing.writing_out.Tie as tie
-
-pub writing_out_spec : {M : Type 1} → statement M
-writing_out_spec = tie.close (tie.spec (λ c κs. search rules) (λ c. rw c.number_of.ensures))
