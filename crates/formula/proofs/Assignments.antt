@@ -2,29 +2,28 @@
 use Rattle.meaning.proofs.Kit.{◌≡◌, ◌∙◌, sym, ap, refl, ap₂, true, false, Bool, List, [], ◌∷◌, ◌++◌, map, ℕ, ◌<◌, ◌+◌, suc, ◌*◌, zero, ◌/◌, ◌^◌, ◌%◌}
 use Rattle.meaning.proofs.Kit.{zero-add, one-mul, pow-succ', arith, eqb, pow_pos, length}
 use native.Mathlib.Nat.{suc-add, mul_assoc, div-eq_of_lt, add-div_left, mul-add-div_right}
-use Rattle.meaning.specs.Tests.{tabulate, bit}
+use Rattle.meaning.specs.Tests.{tabulate}
 use Rattle.formula.proofs.Words.{look, Parsed, bits, holds_of, truth_of}
 use Rattle.meaning.specs.Clauses.{assignments}
 use Rattle.meaning.proofs.Tables.{tabulate_same, map_tabulate}
-use Rattle.meaning.proofs.Bits.{bit_is}
+use Rattle.formula.specs.Answers.{bit_at}
 
 -- ---- the bits of a number
 
-bit_low : (n k : ℕ) → k < 2 ^ n → bit n k ≡ false
-bit_low n k h = bit_is n k ∙ ap (λ (q : ℕ). eqb (q % 2) 1) (div-eq_of_lt h)
+bit_low : (n k : ℕ) → k < 2 ^ n → bit_at k n ≡ false
+unfolding bit_at
+bit_low n k h = ap (λ (q : ℕ). eqb (q % 2) 1) (div-eq_of_lt h)
 
-bit_high : (n k : ℕ) → k < 2 ^ n → bit n (2 ^ n + k) ≡ true
+bit_high : (n k : ℕ) → k < 2 ^ n → bit_at (2 ^ n + k) n ≡ true
+unfolding bit_at
 bit_high n k h =
-    bit_is n (2 ^ n + k)
-    ∙ ap (λ (q : ℕ). eqb (q % 2) 1) (add-div_left k (pow_pos n) ∙ ap (λ (q : ℕ). q + 1) (div-eq_of_lt h))
+    ap (λ (q : ℕ). eqb (q % 2) 1) (add-div_left k (pow_pos n) ∙ ap (λ (q : ℕ). q + 1) (div-eq_of_lt h))
 
-bit_shift : (n c k : ℕ) → bit n (c * 2 * 2 ^ n + k) ≡ bit n k
+bit_shift : (n c k : ℕ) → bit_at (c * 2 * 2 ^ n + k) n ≡ bit_at k n
+unfolding bit_at
 bit_shift n c k =
     let even : (c * 2 + k / 2 ^ n) % 2 ≡ k / 2 ^ n % 2 = omega arith in
-    bit_is n (c * 2 * 2 ^ n + k)
-    ∙ ap (λ (q : ℕ). eqb (q % 2) 1) (mul-add-div_right (pow_pos n) (c * 2) k)
-    ∙ ap (λ (r : ℕ). eqb r 1) even
-    ∙ sym (bit_is n k)
+    ap (λ (q : ℕ). eqb (q % 2) 1) (mul-add-div_right (pow_pos n) (c * 2) k) ∙ ap (λ (r : ℕ). eqb r 1) even
 
 -- the n lowest bits do not change by a multiple of 2^n
 bits_shift : (n c k : ℕ) → bits n (c * 2 ^ n + k) ≡ bits n k

@@ -2,7 +2,7 @@
 use Rattle.meaning.proofs.Kit.{◌≡◌, ◌∙◌, ap, false, Bool, List, ◌≤◌, ℕ, ◌<◌, ◌-◌, suc, arith, length, get_or, drop, drop-cons, drop-length, ne_eqb}
 use Rattle.meaning.proofs.Kit.{eq-eqb}
 use native.Mathlib.Nat.{sub-zero, sub_self}
-use Rattle.meaning.specs.Tests.{bit}
+use Rattle.formula.specs.Answers.{bit_at}
 use Rattle.formula.proofs.Words.{look, bits}
 
 module _ (names : List ℕ) (number s : ℕ) where
@@ -11,7 +11,7 @@ module _ (names : List ℕ) (number s : ℕ) where
   look_last left = look (drop (length names - left) names) (bits left number) s
 
   module _ (left : ℕ) (some : 0 < left) (within : left ≤ length names) where
-    pub look_here : get_or names (length names - left) 0 ≡ s → look_last left ≡ bit (left - 1) number
+    pub look_here : get_or names (length names - left) 0 ≡ s → look_last left ≡ bit_at number (left - 1)
     unfolding bits
     look_here e =
         let one_more : left ≡ suc (left - 1) = omega arith in

@@ -2,6 +2,7 @@
 use Rattle.meaning.proofs.Kit.{◌≡◌, refl, true, false, [], ◌∷◌, ◌++◌, replicate}
 use Rattle.formula.proofs.Words.{Formula, symbol, neg, and, or, imp, symbols_of, occurs, value, BadLiteral, CutShort, UnknownKind, TooDeep}
 use Rattle.formula.proofs.Words.{BytesLeftOver, good, bad, parse, body_of, symbol_at, second_of, whole_of, bits, truth_of}
+use Rattle.formula.specs.Answers.{bit_at}
 
 -- 15 times "not"
 abbrev nots : Formula → Formula
@@ -35,7 +36,7 @@ unfolding symbols_of occurs
 names = refl
 
 highest_first : bits 2 1 ≡ false ∷ true ∷ []
-unfolding bits
+unfolding bits bit_at
 highest_first = refl
 
 values : truth_of (1 ∷ 3 ∷ []) (good (imp (symbol 3) (symbol 1)) 5) ≡ true ∷ false ∷ true ∷ true ∷ []

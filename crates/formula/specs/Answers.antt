@@ -1,6 +1,5 @@
 -- What the functions answer of what the bytes say.
-use Rattle.std.specs.Prelude.{ℕ, zero, suc, ◌+◌, ◌-◌, Bool, true, false, cond, List, [], ◌∷◌, ◌++◌, map, length, set, replicate, leb}
-use Rattle.meaning.specs.Tests.{bit}
+use Rattle.std.specs.Prelude.{ℕ, zero, suc, ◌+◌, ◌-◌, ◌/◌, ◌%◌, ◌^◌, Bool, true, false, cond, List, [], ◌∷◌, ◌++◌, map, length, set, replicate, eqb, leb}
 use Rattle.meaning.specs.Formulae.{Formula, symbol, neg, and, or, imp, same, value, symbols_of, look}
 use Rattle.meaning.specs.Clauses.{assignments}
 use Rattle.formula.specs.Parse.{Parsed, good, bad}
@@ -71,11 +70,15 @@ marks_of (bad why at) marks = marks
 
 -- ---- the value under an assignment
 
+-- the bit at a place of a number, the lowest at place 0
+unfoldable pub bit_at : ℕ → ℕ → Bool
+bit_at number at = eqb (number / 2 ^ at % 2) 1
+
 -- "an assignment is a number below 256, one bit a symbol": the assignment to n symbols that a number stands for, the first
 -- symbol's bit the highest
 unfoldable pub bits : (n number : ℕ) → List Bool
 bits zero number = []
-bits (suc n) number = bit n number ∷ bits n number
+bits (suc n) number = bit_at number n ∷ bits n number
 
 -- the value of a formula that was parsed
 abbrev pub holds_of : (ℕ → Bool) → Parsed → Bool

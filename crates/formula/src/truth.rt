@@ -2,11 +2,10 @@
 // symbol, the first symbol's the highest: so the table stands in the order of the assignments' numbers.
 
 ghost use Rattle.std.specs.Prelude.{◌≡◌, true, ◌^◌, ◌≤◌, ◌<◌, length};
-ghost use Rattle.meaning.specs.Tests.{bit};
 ghost use Rattle.meaning.specs.Formulae.{look};
 ghost use Rattle.formula.specs.Kinds.{joined_value};
 ghost use Rattle.formula.specs.Parse.{parse, levels};
-ghost use Rattle.formula.specs.Answers.{is_good, bits, valued_of, truth_of};
+ghost use Rattle.formula.specs.Answers.{is_good, bit_at, bits, valued_of, truth_of};
 
 use crate::reading::{Join, Kind, LEVELS, kind_of};
 
@@ -20,7 +19,7 @@ pub struct Valued {
 // The bit at a place of an assignment.
 fn bit_at(assignment: usize, place: usize) -> bool
     requires { place < 64 }
-    ensures { result ≡ bit place assignment }
+    ensures { result ≡ bit_at assignment place }
 {
     (assignment >> place) & 1 == 1
 }

@@ -2,7 +2,7 @@
 
 ghost use Rattle.std.specs.Prelude.{◌≡◌, true, false, ◌+◌, ◌≤◌, ◌^◌, length, replicate};
 ghost use Rattle.meaning.specs.Tests.{from};
-ghost use Rattle.positions.specs.Positions.{is_count, suits};
+ghost use Rattle.positions.specs.Positions.{counted, suits};
 ghost use Rattle.literals.specs.Row.{most_rules, rows_lent};
 ghost use Rattle.implicates.specs.Appending.{rule_by, answer_of, table_of};
 ghost use Rattle.board.specs.Faults.{good_board};
@@ -19,7 +19,7 @@ use literals::refusal::Refusal;
 
 // Whether a variable may have so many positions: 2 to 7.
 pub fn has_count(count: usize) -> bool
-    ensures { result ≡ is_count count }
+    ensures { result ≡ counted (record { first = 0; count = count }) }
 {
     if count < 2 {
         return false;
