@@ -8,16 +8,17 @@ use Rattle.text.proofs.adding.add_long.Statement.{statement}
 use Rattle.text.proofs.adding.add_long.Tie as tie
 
 -- what is kept is in the buffer, and is enough
-kept : (j : tie.Joined-size-lt-ENOUGH) → j.if-size-lt-ENOUGH.auto ≡ min j.emit-size.result enough
-kept j = ⊎_elim (λ w. omega (arith, w.1, w.0.true)) (λ w. omega (arith, w.1, w.0.false)) j.if-size-lt-ENOUGH.branch
+kept : (j : tie.Joined-size-lt-ENOUGH) → j.if-size-lt-ENOUGH.kept ≡ min j.emit-size.result enough
+kept j = ⊎_elim (λ w. omega (arith, w.kept-is, w.if-size-lt-ENOUGH.true)) (λ w. omega (arith, w.kept-is, w.if-size-lt-ENOUGH.false))
+    j.if-size-lt-ENOUGH.branch-raw
 
-fits : (j : tie.Joined-size-lt-ENOUGH) → j.if-size-lt-ENOUGH.auto ≤ length j.emit-size.new.out
+fits : (j : tie.Joined-size-lt-ENOUGH) → j.if-size-lt-ENOUGH.kept ≤ length j.emit-size.new.out
 fits j =
     let e = j in
     kept_fits e.args.text.now e.emit-size.ensures (omega arith) (kept j)
 
 slice_aggregate_add_rule : tie.Need-slice_bounds-add_rule-end
-slice_aggregate_add_rule c = let j = c in sym (length-take-le j.if-size-lt-ENOUGH.auto j.emit-size.new.out (fits j.before.before))
+slice_aggregate_add_rule c = let j = c in sym (length-take-le j.if-size-lt-ENOUGH.kept j.emit-size.new.out (fits j.before.before))
 
 returns : tie.Need-returns
 returns c =

@@ -6,42 +6,28 @@ use Rattle.text.proofs.RuledText.{text_bytes, text_table, text_broken, board_spo
 use Rattle.text.proofs.adding.add_text.Statement.{statement}
 use Rattle.text.proofs.adding.add_text.Tie as tie
 
-abbrev start : tie.After-read_text → tie.Start
-start c = c.before.before
-
 -- the text keeps the form
-keeps : (c : tie.In-Used) → is_good (whole_text (start c.before.before).args.text.now) ≡ true
-keeps c =
-    let r = c in
-    ap is_good (answer_good (whole_text (start r.before.before).args.text.now) (sym r.read_text.ensures ∙ c.enum_told-1.given.1)).1
+keeps : (c : tie.In-Used) → is_good (whole_text c.args.text.now) ≡ true
+keeps c = ap is_good (answer_good (whole_text c.args.text.now) (sym c.in-Used.ensures)).1
 
 returns_2 : tie.Need-returns-in-Used
 returns_2 c =
-    let f = c in
-    let t = f in
-    let a = (start t.before.before.before.before.before).args in
-    let bytes = text_bytes a.table.now a.board a.text.now (keeps t.before.before.before) in
-    let table = text_table a.table.now a.board a.text.now (keeps t.before.before.before) in
-    (f.add_formula.ensures.0 ∙ sym bytes, f.add_formula.ensures.1 ∙ sym table)
+    let a = c.args in
+    let bytes = text_bytes a.table.now a.board a.text.now (keeps c.before.before.before) in
+    let table = text_table a.table.now a.board a.text.now (keeps c.before.before.before) in
+    (c.add_formula.ensures.0 ∙ sym bytes, c.add_formula.ensures.1 ∙ sym table)
 
 returns : tie.Need-returns-then-good
 returns c =
-    let then = c in
-    let g = then in
-    let w = g in
-    let r = w in
-    let a = (start r.before.before.before.before.before.before).args in
-    let e = answer_bad (whole_text a.text.now) (sym r.read_text.ensures ∙ w.why-1.given.1) in
-    let all = text_broken a.table.now a.board a.text.now e (sym g.good.ensures ∙ then.if-good.true) in
+    let a = c.args in
+    let e = answer_bad (whole_text a.text.now) (sym c.in-Refused.ensures) in
+    let all = text_broken a.table.now a.board a.text.now e (sym c.good.ensures ∙ c.if-good.true) in
     (c.refused.ensures ∙ all.0, all.1)
 
 returns_3 : tie.Need-returns-else-good
 returns_3 c =
-    let else = c in
-    let g = else in
-    let w = g in
-    let a = (start w.before.before.before.before.before.before).args in
-    let all = board_spoilt a.table.now a.board a.text.now (sym g.good.ensures ∙ else.if-good.false) in
+    let a = c.args in
+    let all = board_spoilt a.table.now a.board a.text.now (sym c.good.ensures ∙ c.if-good.false) in
     (c.refused-in-Refused.ensures ∙ all.0, all.1)
 
 pub add_text_spec : {M : Type 1} → statement M

@@ -13,50 +13,39 @@ use Rattle.text.proofs.ReadText.{text_place_lem, bytes_place, read_refused, read
 use Rattle.text.proofs.reading.read.Statement.{statement}
 use Rattle.text.proofs.reading.read.Tie as tie
 
-abbrev start : tie.Else-not-good → tie.Start
-start c = c.before.before.before.before
-
-abbrev begun : tie.In-Used → tie.Start
-begun c = start c.before.before.before
-
 -- the board is good
-good : (c : tie.Else-not-good) → good_board (start c).args.table.now (start c).args.board ≡ true
+good : (c : tie.Else-not-good) → good_board c.args.table.now c.args.board ≡ true
 good c = sym c.good.ensures ∙ not-false _ c.if-not-good.false-raw
 
 returns : tie.Need-returns-then-not-good
 unfolding read_text_outcome read_text_faults
 returns c =
-    let g = c in
-    let a = g.args in
-    let spoilt = sym g.good.ensures ∙ not-true _ c.if-not-good.true-raw in
+    let a = c.args in
+    let spoilt = sym c.good.ensures ∙ not-true _ c.if-not-good.true-raw in
     read_refused a.table.now a.board a.text.now a.out.now BadBoard (rw spoilt) refl c.refused.ensures
 
 returns_3 : tie.Need-returns-in-Refused
 unfolding read_text_outcome read_text_faults
 returns_3 c =
-    let w = c in
-    let r = w in
-    let a = (start r.before.before.before.before.before).args in
-    let why = w.why-1.given.0.0 in
-    let e = answer_bad (whole_text a.text.now) (sym r.read_text.ensures ∙ w.why-1.given.1) in
-    let only = (first_offence a.text.now why w.why-1.given.0.1.0 e).0 in
-    read_refused a.table.now a.board a.text.now a.out.now why (rw (good r.before.before.before.before.before, e) (ap Refused (sym only)))
+    let a = c.args in
+    let why = c.in-Refused.why in
+    let e = answer_bad (whole_text a.text.now) (sym c.in-Refused.ensures) in
+    let only = (first_offence a.text.now why c.in-Refused.place e).0 in
+    read_refused a.table.now a.board a.text.now a.out.now why (rw (good c.before.before.before, e) (ap Refused (sym only)))
     (text_place_lem a.board.symbols a.text.now e) c.refused-in-Refused.ensures
 
 -- the text keeps the form
-keeps : (c : tie.In-Used) → is_good (whole_text (begun c).args.text.now) ≡ true
-keeps c = ap is_good (answer_good (whole_text (begun c).args.text.now) (sym c.read_text.ensures ∙ c.enum_told-1.given.1)).1
+keeps : (c : tie.In-Used) → is_good (whole_text c.args.text.now) ≡ true
+keeps c = ap is_good (answer_good (whole_text c.args.text.now) (sym c.in-Used.ensures)).1
 
 returns_4 : tie.Need-returns-in-Refused-judge
 unfolding read_text_outcome read_text_faults
 returns_4 c =
-    let w = c in
-    let j = w in
-    let t = j in
-    let g = t in
-    let a = (begun t.before.before.before.before.before).args in
-    let e = answer_bad (read_in a.board.symbols a.text.now) (sym j.judge.ensures ∙ w.why-in-Refused-judge-1.given.1) in
-    read_refused a.table.now a.board a.text.now a.out.now w.why-in-Refused-judge-1.given.0.0 (rw (good g.before.before.before.before.before.before.before.before, keeps t.before.before.before.before.before, e))
+    let w = c.in-Refused-judge in
+    let t = c.before.before.before in
+    let a = c.args in
+    let e = answer_bad (read_in a.board.symbols a.text.now) (sym w.ensures) in
+    read_refused a.table.now a.board a.text.now a.out.now w.why (rw (good t.before.before, keeps t, e))
     (bytes_place a.board.symbols a.text.now e) c.refused-in-Refused-judge.ensures
 
 -- its bytes are a formula, and so many
@@ -64,41 +53,35 @@ record Sized (S : ℕ) (text : List ℕ) (size : ℕ) : Type 0 where
   pub reads : is_good (read_in S text) ≡ true
   pub long : size ≡ length (bytes_in text)
 
-sized : (c : tie.In-Used-judge-2) → let a = (begun c.before.before.before).args in Sized a.board.symbols a.text.now c.size-1.given.0.0
+sized : (c : tie.In-Used-judge) → Sized c.args.board.symbols c.args.text.now c.in-Used-judge.size
 sized c =
-    let j = c in
-    let a = (begun j.before.before.before).args in
+    let a = c.args in
     let S = a.board.symbols in
-    let e = answer_good (read_in S a.text.now) (sym j.judge.ensures ∙ c.size-1.given.1) in
+    let e = answer_good (read_in S a.text.now) (sym c.in-Used-judge.ensures) in
     record { reads = ap is_good e.1; long = whole_long S (bytes_in a.text.now) e.1 }
 
 returns_2 : tie.Need-returns-then-out-size
 unfolding read_text_outcome read_text_faults
 returns_2 c =
-    let then = c in
-    let z = then in
-    let t = z in
-    let g = t in
-    let a = (begun t.before.before.before.before.before.before).args in
-    let small = lt-leb (length (bytes_in a.text.now)) (length a.out.now) (omega (arith, (sized z.before.before.before).long, then.if-out-size.true)) in
-    read_refused a.table.now a.board a.text.now a.out.now TableTooShort (rw (good g.before.before.before.before.before.before.before.before.before, keeps t.before.before.before.before.before.before, (sized z.before.before.before).reads, small)) refl
+    let z = c.before.before in
+    let t = z.before.before in
+    let a = c.args in
+    let small = lt-leb (length (bytes_in a.text.now)) (length a.out.now) (omega (arith, (sized z).long, c.if-out-size.true)) in
+    read_refused a.table.now a.board a.text.now a.out.now TableTooShort (rw (good t.before.before, keeps t, (sized z).reads, small)) refl
     c.refused-then-out-size.ensures
 
 emit_requires : tie.Need-emit-requires
-emit_requires c κs = let z = c in keeps z.before.before.before.before.before.before
+emit_requires c κs = keeps c.before.before.before.before
 
 returns_5 : tie.Need-returns-else-out-size
 unfolding read_text_outcome read_text_faults
 returns_5 c =
-    let m = c in
-    let else = m in
-    let z = else in
-    let t = z in
-    let g = t in
-    let a = (begun t.before.before.before.before.before.before.before.before.before).args in
-    let fits : length (bytes_in a.text.now) ≤ length a.out.now = omega (arith, (sized z.before.before.before.before.before.before).long, else.if-out-size.false) in
+    let z = c.before.before.before.before.before in
+    let t = z.before.before in
+    let a = c.args in
+    let fits : length (bytes_in a.text.now) ≤ length a.out.now = omega (arith, (sized z).long, c.if-out-size.false) in
     let room = le-leb (length (bytes_in a.text.now)) (length a.out.now) fits in
-    read_done a.table.now a.board a.text.now a.out.now (rw (good g.before.before.before.before.before.before.before.before.before.before.before.before, keeps t.before.before.before.before.before.before.before.before.before, (sized z.before.before.before.before.before.before).reads, room)) fits m.emit.ensures refl
+    read_done a.table.now a.board a.text.now a.out.now (rw (good t.before.before, keeps t, (sized z).reads, room)) fits c.emit.ensures refl
 
 pub read_spec : {M : Type 1} → statement M
 read_spec = tie.close (tie.spec
