@@ -3,7 +3,6 @@ use Rattle.meaning.proofs.Kit.{◌≡◌, ◌∙◌, sym, ⊎_elim, ◌≢◌, �
 use Rattle.meaning.proofs.Kit.{eqb, length, ne_eqb, not-true, eqb-false}
 use Rattle.meaning.specs.Tests.{any, member, from, tabulate, bit}
 use Rattle.meaning.specs.Literals.{has, Within, conflict}
-use Rattle.meaning.specs.Rounds.{derived}
 use Rattle.meaning.specs.Ground.{ground}
 use Rattle.candidates.specs.Sets.{chosen, size, inside, sets_of, passing}
 use Rattle.smallest.specs.Smallest.{alone, by_alone, derives, clashes, smaller_derives, carries, smallest}

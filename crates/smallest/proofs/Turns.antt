@@ -1,8 +1,8 @@
 -- One turn of each loop: what is left to hold, to look at, to count and to write.
-use Rattle.meaning.proofs.Kit.{◌≡◌, ◌∙◌, sym, ap, refl, false, Bool, List, [], ◌∷◌, ◌++◌, ℕ, ◌<◌, ◌-◌, ◌+◌, ◌^◌, arith, eqb, length, get_or, take}
+use Rattle.meaning.proofs.Kit.{◌≡◌, ◌∙◌, sym, ap, refl, false, Bool, List, [], ◌∷◌, ◌++◌, ℕ, ◌<◌, ◌+◌, ◌^◌, arith, eqb, length, get_or, take}
 use Rattle.meaning.proofs.Kit.{replicate, set, length-append, sets}
 use lib.Seq.{length-sets}
-use Rattle.meaning.specs.Tests.{all, keep, from}
+use Rattle.meaning.specs.Tests.{keep, from}
 use Rattle.meaning.specs.BySize.{of_size}
 use Rattle.candidates.specs.Sets.{chosen, size, sets_of}
 use Rattle.meaning.proofs.Tables.{sets_append}

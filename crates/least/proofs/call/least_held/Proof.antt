@@ -30,7 +30,7 @@ returns c =
     let p = f.before in
     let a = (start p).args in
     let l = effect_leaves a.table.now a.board a.furnace a.places.now (p.power-sets.result - 1)
-    (sym c.before.enum_told-1.given.1 ∙ f.effect_of.ensures) in
+    c.before.in-Leaves.ensures in
     c.refused.ensures ∙ stays a.table.now a.board a.furnace a.places.now (sym (same p) ∙ l.0)
 
 -- no conflict is left once all are struck off
@@ -41,7 +41,7 @@ quiet c =
     let a = (start p).args in
     sym (same p)
     ∙ effect_ends a.table.now a.board a.furnace a.places.now (p.power-sets.result - 1)
-    (sym c.enum_told-in-Ends-1.given.1 ∙ f.effect_of.ensures)
+    c.in-Ends.ensures
 
 cast_set : tie.Need-overflow_cast-result
 cast_set c =

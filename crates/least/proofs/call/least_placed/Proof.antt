@@ -49,24 +49,24 @@ returns c =
 
 held_by_requires : tie.Need-held_by-requires
 held_by_requires c κs =
-    let w = placing c.before.before in
+    let w = placing c.before in
     let s = start w in
     let a = s.args in
     let g = good_is a.table.now a.board s.requires.0.0 in
     (s.requires.0.1, low_more (2 * a.board.symbols) 400 (places w) (omega (arith, g.sound.symbols)) (low w))
 
 -- whether the furnace holds all of them
-held : (c : tie.After-held_by) → let a = (start (placing c.before.before.before)).args in
+held : (c : tie.After-held_by) → let a = (start (placing c.before.before)).args in
     all (has (held_by a.board a.furnace)) (places_of a.candidates.now) ≡ c.held_by.result
 held c =
-    let w = placing c.before.before.before in
+    let w = placing c.before.before in
     let a = (start w).args in
     sym (c.held_by.ensures ∙ ap (all (has (held_by a.board a.furnace))) (placed w))
 
 returns_2 : tie.Need-returns-then-not-held_by
 returns_2 c =
     let h = c.before.before in
-    let e = h.before.before in
+    let e = h.before in
     let a = (start (placing e.before)).args in
     c.refused-then-not-held_by.ensures
     ∙ not_held_told a.table.now a.board a.furnace a.candidates.now (different e.before ∙ e.if-repeated.false)
@@ -74,17 +74,17 @@ returns_2 c =
 
 least_held_requires : tie.Need-least_held-requires
 least_held_requires c κs =
-    let h = c.before.before in
-    let w = placing h.before.before.before in
+    let h = c.before in
+    let w = placing h.before.before in
     let s = start w in
     let a = s.args in
     ((s.requires.0.0, s.requires.0.1), (omega (arith, ap length (placed w), length-map a.candidates.now place_of, s.requires.1.0), low w))
 
 returns_3 : tie.Need-returns
 returns_3 c =
-    let n = c.before.before in
+    let n = c.before in
     let h = n.before in
-    let e = h.before.before in
+    let e = h.before in
     let w = placing e.before in
     let a = (start w).args in
     c.least_held.ensures ∙ ap (stay_answer a.table.now a.board a.furnace) (placed w)

@@ -38,7 +38,7 @@ returns c =
     let s = start b in
     let a = s.args in
     leaves_told a.table.now a.board a.furnace a.places.now a.set s.requires.0.0 s.requires.0.1 s.requires.1.1 unmarked refl
-    t.struck_off.ensures b.blame.ensures.0 c.before.before.enum_told-1.given.1 b.blame.ensures.1 c.marked.ensures
+    t.struck_off.ensures b.blame.ensures.0 c.before.before.in-Done.is b.blame.ensures.1 c.marked.ensures
 
 returns_2 : tie.Need-returns-in-Refused
 returns_2 c =
@@ -47,7 +47,7 @@ returns_2 c =
     let s = start b in
     let a = s.args in
     ends_told a.table.now a.board a.furnace a.places.now a.set s.requires.0.0 s.requires.0.1 s.requires.1.1 unmarked refl
-    t.struck_off.ensures b.blame.ensures.0 c.enum_told-in-Refused-1.given.1
+    t.struck_off.ensures b.blame.ensures.0 c.in-Refused.is
 
 pub effect_of_spec : {M : Type 1} → statement M
 effect_of_spec = tie.close (tie.spec

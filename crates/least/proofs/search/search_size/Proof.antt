@@ -131,8 +131,8 @@ search_size_spec = tie.close (tie.spec
     (λ c κs. omega (arith, c.before.before.before.requires.1.0.0)) (λ c. omega (arith, c.power-2.ensures, c.before.power.ensures, fewer c))
     (λ c κs. omega (arith, (begun c).requires.1.0))
     (λ c. omega (arith, c.power-set.ensures, one-le-pow (begun c.before).args.k 2 (omega arith))) loop_holds
-    (λ c. c.before.loop-set.invariant.1.room) (λ c. sym (length-take-le _ _ c.before.before.loop-set.invariant.1.room))
-    (λ c κs. (start c.before.before).requires.1.0.0) try_set_requires (λ c. omega arith)
+    (λ c. c.before.loop-set.invariant.1.room) (λ c. sym (length-take-le _ _ c.before.loop-set.invariant.1.room))
+    (λ c κs. (start c.before).requires.1.0.0) try_set_requires (λ c. omega arith)
     (λ c. (let z = tried c in z.try_set-tried.auto.cores ∙ (worth z.before.before.before).loop-set.invariant.0))
-    returns (λ c. omega (arith, few c.before.before.before)) (λ c. omega arith) loop_again (λ c. omega arith) (λ c. c.before.loop-set.invariant.0)
+    returns (λ c. omega (arith, few c.before.before)) (λ c. omega arith) loop_again (λ c. omega arith) (λ c. c.before.loop-set.invariant.0)
     returns_2)

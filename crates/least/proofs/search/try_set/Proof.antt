@@ -18,30 +18,29 @@ abbrev test : tie.Start → ℕ → Bool
 test s = let a = s.args in ends (2 * a.board.symbols) (rows_on a.table.now a.board) (held_by a.board a.furnace) a.places.now
 
 -- a conflict is left, and its core
-abbrev start : tie.In-Leaves-2 → tie.Start
-start c = c.before.before.before.before.before
+abbrev start : tie.In-Leaves → tie.Start
+start c = c.before.before.before.before
 
-left : (c : tie.In-Leaves-2) → let a = (start c).args in
+left : (c : tie.In-Leaves) → let a = (start c).args in
     (leaves_conflict a.table.now a.board a.furnace (chosen a.places.now a.set) ≡ true)
-    × (c.core-1.given.0.0 ≡ core_of a.table.now a.board a.furnace a.places.now a.set)
+    × (c.in-Leaves.core ≡ core_of a.table.now a.board a.furnace a.places.now a.set)
 left c =
     let a = (start c).args in
-    effect_leaves a.table.now a.board a.furnace a.places.now a.set (sym c.core-1.given.1 ∙ c.before.before.effect_of.ensures)
+    effect_leaves a.table.now a.board a.furnace a.places.now a.set c.in-Leaves.ensures
 
 keep_requires : tie.Need-keep-requires
 keep_requires c κs =
-    let k = c.before.before in
+    let k = c.before in
     let s = start k in
     let a = s.args in
     (omega (arith, (left k).1, core_few a.table.now a.board a.furnace a.places.now a.set s.requires.1.0.0), s.requires.1.1.room)
 
 returns : tie.Need-returns-in-Ends
 returns c =
-    let f = c.before.before in
-    let s = f.before.before.before in
+    let s = c.before.before.before.before in
     let a = s.args in
     let quiet =
-    effect_ends a.table.now a.board a.furnace a.places.now a.set (sym c.enum_told-1.given.1 ∙ f.effect_of.ensures) in
+    effect_ends a.table.now a.board a.furnace a.places.now a.set c.in-Ends.ensures in
     let e = ends_by a.table.now a.board a.furnace a.places.now a.set ∙ ap not quiet in
     let is = first_found a.table.now a.board a.furnace a.places.now s.requires.1.1 s.requires.1.0.2 e in
     inr (is, omega (arith, is, s.requires.1.0.2, sets_few (length a.places.now) s.requires.1.0.0))
@@ -49,20 +48,20 @@ returns c =
 returns_2 : tie.Need-returns-in-Leaves
 returns_2 c =
     let kept = c.before.before in
-    let k = kept.before.before.before in
+    let k = kept.before.before in
     let s = start k in
     let a = s.args in
     let l = left k in
     let n = length a.places.now in
     let e = ends_by a.table.now a.board a.furnace a.places.now a.set ∙ ap not l.0 in
     let missed = core_missed a.table.now a.board a.furnace a.places.now a.set s.requires.0.0 l.0 in
-    let core = k.core-1.given.0.0 in
-    let more = core_found (test s) n (size n a.set) a.set a.known a.cores-1.now s.requires.1.1 core e (λ x z. missed x (rw (← l.1) z)) in
+    let core = k.in-Leaves.core in
+    let more = core_found (test s) n (size n a.set) a.set a.known a.cores.now s.requires.1.1 core e (λ x z. missed x (rw (← l.1) z)) in
     let so : ℕ → List ℕ → Type 0 = λ j cs. Searched (test s) n (size n a.set) (suc a.set) j cs in
     inl (
       refl,
       subst (so kept.keep.result) (sym kept.keep.ensures.1)
-          (subst (λ (j : ℕ). so j (set a.cores-1.now a.known core)) (sym kept.keep.ensures.0) more),
+          (subst (λ (j : ℕ). so j (set a.cores.now a.known core)) (sym kept.keep.ensures.0) more),
     )
 
 pub try_set_spec : {M : Type 1} → statement M

@@ -33,8 +33,8 @@ pub note_spec : {M : Type 1} → statement M
 note_spec = tie.close (tie.spec
     (λ c κs. search rules) (λ c. halted _ _ (sym c.before.stops_fewer.ensures ∙ c.if-stops_fewer.true))
     (λ c κs. search rules) (λ c κs. search rules) (λ c. search rules) (λ c. search rules) (λ c. search rules) (λ c. search rules) (λ c. search rules)
-    (λ c. sym (ap standing_note c.enum_told-1.given.1) ∙ told c.before.before)
-    (λ c. sym (ap standing_note c.enum_told-in-Stands-1.given.1) ∙ told c.before.before)
-    (λ c. sym (ap standing_note c.enum_told-in-RuledOut-1.given.1) ∙ told c.before.before)
-    (λ c. sym (ap standing_note c.enum_told-in-Open-1.given.1) ∙ told c.before.before)
-    (λ c. sym (ap standing_note c.enum_told-in-Refused-1.given.1) ∙ told c.before.before))
+    (λ c. sym (ap standing_note c.in-Conflict.is) ∙ told c.before)
+    (λ c. sym (ap standing_note c.in-Stands.is) ∙ told c.before)
+    (λ c. sym (ap standing_note c.in-RuledOut.is) ∙ told c.before)
+    (λ c. sym (ap standing_note c.in-Open.is) ∙ told c.before)
+    (λ c. sym (ap standing_note c.in-Refused.is) ∙ told c.before))

@@ -66,6 +66,6 @@ returns c =
 pub note_sets_spec : {M : Type 1} → statement M
 note_sets_spec = tie.close (tie.spec
     invariant_loop decreases_loop (λ c. (omega arith, refl, λ m h. absurd (not-suc-le-zero h)))
-    (λ c κs. let l = c.before.before in ((start l).requires.1.0, low (start l), omega (arith, l.loop-set.invariant.1)))
-    (λ c. let l = c.before.before.before in omega (arith, l.loop-set.invariant.1)) (λ c. omega arith) (λ c. omega arith) loop_again
+    (λ c κs. let l = c.before in ((start l).requires.1.0, low (start l), omega (arith, l.loop-set.invariant.1)))
+    (λ c. let l = c.before.before in omega (arith, l.loop-set.invariant.1)) (λ c. omega arith) (λ c. omega arith) loop_again
     (λ c. c.before.loop-set.invariant.1) returns)
