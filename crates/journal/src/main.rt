@@ -1,12 +1,14 @@
 // The journal: commands on standard input, a line for each on standard output.
 #![tactic(auto)]
 
-ghost use Rattle.std.specs.Prelude.{◌+◌, ◌≤◌, ◌<◌, ◌≡◌, true, length};
+ghost use Rattle.std.specs.Prelude.{◌+◌, ◌≤◌, ◌<◌, ◌≡◌, true, length, OnOk};
+ghost use Rattle.std.specs.Io.KnownBytes.{Appends};
+ghost use Rattle.journal.specs.Promises.{all_lines};
 ghost use Rattle.journal.specs.Told.{left, more, Runs, starting, told};
 
 use board::Board;
 use std::io;
-use std::io::Read;
+use std::io::{Read, Write};
 
 // The most bytes of input that are taken.
 const MOST_INPUT: usize = 32768;
@@ -95,13 +97,15 @@ fn fill(run: Run, table: &mut [i16], input: &[u8], out: &mut [u8]) -> Run
     here
 }
 
-// Carries out all commands, and writes their lines a buffer at a time.
-fn journal(rt: &impl Print, table: &mut [i16], input: &[u8]) -> io::Result<()> {
+// Carries out all commands, and writes their lines a buffer at a time: where it could write them, every line of the journal.
+fn journal<W: Write>(to: &mut W, table: &mut [i16], input: &[u8]) -> io::Result<()>
+    ensures { OnOk result (Appends (W.contents to.old) (W.contents to.new) (all_lines table.old input.now)) }
+{
     let mut out = [0u8; 4096];
     let mut run = start();
     while goes_on(run, input) {
         run = fill(run, table, input, &mut out);
-        rt.write_all(&out[..run.filled])?;
+        to.write_all(&out[..run.filled])?;
     }
     Ok(())
 }
@@ -113,5 +117,5 @@ fn main(rt: HostRuntime) -> io::Result<()> {
         return rt.write_all(b"input too long\n");
     }
     let mut table = [0i16; 18432];
-    journal(&rt, &mut table, input.as_slice())
+    journal(&mut io::writer(&rt), &mut table, input.as_slice())
 }
