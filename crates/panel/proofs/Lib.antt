@@ -1,4 +1,4 @@
--- Laws of what crosses to C, and of a record that is lent by reference.
+-- Laws of what crosses to C.
 pub mod Flags
 pub mod Narrow
 mod Unique

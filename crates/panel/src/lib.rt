@@ -115,8 +115,7 @@ pub struct PanelReason {
     pub rule: u16,
 }
 
-// The four calls that are lent the record are thin: each copies it out from behind the reference, and stores what `steps` made of it. They hold no
-// branch and no loop, since behind a reference to a struct a proof is a walk, by hand.
+// The four calls that are lent the record are thin: each copies it out from behind the reference, and stores what `steps` made of it.
 
 #[unsafe(no_mangle)]
 pub extern "C" fn tup_open(symbols: u16, stacks: &mut Stacks) -> PanelChange

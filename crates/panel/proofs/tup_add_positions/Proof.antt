@@ -6,15 +6,13 @@ use Rattle.panel.proofs.tup_add_positions.Tie as tie
 
 addition_out_requires : tie.Need-addition_out-requires
 addition_out_requires c κs =
-    let a = c in
-    let given = a.well-formed in
-    rw (a.add_positions-addition.ensures.0, a.board_in.ensures)
+    let given = c.well_formed in
+    rw (c.add_positions-addition.ensures.0, c.board_in.ensures)
     (narrow_entered _ _ (record { symbols = omega arith; rows = omega arith; rules = omega arith }) _)
 
 returns : tie.Need-returns
 returns c =
-    let a = c in
-    rw (← a.board_in.ensures, ← a.add_positions-addition.ensures.0) (c.addition_out.ensures, a.add_positions-addition.ensures.1)
+    rw (← c.board_in.ensures, ← c.add_positions-addition.ensures.0) (c.addition_out.ensures, c.add_positions-addition.ensures.1)
 
 pub tup_add_positions_spec : {M : Type 1} → statement M
 tup_add_positions_spec = tie.close (tie.spec (λ c κs. search rules) (λ c κs. search rules) addition_out_requires (λ c. search rules) returns)

@@ -5,8 +5,7 @@ use Rattle.panel.proofs.tup_ask.Tie as tie
 
 returns : tie.Need-returns
 returns c =
-    let b = c in
-    rw (← b.board_in.ensures, ← to_z-of_z b.ranges.l, ← c.ask-answer.ensures) c.answer_out.ensures
+    rw (← c.board_in.ensures, ← to_z-of_z c.ranges.l, ← c.ask-answer.ensures) c.answer_out.ensures
 
 pub tup_ask_spec : {M : Type 1} → statement M
 tup_ask_spec = tie.close (tie.spec (λ c κs. search rules) (λ c κs. search rules) (λ c κs. search rules) returns)

@@ -5,8 +5,7 @@ use Rattle.panel.proofs.tup_ask_whole.Tie as tie
 
 returns : tie.Need-returns
 returns c =
-    let b = c in
-    rw (← b.board_in.ensures, ← to_z-of_z b.ranges.l, ← c.ask_whole-answer.ensures) c.answer_out.ensures
+    rw (← c.board_in.ensures, ← to_z-of_z c.ranges.l, ← c.ask_whole-answer.ensures) c.answer_out.ensures
 
 pub tup_ask_whole_spec : {M : Type 1} → statement M
 tup_ask_whole_spec = tie.close (tie.spec (λ c κs. search rules) (λ c κs. search rules) (λ c κs. search rules) returns)

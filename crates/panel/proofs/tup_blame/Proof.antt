@@ -6,9 +6,7 @@ use Rattle.panel.proofs.tup_blame.Tie as tie
 
 returns : tie.Need-returns
 returns c =
-    let w = c in
-    let b = w in
-    rw (← b.board_in.ensures) (c.number_of.ensures ∙ ap number_in w.blame-outcome.ensures.0, w.blame-outcome.ensures.1)
+    rw (← c.board_in.ensures) (c.number_of.ensures ∙ ap number_in c.blame-outcome.ensures.0, c.blame-outcome.ensures.1)
 
 pub tup_blame_spec : {M : Type 1} → statement M
 tup_blame_spec = tie.close (tie.spec (λ c κs. search rules) (λ c κs. search rules) (λ c κs. search rules) (λ c. search rules) returns)

@@ -11,54 +11,43 @@ use Rattle.panel.proofs.tup_explain.Statement.{statement}
 use Rattle.panel.proofs.tup_explain.Tie as tie
 
 -- the numbers of the literal that was given
-numbers : (c : tie.After-explain_numbers-reason) → let s = c in
-    c.explain_numbers-reason.result ≡ explain_numbers s.args.table.now (board_in s.args.given) s.args.furnace s.args.l
+numbers : (c : tie.After-explain_numbers-reason)
+    → c.explain_numbers-reason.result ≡ explain_numbers c.args.table.now (board_in c.args.given) c.args.furnace c.args.l
 numbers c = rw (← c.board_in.ensures, ← to_z-of_z c.ranges.l) c.explain_numbers-reason.ensures
 
 -- where the call is done
-done : (c : tie.In-Done) → let n = c in let s = n in
-    (explain_numbers s.args.table.now (board_in s.args.given) s.args.furnace s.args.l).outcome ≡ Done
-done c = sym (ap (λ (r : Reason). r.outcome) (numbers c.before.before)) ∙ c.enum_told-1.given.1
+done : (c : tie.In-Done) → (explain_numbers c.args.table.now (board_in c.args.given) c.args.furnace c.args.l).outcome ≡ Done
+done c = sym (ap (λ (r : Reason). r.outcome) (numbers c.before)) ∙ c.in-Done.is
 
 -- the row is in the table
-inside : (c : tie.In-Done) → let n = c in
-    width * n.explain_numbers-reason.result.row + most_literals ≤ length n.args.table.now
+inside : (c : tie.In-Done) → width * c.explain_numbers-reason.result.row + most_literals ≤ length c.args.table.now
 inside c =
-    let n = c in
-    let s = n in
-    let used = row_used s.args.table.now (board_in s.args.given) s.args.furnace s.args.l (done c) in
-    omega (arith, ap (λ (r : Reason). r.row) (numbers n.before.before), used.0, used.2)
-
--- where the row's literals are counted
-abbrev at : tie.After-literal_count → tie.After-explain_numbers-reason
-at c = c.before.before.before.before
+    let used = row_used c.args.table.now (board_in c.args.given) c.args.furnace c.args.l (done c) in
+    omega (arith, ap (λ (r : Reason). r.row) (numbers c.before), used.0, used.2)
 
 cast_literals : tie.Need-overflow_cast-literals
-cast_literals c =
-    let n = at c in
-    omega (arith, c.literal_count.ensures, count_few n.args.table.now (width * n.explain_numbers-reason.result.row))
+cast_literals c = omega (arith, c.literal_count.ensures, count_few c.args.table.now (width * c.explain_numbers-reason.result.row))
 
 -- the literals that are counted are those of the part
-count_is : (c : tie.After-literal_count) → let s = at c in
-    let part = explain_part s.args.table.now (board_in s.args.given) s.args.furnace s.args.l in
+count_is : (c : tie.After-literal_count) →
+    let part = explain_part c.args.table.now (board_in c.args.given) c.args.furnace c.args.l in
     c.literal_count.result ≡ part.stop - part.start
 unfolding numbers_at
 count_is c =
-    let t = c in
-    rw (row_shown _ _ _ _ (done t.before.before), ← numbers t.before.before.before.before, ← c.literal_count.ensures) (omega arith)
+    let t = c.before.before in
+    rw (row_shown _ _ _ _ (done t), ← numbers t.before, ← c.literal_count.ensures) (omega arith)
 
-literals_are : (c : tie.Joined-outcome) → let s = c in
-    let part = explain_part s.args.table.now (board_in s.args.given) s.args.furnace s.args.l in
+literals_are : (c : tie.Joined-outcome) →
+    let part = explain_part c.args.table.now (board_in c.args.given) c.args.furnace c.args.l in
     c.match-outcome.literals ≡ part.stop - part.start
 literals_are c =
-    let n = c in
     ⊎_elim
-    (λ w. w.4 ∙ count_is (record {
-      before = record { before = record { before = record { before = n; match = w.0 }; enum_told = w.1 }; struct_known = w.2 };
-      literal-count = w.3;
+    (λ w. w.literals-is ∙ count_is (record {
+      before = record { before = record { before = c.before; in-Done = w.in-Done }; struct_known-1 = w.struct_known-1 };
+      literal_count = w.literal_count;
     }))
-    (λ w. w.2 ∙ rw (nothing_shown _ _ _ _ (sym (ap (λ (r : Reason). r.outcome) (numbers n.before)) ∙ w.1.given.1)))
-    c.match-outcome.branch
+    (λ w. w.literals-is ∙ rw (nothing_shown _ _ _ _ (sym (ap (λ (r : Reason). r.outcome) (numbers c.before)) ∙ w.in-Refused.is)))
+    c.match-outcome.branch-raw
 
 pub tup_explain_spec : {M : Type 1} → statement M
 tup_explain_spec = tie.close (tie.spec

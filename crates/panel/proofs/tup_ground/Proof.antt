@@ -6,10 +6,8 @@ use Rattle.panel.proofs.tup_ground.Tie as tie
 
 returns : tie.Need-returns
 returns c =
-    let w = c in
-    let b = w in
-    rw (← b.board_in.ensures, ← to_z-of_z b.ranges.l)
-    (c.number_of.ensures ∙ ap number_in w.ground-outcome.ensures.0, w.ground-outcome.ensures.1)
+    rw (← c.board_in.ensures, ← to_z-of_z c.ranges.l)
+    (c.number_of.ensures ∙ ap number_in c.ground-outcome.ensures.0, c.ground-outcome.ensures.1)
 
 pub tup_ground_spec : {M : Type 1} → statement M
 tup_ground_spec = tie.close (tie.spec (λ c κs. search rules) (λ c κs. search rules) (λ c κs. search rules) (λ c. search rules) returns)

@@ -11,8 +11,7 @@ change_out_requires c κs =
 
 returns : tie.Need-returns
 returns c =
-    let b = c in
-    rw (← b.board_in.ensures, ← to_z-of_z b.ranges.l, ← c.hold-change.ensures) c.change_out.ensures
+    rw (← c.board_in.ensures, ← to_z-of_z c.ranges.l, ← c.hold-change.ensures) c.change_out.ensures
 
 pub tup_hold_spec : {M : Type 1} → statement M
 tup_hold_spec = tie.close (tie.spec (λ c κs. search rules) (λ c κs. search rules) change_out_requires returns)

@@ -6,9 +6,7 @@ use Rattle.panel.proofs.tup_least.Tie as tie
 
 returns : tie.Need-returns
 returns c =
-    let w = c in
-    let b = w in
-    rw (← b.board_in.ensures) (c.withdrawal_out.ensures ∙ ap withdrawal_out w.least-withdrawal.ensures)
+    rw (← c.board_in.ensures) (c.withdrawal_out.ensures ∙ ap withdrawal_out c.least-withdrawal.ensures)
 
 pub tup_least_spec : {M : Type 1} → statement M
 tup_least_spec = tie.close (tie.spec (λ c κs. search rules) (λ c κs. search rules) (λ c κs. search rules) returns)

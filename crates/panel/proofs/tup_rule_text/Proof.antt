@@ -6,16 +6,13 @@ use Rattle.panel.proofs.tup_rule_text.Tie as tie
 
 addition_out_requires : tie.Need-addition_out-requires
 addition_out_requires c κs =
-    let a = c in
-    let b = a in
-    let given = b.well-formed in
-    rw (a.add_text-addition.ensures.0, b.board_in.ensures)
+    let given = c.well_formed in
+    rw (c.add_text-addition.ensures.0, c.board_in.ensures)
     (narrow_ruled_text _ _ (record { symbols = omega arith; rows = omega arith; rules = omega arith }) _)
 
 returns : tie.Need-returns
 returns c =
-    let a = c in
-    rw (← a.board_in.ensures, ← a.add_text-addition.ensures.0) (c.addition_out.ensures, a.add_text-addition.ensures.1)
+    rw (← c.board_in.ensures, ← c.add_text-addition.ensures.0) (c.addition_out.ensures, c.add_text-addition.ensures.1)
 
 pub tup_rule_text_spec : {M : Type 1} → statement M
 tup_rule_text_spec = tie.close (tie.spec (λ c κs. search rules) (λ c κs. search rules) addition_out_requires (λ c. search rules) returns)

@@ -7,13 +7,9 @@ use Rattle.panel.proofs.tup_settle.Tie as tie
 
 returns : tie.Need-returns
 returns c =
-    let u = c in
-    let v = u in
-    let w = v in
-    let k = w in
-    let board = k.board_in.ensures in
+    let board = c.board_in.ensures in
     let number = c.number_of.ensures in
-    let told = w.settle-outcome.ensures in
+    let told = c.settle-outcome.ensures in
     rw (← board) (
       number ∙ ap number_in told.0,
       (told.1.0, (told.1.1.0, (told.1.1.1.0, λ zero. rw board at (told.1.1.1.1 (done_alone _ (sym number ∙ zero)))))),

@@ -6,11 +6,9 @@ use Rattle.panel.proofs.tup_smallest.Tie as tie
 
 returns : tie.Need-returns
 returns c =
-    let w = c in
-    let b = w in
-    rw (← b.board_in.ensures, ← to_z-of_z b.ranges.l) (
-      c.listing_out.ensures ∙ ap listing_out w.smallest-listing.ensures.0,
-      w.smallest-listing.ensures.1,
+    rw (← c.board_in.ensures, ← to_z-of_z c.ranges.l) (
+      c.listing_out.ensures ∙ ap listing_out c.smallest-listing.ensures.0,
+      c.smallest-listing.ensures.1,
     )
 
 pub tup_smallest_spec : {M : Type 1} → statement M

@@ -19,9 +19,8 @@ start c = c.before
 
 loop_again : tie.Need-loop-k-preserved invariant_loop decreases_loop
 loop_again c =
-    let l = c in
-    let p = (start l.before.before.before).requires in
-    let i = l.loop-k.invariant in (
+    let p = (start c.before.before.before).requires in
+    let i = c.loop-k.invariant in (
       i.0,
       i.1,
       i.2,
@@ -31,15 +30,14 @@ loop_again c =
 
 returns : tie.Need-returns invariant_loop decreases_loop
 returns c =
-    let l = c in
-    let p = (start l.before).requires in
-    let i = l.loop-k.invariant in
+    let p = (start c.before).requires in
+    let i = c.loop-k.invariant in
     rw (
       i.0,
       i.1,
       i.2,
-      made_all flag_of _ _ l.loop-k.k i.3 (omega (arith, p.0)),
-      made_all flag_of _ _ l.loop-k.k i.4 (omega (arith, p.1)),
+      made_all flag_of _ _ c.loop-k.k i.3 (omega (arith, p.0)),
+      made_all flag_of _ _ c.loop-k.k i.4 (omega (arith, p.1)),
     )
 
 pub board_of_spec : {M : Type 1} → statement M

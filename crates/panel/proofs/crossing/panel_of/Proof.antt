@@ -23,28 +23,26 @@ start c = c.before
 
 loop_again : tie.Need-loop-k-preserved invariant_loop decreases_loop
 loop_again c =
-    let l = c in
-    let p = (start l.before.before.before).requires in
-    let a = (start l.before.before.before).args in
-    let i = l.loop-k.invariant in (
+    let p = (start c.before.before.before).requires in
+    let a = (start c.before.before.before).args in
+    let i = c.loop-k.invariant in (
       i.0,
       i.1,
       i.2,
-      made_more byte_of _ false _ _ i.3 (omega (arith, p.0)) (byte_is (get_or a.first.now l.loop-k.k false)),
-      made_more byte_of _ false _ _ i.4 (omega (arith, p.1)) (byte_is (get_or a.second.now l.loop-k.k false)),
+      made_more byte_of _ false _ _ i.3 (omega (arith, p.0)) (byte_is (get_or a.first.now c.loop-k.k false)),
+      made_more byte_of _ false _ _ i.4 (omega (arith, p.1)) (byte_is (get_or a.second.now c.loop-k.k false)),
     )
 
 returns : tie.Need-returns invariant_loop decreases_loop
 returns c =
-    let l = c in
-    let p = (start l.before).requires in
-    let i = l.loop-k.invariant in
+    let p = (start c.before).requires in
+    let i = c.loop-k.invariant in
     rw (
       i.0,
       i.1,
       i.2,
-      made_all byte_of _ _ l.loop-k.k i.3 (omega (arith, p.0)),
-      made_all byte_of _ _ l.loop-k.k i.4 (omega (arith, p.1)),
+      made_all byte_of _ _ c.loop-k.k i.3 (omega (arith, p.0)),
+      made_all byte_of _ _ c.loop-k.k i.4 (omega (arith, p.1)),
     )
 
 pub panel_of_spec : {M : Type 1} → statement M

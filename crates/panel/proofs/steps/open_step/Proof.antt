@@ -5,8 +5,8 @@ use Rattle.panel.proofs.steps.open_step.Statement.{statement}
 use Rattle.panel.proofs.steps.open_step.Tie as tie
 
 opened_out_requires : tie.Need-opened_out-requires
-opened_out_requires c κs = rw c.before.before.«open».ensures (narrow_opened _ _ (omega arith))
+opened_out_requires c κs = rw c.before.before.open-step.ensures (narrow_opened _ _ (omega arith))
 
 pub open_step_spec : {M : Type 1} → statement M
 open_step_spec = tie.close (tie.spec
-    (λ c κs. search rules) opened_out_requires (λ c. rw (← c.before.before.before.«open».ensures, c.opened_out.ensures)))
+    (λ c κs. search rules) opened_out_requires (λ c. rw (← c.before.before.before.open-step.ensures, c.opened_out.ensures)))

@@ -11,8 +11,7 @@ step_out_requires c κs =
 
 returns : tie.Need-returns
 returns c =
-    let b = c in
-    rw (← b.board_in.ensures, ← to_z-of_z b.ranges.l, ← c.withdraw-step.ensures) c.step_out.ensures
+    rw (← c.board_in.ensures, ← to_z-of_z c.ranges.l, ← c.withdraw-step.ensures) c.step_out.ensures
 
 pub withdraw_step_spec : {M : Type 1} → statement M
 withdraw_step_spec = tie.close (tie.spec (λ c κs. search rules) (λ c κs. search rules) step_out_requires returns)
