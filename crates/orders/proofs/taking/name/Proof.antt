@@ -21,14 +21,14 @@ returns c =
     let s = start j.before.before.before.before.before in
     let a = s.args in
     let at = 24 * (a.symbol - 1) in
-    rw (slot_written a.names.now at (at + 24 - at) a.given.now _ (omega arith) (omega (arith, fits t.before.before.before, s.requires)) p.put.ensures)
+    rw (slot_written a.names.now at (at + 24 - at) a.given.now _ (omega arith) (omega (arith, fits t.before.before.before.before, s.requires)) p.put.ensures)
     (rw (ap is_made c.in-Done.is) at (named_does a.desk a.table.now _ _ _ _ j.judge_name-judged.ensures))
 
 returns_2 : tie.Need-returns-in_default
 returns_2 c =
     let j = c in
     let a = (start j.before).args in
-    rw (unmade _ c.in_default.keys2) at (named_does a.desk a.table.now _ _ _ _ j.judge_name-judged.ensures)
+    rw (unmade _ c.in_default.in_default-own.keys2) at (named_does a.desk a.table.now _ _ _ _ j.judge_name-judged.ensures)
 
 pub name_spec : {M : Type 1} → statement M
 name_spec = tie.close (tie.spec

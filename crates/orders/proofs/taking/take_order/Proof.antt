@@ -42,7 +42,7 @@ returns_12 : tie.Need-returns-in-Nothing
 returns_12 c = rw (c.in-Nothing.is, c.simple.ensures) (rest_does _)
 
 returns_13 : tie.Need-returns-in_default
-returns_13 c = rw (asks_only _ _ _ _ _ c.in_default.keys13, c.simple-in_default.ensures) (ask_does _)
+returns_13 c = rw (asks_only _ _ _ _ _ c.in_default.in_default-own.keys13, c.simple-in_default.ensures) (ask_does _)
 
 pub take_order_spec : {M : Type 1} → statement M
 take_order_spec = tie.close (tie.spec
