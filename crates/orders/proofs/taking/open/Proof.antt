@@ -20,5 +20,5 @@ returns_2 c =
 
 pub open_spec : {M : Type 1} → statement M
 open_spec = tie.close (tie.spec
-    (λ c κs. search rules) (λ c. search rules) (λ c κs. search rules) (λ c. search rules) (λ c. search rules) (λ c κs. search rules)
-    (λ c κs. search rules) returns (λ c. search rules) returns_2)
+    (λ c κs. search rules) (λ c. search rules) (λ c κs. search rules) (λ c. search rules) (λ c κs. search rules) (λ c κs. search rules)
+    returns (λ c. search rules) returns_2)
