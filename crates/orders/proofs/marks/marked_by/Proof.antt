@@ -23,10 +23,10 @@ bit_is : (c : tie.Joined-word-k-eq49 invariant_loop decreases_loop) → let l = 
 bit_is c =
     let l = c in
     let b = get_or l.args.word.now (l.loop-k.k - 1) 0 in
-    ⊎_elim (λ w. w.1 ∙ rw (eq-eqb b 49 w.0.true)) (λ w. w.1 ∙ rw (ne_eqb b 49 w.0.false)) c.if-word-k-eq49.branch
+    ⊎_elim (λ w. w.bit-is ∙ rw (eq-eqb b 49 w.if-word-k-eq49.true)) (λ w. w.bit-is ∙ rw (ne_eqb b 49 w.if-word-k-eq49.false)) c.if-word-k-eq49.branch-raw
 
 bit_small : (c : tie.Joined-word-k-eq49 invariant_loop decreases_loop) → c.if-word-k-eq49.bit < 2
-bit_small c = ⊎_elim (λ w. omega arith) (λ w. omega arith) c.if-word-k-eq49.branch
+bit_small c = ⊎_elim (λ w. omega arith) (λ w. omega arith) c.if-word-k-eq49.branch-raw
 
 loop_again : tie.Need-loop-k-preserved invariant_loop decreases_loop
 loop_again c =

@@ -9,4 +9,4 @@ unfolding slot_of_order
 returns c = c.find.ensures
 
 pub slot_of_order_spec : {M : Type 1} → statement M
-slot_of_order_spec = tie.close (tie.spec (λ c. search rules) (λ c κs. search rules) returns)
+slot_of_order_spec = tie.close (tie.spec (λ c κs. search rules) returns)

@@ -6,16 +6,16 @@ use Rattle.orders.proofs.reading.deny.Statement.{statement}
 use Rattle.orders.proofs.reading.deny.Tie as tie
 
 cast_t5 : tie.Need-overflow_cast-result
-cast_t5 c = number_fits _ (narrow_number c.found-1.given.1 c.requires)
+cast_t5 c = number_fits _ (narrow_number c.in-Of.is c.requires)
 
 sub_t6 : tie.Need-overflow_sub-result
-sub_t6 c = opposite_fits _ (narrow_number c.found-1.given.1 c.requires)
+sub_t6 c = opposite_fits _ (narrow_number c.in-Of.is c.requires)
 
 returns : tie.Need-returns-in-Of
-returns c = denied_is c.found-1.given.1 c.requires
+returns c = denied_is c.in-Of.is c.requires
 
 returns_2 : tie.Need-returns-in-Not
-returns_2 c = ap denied (sym c.found-in-Not-1.given.1)
+returns_2 c = ap denied (sym c.in-Not.is)
 
 pub deny_spec : {M : Type 1} → statement M
 deny_spec = tie.close (tie.spec (λ c. search rules) cast_t5 sub_t6 (λ c. search rules) returns returns_2)

@@ -20,7 +20,7 @@ loop_again c =
     let i = c in
     let l = i.loop-k in
     valued_more l.invariant i.loop-k-test.true c.if-value-gt-MOST.value
-    (⊎_elim (λ w. omega arith) (λ w. omega arith) c.if-value-gt-MOST.branch)
+    (⊎_elim (λ w. omega arith) (λ w. omega arith) c.if-value-gt-MOST.branch-raw)
 
 pub value_of_spec : {M : Type 1} → statement M
 value_of_spec = tie.close (tie.spec

@@ -7,7 +7,7 @@ use Rattle.orders.proofs.taking.open.Tie as tie
 returns : tie.Need-returns-in-Refused
 returns c =
     let k = c in
-    rw c.simple.ensures (unopened_does _ _ _ _ _ (rw (← k.before.before.before.«open».ensures) k.outcome-1.given.1))
+    rw c.simple.ensures (unopened_does _ _ _ _ _ (rw (← c.open-step.ensures) c.in-Refused.is))
 
 returns_2 : tie.Need-returns-in-Done
 returns_2 c =
@@ -15,10 +15,10 @@ returns_2 c =
     let p = n in
     let t = p in
     let o = t in
-    rw (c.simple-in-Done.ensures, p.put.ensures, o.requires, zeros, o.«open».ensures)
-    (opened_does _ _ _ _ (rw (← o.«open».ensures) t.enum_told-1.given.1))
+    rw (c.simple-in-Done.ensures, p.put.ensures, o.requires, zeros, c.open-step.ensures)
+    (opened_does _ _ _ _ (rw (← c.open-step.ensures) c.in-Done.is))
 
 pub open_spec : {M : Type 1} → statement M
 open_spec = tie.close (tie.spec
-    (λ c κs. search rules) (λ c. search rules) (λ c κs. search rules) (λ c. search rules) (λ c. search rules) (λ c κs. search rules)
-    (λ c κs. search rules) returns (λ c. search rules) returns_2)
+    (λ c κs. search rules) (λ c. search rules) (λ c κs. search rules) (λ c. search rules) (λ c κs. search rules) (λ c κs. search rules)
+    returns (λ c. search rules) returns_2)

@@ -11,7 +11,7 @@ add_typed_requires : tie.Need-add_typed-requires
 add_typed_requires c κs = let r = c in (r.requires.0, length-take-le _ _ (omega (arith, short r.before.before)))
 
 returns : tie.Need-returns
-returns c = let t = c in rw (← t.rest-typed.ensures) t.add_Typed.ensures
+returns c = let t = c in rw (← t.rest-typed.ensures) t.add_typed.ensures
 
 pub rule_line_spec : {M : Type 1} → statement M
 rule_line_spec = tie.close (tie.spec

@@ -11,7 +11,7 @@ abbrev start : tie.After-symbol_in → tie.Start
 start c = c.before.before.before.before
 
 abbrev one : tie.After-number_in → tie.After-symbol_in
-one c = c.before.before.before.before.before
+one c = c.before.before.before
 
 read : (c : tie.After-symbol_in) → let a = (start c).args in symbol_in a.names.now (word_at 3 a.line.now) ≡ c.symbol_in.result
 read c = rw (← c.word.ensures) (sym c.symbol_in.ensures)
@@ -20,19 +20,19 @@ read_next : (c : tie.After-number_in) → number_in (word_at 4 (start (one c)).a
 read_next c = rw (← c.word-in-Of.ensures) (sym c.number_in.ensures)
 
 returns : tie.Need-returns-in-Not
-returns c = let w = c in rw (c.slip.ensures, read w.before.before.before.before ∙ w.why-1.given.1) (slip_does _ _ 3)
+returns c = let w = c in rw (c.slip.ensures, read w.before.before ∙ c.in-Not.is) (slip_does _ _ 3)
 
 returns_2 : tie.Need-returns-in-Not-number_in
 returns_2 c =
     let w = c in
     let m = w in
-    rw (c.slip-in-Not-number_in.ensures, read (one m.before.before.before.before) ∙ m.other-1.given.1, read_next m.before.before.before.before ∙ w.why-in-Not-number_in-1.given.1) (slip_does _ _ 4)
+    rw (c.slip-in-Not-number_in.ensures, read (one m.before.before) ∙ c.in-Of.is, read_next m.before.before ∙ c.in-Not-number_in.is) (slip_does _ _ 4)
 
 returns_3 : tie.Need-returns-in-Of-number_in
 returns_3 c =
     let k = c in
     let m = k in
-    rw (read (one m.before.before.before.before.before.before) ∙ m.other-1.given.1, read_next m.before.before.before.before.before.before ∙ k.others-1.given.1) c.enter_pairs.ensures
+    rw (read (one m.before.before.before.before) ∙ c.in-Of.is, read_next m.before.before.before.before ∙ c.in-Of-number_in.is) c.enter_pairs.ensures
 
 pub second_valve_spec : {M : Type 1} → statement M
 second_valve_spec = tie.close (tie.spec

@@ -6,43 +6,43 @@ use Rattle.orders.proofs.taking.take_order.Statement.{statement}
 use Rattle.orders.proofs.taking.take_order.Tie as tie
 
 returns : tie.Need-returns-in-Open
-returns c = let l = c in rw l.enum_told-1.given.1 l.open_line.ensures
+returns c = let l = c in rw c.in-Open.is l.open_line.ensures
 
 returns_2 : tie.Need-returns-in-Name
-returns_2 c = let l = c in rw l.enum_told-in-Name-1.given.1 l.name_line.ensures
+returns_2 c = let l = c in rw c.in-Name.is l.name_line.ensures
 
 returns_3 : tie.Need-returns-in-Rule
-returns_3 c = let l = c in rw l.enum_told-in-Rule-1.given.1 l.rule_line.ensures
+returns_3 c = let l = c in rw c.in-Rule.is l.rule_line.ensures
 
 returns_4 : tie.Need-returns-in-Hold
-returns_4 c = rw c.enum_told-in-Hold-1.given.1 c.literal_line.ensures
+returns_4 c = rw c.in-Hold.is c.literal_line.ensures
 
 returns_5 : tie.Need-returns-in-Drop
-returns_5 c = rw c.enum_told-in-Drop-1.given.1 c.literal_line-in-Drop.ensures
+returns_5 c = rw c.in-Drop.is c.literal_line-in-Drop.ensures
 
 returns_6 : tie.Need-returns-in-Push
-returns_6 c = rw c.enum_told-in-Push-1.given.1 c.literal_line-in-Push.ensures
+returns_6 c = rw c.in-Push.is c.literal_line-in-Push.ensures
 
 returns_7 : tie.Need-returns-in-Pop
-returns_7 c = rw c.enum_told-in-Pop-1.given.1 c.pop_line.ensures
+returns_7 c = rw c.in-Pop.is c.pop_line.ensures
 
 returns_8 : tie.Need-returns-in-Valve
-returns_8 c = let l = c in rw l.enum_told-in-Valve-1.given.1 l.valve_line.ensures
+returns_8 c = let l = c in rw c.in-Valve.is l.valve_line.ensures
 
 returns_9 : tie.Need-returns-in-Pairs
-returns_9 c = let l = c in rw l.enum_told-in-Pairs-1.given.1 l.pairs_line.ensures
+returns_9 c = let l = c in rw c.in-Pairs.is l.pairs_line.ensures
 
 returns_10 : tie.Need-returns-in-Furnace
-returns_10 c = rw c.enum_told-in-Furnace-1.given.1 c.furnace_line.ensures
+returns_10 c = rw c.in-Furnace.is c.furnace_line.ensures
 
 returns_11 : tie.Need-returns-in-Unknown
-returns_11 c = rw (c.enum_told-in-Unknown-1.given.1, c.slip.ensures) (slip_does _ _ 0)
+returns_11 c = rw (c.in-Unknown.is, c.slip.ensures) (slip_does _ _ 0)
 
 returns_12 : tie.Need-returns-in-Nothing
-returns_12 c = rw (c.enum_told-in-Nothing-1.given.1, c.simple.ensures) (rest_does _)
+returns_12 c = rw (c.in-Nothing.is, c.simple.ensures) (rest_does _)
 
 returns_13 : tie.Need-returns-in_default
-returns_13 c = rw (asks_only _ _ _ _ _ c.in_default.keys13, c.simple-in_default.ensures) (ask_does _)
+returns_13 c = rw (asks_only _ _ _ _ _ c.in_default.in_default-own.keys13, c.simple-in_default.ensures) (ask_does _)
 
 pub take_order_spec : {M : Type 1} → statement M
 take_order_spec = tie.close (tie.spec

@@ -12,7 +12,7 @@ abbrev start : tie.After-symbol_in → tie.Start
 start c = c.before.before.before.before
 
 abbrev one : tie.After-number_in → tie.After-symbol_in
-one c = c.before.before.before.before.before
+one c = c.before.before.before
 
 read : (c : tie.After-symbol_in) → let a = (start c).args in symbol_in a.names.now (word_at 1 a.line.now) ≡ c.symbol_in.result
 read c = rw (← c.word.ensures) (sym c.symbol_in.ensures)
@@ -22,24 +22,24 @@ read_next c = rw (← c.word-in-Of.ensures) (sym c.number_in.ensures)
 
 -- where it is looked whether another follows
 abbrev at : tie.After-ends_at → tie.After-number_in
-at c = c.before.before.before.before
+at c = c.before.before
 
 returns : tie.Need-returns-then-not-ends_at
 returns c =
     let e = c in
     let m = at e.before.before in
-    let first = read (one m) ∙ m.first-1.given.1 in
-    let count = read_next m ∙ e.count-1.given.1 in
+    let first = read (one m) ∙ c.in-Of.is in
+    let count = read_next m ∙ c.in-Of-number_in.is in
     rw (c.slip-then-not-ends_at.ensures, first, count, sym e.ends_at.ensures ∙ not-true _ c.if-not-ends_at.true-raw) (slip_does _ _ 3)
 
 returns_2 : tie.Need-returns-in-Not
-returns_2 c = let w = c in rw (c.slip.ensures, read w.before.before.before.before ∙ w.why-1.given.1) (slip_does _ _ 1)
+returns_2 c = let w = c in rw (c.slip.ensures, read w.before.before ∙ c.in-Not.is) (slip_does _ _ 1)
 
 returns_3 : tie.Need-returns-in-Not-number_in
 returns_3 c =
     let w = c in
     let m = w in
-    rw (c.slip-in-Not-number_in.ensures, read (one m.before.before.before.before) ∙ m.first-1.given.1, read_next m.before.before.before.before ∙ w.why-in-Not-number_in-1.given.1) (slip_does _ _ 2)
+    rw (c.slip-in-Not-number_in.ensures, read (one m.before.before) ∙ c.in-Of.is, read_next m.before.before ∙ c.in-Not-number_in.is) (slip_does _ _ 2)
 
 returns_4 : tie.Need-returns-else-not-ends_at
 returns_4 c =
@@ -47,8 +47,8 @@ returns_4 c =
     let t = p in
     let e = t in
     let m = at e.before.before.before.before.before.before in
-    let first = read (one m) ∙ m.first-1.given.1 in
-    let count = read_next m ∙ e.count-1.given.1 in
+    let first = read (one m) ∙ c.in-Of.is in
+    let count = read_next m ∙ c.in-Of-number_in.is in
     let added = p.add_positions-addition.ensures in
     rw (c.of_addition.ensures, added.0, added.1, first, count, sym e.ends_at.ensures ∙ not-false _ t.if-not-ends_at.false-raw) (entered_does _ _ _ _)
 
