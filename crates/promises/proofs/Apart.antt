@@ -1,10 +1,15 @@
 -- 02, Ticket 6: "Holding and withdrawing for one furnace change no answer of the other": two worlds that differ in the premises and the stack of one
 -- furnace alone answer alike every call that does not name it, and stay such whatever is called.
 use Rattle.meaning.proofs.Kit.{◌≡◌, ◌∙◌, sym, ap, refl, subst, ⊎_elim, ◌≢◌, true, false, Bool, cond, ◌&&◌, not, and-false, List, [], ◌∷◌, ℕ, arith, ℤ}
-use Rattle.meaning.proofs.Kit.{drop, set, eqb-true, eqb-false}
+use Rattle.meaning.proofs.Kit.{drop, take, length, set, eqb-true, eqb-false}
+use Rattle.meaning.specs.Tests.{all}
 use Rattle.meaning.specs.Formulae.{Formula}
 use Rattle.meaning.proofs.Tests.{true_or_false, clash}
-use Rattle.literals.specs.Literal.{place_of}
+use Rattle.literals.specs.Literal.{in_range, place_of}
+use Rattle.literals.specs.Row.{rows_lent}
+use Rattle.formula.specs.Parse.{whole_of}
+use Rattle.board.specs.Rules.{bytes_faults, place_told, rows_of_bytes}
+use Rattle.board.specs.declared.Outcome.{Outcome}
 use Rattle.literals.specs.declared.refusal.Refusal.TheVariants.{BadBoard}
 use Rattle.board.specs.Furnaces.{held_by, with_held}
 use Rattle.board.specs.Faults.{premises_fit, good_board, Fault, first_fault}
@@ -84,15 +89,32 @@ module _ {f : ℕ} {v u : World} (s : Same f v u) (sound-v : Sound v) (sound-u :
       first_two (good_board (front v lent) v.board) (good_stacks v.board v.stacks) (rest v)
       ∙ rw (stacks_same lent, same) (sym (first_two (good_board (front u lent) u.board) (good_stacks u.board u.stacks) (rest u)))
 
+  -- what refuses a rule, by what it hangs on
+  rule_fault : (lent : ℕ) (bytes : List ℕ)
+      → first_fault (rule_faults (front v lent) v.board bytes) ≡ first_fault (rule_faults (front u lent) u.board bytes)
+  unfolding rule_faults
+  rule_fault lent bytes =
+      let fault : Bool → ℕ → ℕ → ℕ → List ℤ → Outcome =
+          λ g S used rules table. first_fault (record { given = not g; refusal = BadBoard } ∷ bytes_faults S used rules (rows_lent (take lent table)) bytes) in
+      ap (λ (g : Bool). fault g v.board.symbols v.board.rows v.board.rules v.table) (good lent)
+      ∙ ap (λ (S : ℕ). fault (good_board (front u lent) u.board) S v.board.rows v.board.rules v.table) a.symbols
+      ∙ ap (λ (used : ℕ). fault (good_board (front u lent) u.board) u.board.symbols used v.board.rules v.table) a.rows
+      ∙ ap (λ (rules : ℕ). fault (good_board (front u lent) u.board) u.board.symbols u.board.rows rules v.table) a.rules
+      ∙ ap (λ (table : List ℤ). fault (good_board (front u lent) u.board) u.board.symbols u.board.rows u.board.rules table) a.table
+
   rule_same : (lent : ℕ) (bytes : List ℕ)
       → let x = ruled (front v lent) v.board bytes in let y = ruled (front u lent) u.board bytes in
       of_addition x.outcome x.place x.added ≡ of_addition y.outcome y.place y.added
-  unfolding ruled rule_faults
+  unfolding ruled
   rule_same lent bytes =
       ⊎_elim
-      (λ (e : first_fault (rule_faults (front u lent) u.board bytes) ≡ Done). rw (good lent, a.symbols, a.rows, a.rules, a.table, e))
-      (λ r. rw (good lent, a.symbols, a.rows, a.rules, a.table) (rw r.1))
+      (λ (e : first_fault (rule_faults (front u lent) u.board bytes) ≡ Done).
+      rw (rule_fault lent bytes, e) (ap (λ (S : ℕ). of_addition Done (place_told Done (whole_of S bytes)) (length (rows_of_bytes S bytes))) a.symbols))
+      (λ r. rw (rule_fault lent bytes, r.1) (ap (λ (S : ℕ). of_addition (Refused r.0) (place_told (Refused r.0) (whole_of S bytes)) 0) a.symbols))
       (done_or_refused (first_fault (rule_faults (front u lent) u.board bytes)))
+
+  same_range : (ls : List ℤ) → all (in_range v.board.symbols) ls ≡ all (in_range u.board.symbols) ls
+  same_range ls = ap (λ (S : ℕ). all (in_range S) ls) a.symbols
 
   -- the same answer to every call that does not name the furnace
   same_answer : (c : Call) → names_furnace f c ≡ false → answer v c ≡ answer u c
@@ -126,8 +148,8 @@ module _ {f : ℕ} {v u : World} (s : Same f v u) (sound-v : Sound v) (sound-u :
   same_answer (settles lent g labels ranks supports) n = rw (good lent, a.premises g (eqb-false g f n), a.symbols, a.rows, a.table)
   same_answer (grounds lent g l marks) n = rw (good lent, a.premises g (eqb-false g f n), a.symbols, a.rows, a.table)
   same_answer (blames lent g marks) n = rw (good lent, a.premises g (eqb-false g f n), a.symbols, a.rows, a.table)
-  same_answer (lists lent cands l sets) n = rw (good lent, a.symbols, a.rows, a.table)
-  same_answer (asks_least lent g cands) n = rw (good lent, a.premises g (eqb-false g f n), a.symbols, a.rows, a.table)
+  same_answer (lists lent cands l sets) n = rw (good lent, same_range (l ∷ cands), a.symbols, a.rows, a.table)
+  same_answer (asks_least lent g cands) n = rw (good lent, a.premises g (eqb-false g f n), same_range cands, a.symbols, a.rows, a.table)
   same_answer (reads lent text) n =
       ⊎_elim
       (λ (d : first_fault (read_faults (front u lent) u.board text) ≡ Done). rw (good lent, a.symbols, a.rows, a.rules, a.table, d))
@@ -228,8 +250,8 @@ runs_apart : (f : ℕ) {v u : World} → Same f v u → Sound v → Sound u → 
 runs_apart f s sound-v sound-u [] = s
 runs_apart f {v} {u} s sound-v sound-u (c ∷ calls) =
     ⊎_elim
-    (λ e. rw e (runs_apart f (after_apart s sound-v sound-u (moves u c) e) sound-v (sound_after u sound-u c) calls))
-    (λ e. rw e (runs_apart f (same_after s sound-v sound-u (kind c) e) (sound_after v sound-v c) (sound_after u sound-u c) calls))
+    (λ e. rw e (runs_apart f {v = v} {u = after u c} (after_apart s sound-v sound-u (moves u c) e) sound-v (sound_after u sound-u c) calls))
+    (λ e. rw e (runs_apart f {v = after v c} {u = after u c} (same_after s sound-v sound-u (kind c) e) (sound_after v sound-v c) (sound_after u sound-u c) calls))
     (true_or_false (changes_premises c && names_furnace f c))
 
 itself : (f : ℕ) (w : World) → Same f w w

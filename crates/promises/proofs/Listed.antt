@@ -139,3 +139,4 @@ list_room w lent cands l sets long e = go ((refused_exactly w (lists lent cands 
         let many = leb (length cands) most_candidates in
         let h = leb-true (length cands) most_candidates (not-false many (both_false (not many) (repeats (places_of cands)) c).0) in
         clash (le-leb (length list) (length sets) (few_sets h)) (not-true (leb (length list) (length sets)) g)
+    go (later a (later b (later c (later _ x)))) = elim x [ ]

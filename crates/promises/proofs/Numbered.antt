@@ -1,13 +1,14 @@
 -- 02, Ticket 8: "Which rule is this row from?" After any calls since an open the rows that carry a number are those of its rule, in order of
 -- acceptance, so explain's number names the rule that a mark stands on; and rule numbers change nothing else that is told.
-use Rattle.meaning.proofs.Kit.{◌≡◌, ⊎_elim, ◌∙◌, sym, ap, refl, subst, ap₂, true, List, [], In, ◌≤◌, ℕ, ◌<◌, ◌-◌, ◌+◌, suc, arith, ℤ, length, get_or}
+use Rattle.meaning.proofs.Kit.{◌≡◌, ⊎_elim, ◌∙◌, sym, ap, refl, subst, ap₂, true, List, [], ◌∷◌, In, ◌≤◌, ℕ, ◌<◌, ◌-◌, ◌+◌, suc, arith, ℤ, length, get_or}
 use Rattle.meaning.proofs.Kit.{length-map, list_get_or_map}
+use Rattle.meaning.specs.Tests.{all}
 use Rattle.meaning.specs.Formulae.{Formula, symbol, Rule, rule_of}
 use Rattle.meaning.specs.Clauses.{rows_of}
 use Rattle.meaning.specs.SecondWay.{rules_of}
 use Rattle.meaning.proofs.Tests.{in_at}
 use Rattle.meaning.proofs.Tables.{tabulate_same}
-use Rattle.literals.specs.Literal.{place_of}
+use Rattle.literals.specs.Literal.{in_range, place_of}
 use Rattle.literals.specs.Row.{numbers_at, rule_at, decode, rows_in, Ruled}
 use Rattle.literals.proofs.Decoding.{rows_at}
 use Rattle.literals.proofs.RuledRows.{length_ruled, ruled_at_lem, of_rules_in, with_number_lem, OfRule}
@@ -23,7 +24,7 @@ use Rattle.least.specs.Withdrawing.{least_at, least_faults, least_answer}
 use Rattle.smallest.specs.Listing.{smallest_at, smallest_faults, smallest_outcome, smallest_answer, smallest_sets}
 use Rattle.dimacs.specs.Writing.{literals_of, clause_at, clauses_at, text_of, text_on, write_faults, write_outcome, write_answer, write_bytes}
 use Rattle.promises.specs.Calls.{World, front, answer}
-use Rattle.promises.specs.Demands.{rows_of_world, ruled_rows, support_in, since, Numbers, RuleNumbers, ExplainNames, SameLiterals, SameTold}
+use Rattle.promises.specs.Demands.{rows_of_world, accepted_since, ruled_rows, support_in, since, Numbers, RuleNumbers, ExplainNames, SameLiterals, SameTold}
 use Rattle.promises.specs.Demands.{NumbersApart}
 use Rattle.promises.proofs.Refusals.{done_or_refused}
 use Rattle.promises.proofs.Lent.{numbers_lent}
@@ -77,8 +78,9 @@ module _ {w : World} {fs : List Formula} (k : Keeps w fs) where
   row_named r h =
       let n = named r h in
       let at : rule_at w.table r - 1 ≡ n.at = omega (arith, n.number) in
-      rw (rows_at w.board.rows w.table r h, at)
-      (subst (λ (rule : Rule). In (decode (numbers_at w.table r)) (rows_of rule)) (rule_at_lem n.at) n.its_row)
+      let rule = rule_at_lem n.at ∙ ap (λ (i : ℕ). rule_of S (get_or fs i (symbol 0))) (sym at) in
+      rw (rows_at w.board.rows w.table r h)
+      (subst (λ (rule' : Rule). In (decode (numbers_at w.table r)) (rows_of rule')) rule n.its_row)
 
 pub rule_numbers : RuleNumbers
 rule_numbers w₀ S calls = numbers_are (keeps w₀ S calls)
@@ -91,7 +93,8 @@ explain_names w₀ S calls lent furnace l e =
     let inside = (used w lent furnace l e).0 in
     let is = (explain_tells w lent furnace l e).rule in
     let within = range k row inside in
-    (is, rw is within.0, rw is within.1, rw is (row_named k row inside))
+    let in_rule = λ (n : ℕ). In (get_or (rows_of_world w) row []) (rows_of (rule_of w.board.symbols (get_or (accepted_since w₀ S calls) (n - 1) (symbol 0)))) in
+    (is, rw is within.0, rw is within.1, subst in_rule (sym is) (row_named k row inside))
 
 -- ---- and nothing else is told by them
 
@@ -139,6 +142,9 @@ module _ (v w : World) (lent furnace : ℕ) (s : SameLiterals v w) (good-v : goo
       (λ r. rw (same_faults l) (rw r.1 (refl, refl, refl, refl)))
       (done_or_refused (first_fault (explain_faults (front w lent) w.board furnace l)))
 
+  same_range : (ls : List ℤ) → all (in_range v.board.symbols) ls ≡ all (in_range w.board.symbols) ls
+  same_range ls = ap (λ (S : ℕ). all (in_range S) ls) s.symbols
+
   told : SameTold v w lent furnace
   unfolding answer settle_outcome settled_labels settled_ranks settled_supports settle_faults asked asked_whole ask_faults ground_outcome ground_marks
       ground_faults blame_outcome blame_marks blame_faults smallest_answer smallest_sets smallest_outcome smallest_faults smallest_at least_answer least_faults
@@ -150,8 +156,8 @@ module _ (v w : World) (lent furnace : ℕ) (s : SameLiterals v w) (good-v : goo
         ask_whole = λ l. rw (good-v, good-w, s.premises furnace, same_rows, s.symbols);
         ground = λ l marks. rw (good-v, good-w, s.premises furnace, same_rows, s.symbols);
         blame = λ marks. rw (good-v, good-w, s.premises furnace, same_rows, s.symbols);
-        smallest = λ cands l sets. rw (good-v, good-w, same_rows, s.symbols);
-        least = λ cands. rw (good-v, good-w, s.premises furnace, same_rows, s.symbols);
+        smallest = λ cands l sets. rw (good-v, good-w, same_rows, same_range (l ∷ cands), s.symbols);
+        least = λ cands. rw (good-v, good-w, s.premises furnace, same_rows, same_range cands, s.symbols);
         explain = same_reason;
         write = λ out. rw (good-v, good-w, same_text);
       }

@@ -291,3 +291,4 @@ stays_exactly w lent furnace cands u =
     all_left (later a (later b (later c (later d (later f (here g n)))))) =
         let p = passed_of w lent furnace cands a b c d f in
         withdrawn_all w lent furnace cands p u (rw (read w lent furnace cands p) at g)
+    all_left (later a (later b (later c (later d (later f (later _ x)))))) = elim x [ ]
