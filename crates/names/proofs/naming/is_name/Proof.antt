@@ -25,9 +25,8 @@ returns_3 c =
 returns_4 : tie.Need-returns
 unfolding is_name
 returns_4 c =
-    let l = c in
-    let n = length (start l.before.before).args.word.now in
-    rw (le-leb 3 n (omega arith), le-leb n 24 (omega arith), sym l.is_letter.ensures ∙ not-false _ c.if-not-is_letter.false-raw, ← c.run.ensures)
+    let n = length (start c.before.before).args.word.now in
+    rw (le-leb 3 n (omega arith), le-leb n 24 (omega arith), sym c.is_letter.ensures ∙ not-false _ c.if-not-is_letter.false-raw, ← c.run.ensures)
 
 pub is_name_spec : {M : Type 1} → statement M
 is_name_spec = tie.close (tie.spec returns returns_2 (λ c. omega arith) (λ c κs. tt) returns_3 (λ c κs. tt) returns_4)

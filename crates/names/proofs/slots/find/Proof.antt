@@ -22,9 +22,8 @@ at c = c.before.before
 -- it ends within the slots
 within : (c : tie.In-loop-k invariant_loop decreases_loop) → let a = (start c.before).args in c.loop-k.at + a.width ≤ length a.slots.now
 within c =
-    let l = c in
-    let s = start l.before in
-    omega (arith, slot_ends s.args.width l.loop-k.k s.args.count c.loop-k-test.true, l.loop-k.invariant.1, s.requires.0)
+    let s = start c.before in
+    omega (arith, slot_ends s.args.width c.loop-k.k s.args.count c.loop-k-test.true, c.loop-k.invariant.1, s.requires.0)
 
 -- and this is told of it
 told : (c : tie.After-fits invariant_loop decreases_loop) → let l = at c in let a = (start l.before).args in
@@ -37,11 +36,10 @@ told c =
 returns : tie.Need-returns-then-fits invariant_loop decreases_loop
 returns c =
     let t = at c.before in
-    let l = t in
-    let s = start l.before in
+    let s = start t.before in
     let a = s.args in
-    found_here a.width a.count a.slots.now a.word.now s.requires.1 l.loop-k.k t.loop-k-test.true
-    (sym (told c.before) ∙ c.if-fits.true) l.loop-k.invariant.2
+    found_here a.width a.count a.slots.now a.word.now s.requires.1 t.loop-k.k t.loop-k-test.true
+    (sym (told c.before) ∙ c.if-fits.true) t.loop-k.invariant.2
 
 loop_again : tie.Need-loop-k-preserved invariant_loop decreases_loop
 loop_again c =
@@ -54,10 +52,9 @@ loop_again c =
 
 returns_2 : tie.Need-returns invariant_loop decreases_loop
 returns_2 c =
-    let l = c in
-    let s = start l.before in
+    let s = start c.before in
     let a = s.args in
-    found_nowhere a.width a.count a.slots.now a.word.now s.requires.1 (λ i h. l.loop-k.invariant.2 i (omega arith))
+    found_nowhere a.width a.count a.slots.now a.word.now s.requires.1 (λ i h. c.loop-k.invariant.2 i (omega arith))
 
 pub find_spec : {M : Type 1} → statement M
 find_spec = tie.close (tie.spec

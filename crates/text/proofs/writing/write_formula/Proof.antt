@@ -20,16 +20,14 @@ start c = c.before.before.before.before
 
 spell_requires : tie.Need-spell-size-requires
 spell_requires c κs =
-    let s = c in
-    (s.requires.0, reads s.args.symbols s.args.bytes.now s.requires.1)
+    (c.requires.0, reads c.args.symbols c.args.bytes.now c.requires.1)
 
 returns : tie.Need-returns-then-out-size
 returns c =
-    let p = c in
-    let s = start p.before.before.before in
+    let s = start c.before.before.before in
     let bytes = s.args.bytes.now in
     let same = ap length (spelt s.args.symbols bytes s.requires.1) in
-    too_short s.args.symbols bytes s.args.out.now (omega (arith, p.spell-size.ensures.ends, same, c.if-out-size.true)) c.refused.ensures
+    too_short s.args.symbols bytes s.args.out.now (omega (arith, c.spell-size.ensures.ends, same, c.if-out-size.true)) c.refused.ensures
 
 spell_requires_2 : tie.Need-spell-requires
 spell_requires_2 c κs =
@@ -38,14 +36,11 @@ spell_requires_2 c κs =
 
 returns_2 : tie.Need-returns
 returns_2 c =
-    let w = c in
-    let else = w in
-    let p = else in
-    let s = start p.before.before.before.before.before.before in
+    let s = start c.before.before.before.before.before.before in
     let bytes = s.args.bytes.now in
     let same = spelt s.args.symbols bytes s.requires.1 in
-    fitting s.args.symbols bytes s.args.out.now (omega (arith, p.spell-size.ensures.ends, ap length same, else.if-out-size.false))
-    (rw same at w.spell.ensures) refl
+    fitting s.args.symbols bytes s.args.out.now (omega (arith, c.spell-size.ensures.ends, ap length same, c.if-out-size.false))
+    (rw same at c.spell.ensures) refl
 
 pub write_formula_spec : {M : Type 1} → statement M
 write_formula_spec = tie.close (tie.spec
