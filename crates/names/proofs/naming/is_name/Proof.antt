@@ -12,22 +12,17 @@ returns_2 : tie.Need-returns-then-word-gt-WIDTH
 unfolding is_name
 returns_2 c = let n = length c.args.word.now in rw (le-leb 3 n (omega arith), lt-leb n 24 (omega arith))
 
--- where the first byte was tested
-abbrev start : tie.After-is_letter → tie.Start
-start c = c.before.before.before.before.before
-
 returns_3 : tie.Need-returns-then-not-is_letter
 unfolding is_name
 returns_3 c =
-    let n = length (start c.before).args.word.now in
+    let n = length c.args.word.now in
     rw (le-leb 3 n (omega arith), le-leb n 24 (omega arith), sym c.is_letter.ensures ∙ not-true _ c.if-not-is_letter.true-raw)
 
 returns_4 : tie.Need-returns
 unfolding is_name
 returns_4 c =
-    let l = c in
-    let n = length (start l.before.before).args.word.now in
-    rw (le-leb 3 n (omega arith), le-leb n 24 (omega arith), sym l.is_letter.ensures ∙ not-false _ c.if-not-is_letter.false-raw, ← c.run.ensures)
+    let n = length c.args.word.now in
+    rw (le-leb 3 n (omega arith), le-leb n 24 (omega arith), sym c.is_letter.ensures ∙ not-false _ c.if-not-is_letter.false-raw, ← c.run.ensures)
 
 pub is_name_spec : {M : Type 1} → statement M
 is_name_spec = tie.close (tie.spec returns returns_2 (λ c. omega arith) (λ c κs. tt) returns_3 (λ c κs. tt) returns_4)

@@ -30,7 +30,7 @@ loop_again c =
     )
 
 returns_2 : tie.Need-returns invariant_loop decreases_loop
-returns_2 c = let l = c in sym (l.loop-n.invariant.1 ∙ run_over l.args.text.now l.loop-n.n (omega arith))
+returns_2 c = sym (c.loop-n.invariant.1 ∙ run_over c.args.text.now c.loop-n.n (omega arith))
 
 pub run_spec : {M : Type 1} → statement M
 run_spec = tie.close (tie.spec

@@ -6,26 +6,19 @@ use Rattle.names.proofs.Replaced.{renamed_known, unknown_stays}
 use Rattle.names.proofs.replacing.rename.Statement.{statement}
 use Rattle.names.proofs.replacing.rename.Tie as tie
 
--- the arguments, from where the slot is known
-abbrev start : tie.After-slot_of-slot → tie.Start
-start c = c.before.before.before
-
 returns : tie.Need-returns-then-slot-lt-SYMBOLS
 returns c =
-    let f = c in
-    let s = f in
-    let names = (start s.before.before.before.before.before).args.names.now in
-    let part = (start s.before.before.before.before.before).args.part.now in
-    let slot = s.slot_of-slot.ensures in
-    f.fill_numeral.ensures ∙ ap (numeral (length part)) (add-one s.slot_of-slot.result ∙ ap suc slot)
+    let names = c.args.names.now in
+    let part = c.args.part.now in
+    let slot = c.slot_of-slot.ensures in
+    c.fill_numeral.ensures ∙ ap (numeral (length part)) (add-one c.slot_of-slot.result ∙ ap suc slot)
     ∙ sym (renamed_known names part (lt-ltb (name_slot names part) most_named (omega (arith, slot))))
 
 returns_2 : tie.Need-returns-else-slot-lt-SYMBOLS
 returns_2 c =
-    let s = c in
-    let names = (start s.before).args.names.now in
-    let part = (start s.before).args.part.now in
-    sym (unknown_stays names part (le-ltb (name_slot names part) most_named (omega (arith, s.slot_of-slot.ensures))))
+    let names = c.args.names.now in
+    let part = c.args.part.now in
+    sym (unknown_stays names part (le-ltb (name_slot names part) most_named (omega (arith, c.slot_of-slot.ensures))))
 
 pub rename_spec : {M : Type 1} → statement M
 rename_spec = tie.close (tie.spec

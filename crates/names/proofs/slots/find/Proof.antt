@@ -12,41 +12,34 @@ invariant_loop slots width count word at₀ k₀ at k = (k ≤ count) × (at ≡
 abbrev decreases_loop : tie.decreases-loop-k
 decreases_loop slots width count word at₀ k₀ at k = count - k
 
-abbrev start : tie.At-loop-k invariant_loop decreases_loop → tie.Start invariant_loop decreases_loop
-start l = l.before.before.before
-
 -- where a slot is looked at
 abbrev at : tie.After-fits invariant_loop decreases_loop → tie.In-loop-k invariant_loop decreases_loop
 at c = c.before.before
 
 -- it ends within the slots
-within : (c : tie.In-loop-k invariant_loop decreases_loop) → let a = (start c.before).args in c.loop-k.at + a.width ≤ length a.slots.now
+within : (c : tie.In-loop-k invariant_loop decreases_loop) → let a = c.args in c.loop-k.at + a.width ≤ length a.slots.now
 within c =
-    let l = c in
-    let s = start l.before in
-    omega (arith, slot_ends s.args.width l.loop-k.k s.args.count c.loop-k-test.true, l.loop-k.invariant.1, s.requires.0)
+    omega (arith, slot_ends c.args.width c.loop-k.k c.args.count c.loop-k-test.true, c.loop-k.invariant.1, c.requires.0)
 
 -- and this is told of it
-told : (c : tie.After-fits invariant_loop decreases_loop) → let l = at c in let a = (start l.before).args in
+told : (c : tie.After-fits invariant_loop decreases_loop) → let l = at c in let a = l.args in
     c.fits.result ≡ fits (slot_at a.width l.loop-k.k a.slots.now) a.word.now
 told c =
     let l = at c in
-    let a = (start l.before).args in
+    let a = l.args in
     c.fits.ensures ∙ ap (λ s. fits s a.word.now) (slot_part a.width l.loop-k.k l.loop-k.at a.slots.now l.loop-k.invariant.1)
 
 returns : tie.Need-returns-then-fits invariant_loop decreases_loop
 returns c =
     let t = at c.before in
-    let l = t in
-    let s = start l.before in
-    let a = s.args in
-    found_here a.width a.count a.slots.now a.word.now s.requires.1 l.loop-k.k t.loop-k-test.true
-    (sym (told c.before) ∙ c.if-fits.true) l.loop-k.invariant.2
+    let a = t.args in
+    found_here a.width a.count a.slots.now a.word.now t.requires.1 t.loop-k.k t.loop-k-test.true
+    (sym (told c.before) ∙ c.if-fits.true) t.loop-k.invariant.2
 
 loop_again : tie.Need-loop-k-preserved invariant_loop decreases_loop
 loop_again c =
     let l = at c.before in
-    let width = (start l.before).args.width in (
+    let width = l.args.width in (
       omega arith,
       ap (λ n. n + width) l.loop-k.invariant.1 ∙ sym (ap (λ n. width * n) (add-one l.loop-k.k) ∙ mul-suc width l.loop-k.k),
       below_more _ _ l.loop-k.invariant.2 (sym (told c.before) ∙ c.if-fits.false),
@@ -54,10 +47,8 @@ loop_again c =
 
 returns_2 : tie.Need-returns invariant_loop decreases_loop
 returns_2 c =
-    let l = c in
-    let s = start l.before in
-    let a = s.args in
-    found_nowhere a.width a.count a.slots.now a.word.now s.requires.1 (λ i h. l.loop-k.invariant.2 i (omega arith))
+    let a = c.args in
+    found_nowhere a.width a.count a.slots.now a.word.now c.requires.1 (λ i h. c.loop-k.invariant.2 i (omega arith))
 
 pub find_spec : {M : Type 1} → statement M
 find_spec = tie.close (tie.spec

@@ -32,15 +32,13 @@ loop_again c =
 
 returns_3 : tie.Need-returns-then-k-slot invariant_loop decreases_loop
 returns_3 c =
-    let l = c in
-    let a = l.args in
-    sym (l.loop-k.invariant.1 ∙ fits_whole a.slot.now a.word.now l.loop-k.k (omega arith) (omega arith))
+    let a = c.args in
+    sym (c.loop-k.invariant.1 ∙ fits_whole a.slot.now a.word.now c.loop-k.k (omega arith) (omega arith))
 
 returns_4 : tie.Need-returns invariant_loop decreases_loop
 returns_4 c =
-    let l = c in
-    let a = l.args in
-    sym (l.loop-k.invariant.1 ∙ fits_over a.slot.now a.word.now l.loop-k.k (omega arith) (omega arith))
+    let a = c.args in
+    sym (c.loop-k.invariant.1 ∙ fits_over a.slot.now a.word.now c.loop-k.k (omega arith) (omega arith))
 
 pub fits_spec : {M : Type 1} → statement M
 fits_spec = tie.close (tie.spec

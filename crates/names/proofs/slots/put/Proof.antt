@@ -12,16 +12,14 @@ abbrev decreases_loop : tie.decreases-loop-k
 decreases_loop slot₀ word k₀ slot k = length slot₀ - k
 
 -- the byte that is written is the word's, or a zero where it has none
-byte : (c : tie.Joined-k-word invariant_loop decreases_loop) → let l = c in c.if-k-word.slot ≡ get_or l.args.word.now l.loop-k.k 0
+byte : (c : tie.Joined-k-word invariant_loop decreases_loop) → c.if-k-word.slot ≡ get_or c.args.word.now c.loop-k.k 0
 byte c =
-    let l = c in
-    ⊎_elim (λ w. w.slot-is) (λ w. w.slot-is ∙ sym (list_get_or_eq_default l.args.word.now 0 {n = l.loop-k.k} w.if-k-word.false)) c.if-k-word.branch-raw
+    ⊎_elim (λ w. w.slot-is) (λ w. w.slot-is ∙ sym (list_get_or_eq_default c.args.word.now 0 {n = c.loop-k.k} w.if-k-word.false)) c.if-k-word.branch-raw
 
 loop_again : tie.Need-loop-k-preserved invariant_loop decreases_loop
 loop_again c =
-    let at = c in
-    let l = at.loop-k in
-    let word = at.args.word.now in (
+    let l = c.loop-k in
+    let word = c.args.word.now in (
       simp length-set (omega arith),
       simp length-set l.invariant.1,
       l.invariant.2 ∙ written_more l.slot word l.k c.loop-k-test.true
@@ -30,8 +28,7 @@ loop_again c =
 
 returns : tie.Need-returns invariant_loop decreases_loop
 returns c =
-    let l = c in
-    sym (l.loop-k.invariant.2 ∙ written_all l.loop-k.slot l.args.word.now l.loop-k.k c.loop-k-test.false)
+    sym (c.loop-k.invariant.2 ∙ written_all c.loop-k.slot c.args.word.now c.loop-k.k c.loop-k-test.false)
 
 pub put_spec : {M : Type 1} → statement M
 put_spec = tie.close (tie.spec

@@ -14,20 +14,16 @@ kept j = ⊎_elim (λ w. omega (arith, w.kept-is, w.if-size-lt-ENOUGH.true)) (λ
 
 fits : (j : tie.Joined-size-lt-ENOUGH) → j.if-size-lt-ENOUGH.kept ≤ length j.emit-size.new.out
 fits j =
-    let e = j in
-    kept_fits e.args.text.now e.emit-size.ensures (omega arith) (kept j)
+    kept_fits j.args.text.now j.emit-size.ensures (omega arith) (kept j)
 
 slice_aggregate_add_rule : tie.Need-slice_bounds-add_rule-end
-slice_aggregate_add_rule c = let j = c in sym (length-take-le j.if-size-lt-ENOUGH.kept j.emit-size.new.out (fits j.before.before))
+slice_aggregate_add_rule c = sym (length-take-le c.if-size-lt-ENOUGH.kept c.emit-size.new.out (fits c.before.before))
 
 returns : tie.Need-returns
 returns c =
-    let r = c in
-    let j = r in
-    let e = j in
-    let a = e.args in
+    let a = c.args in
     let bytes = bytes_in a.text.now in
-    let done = rw (kept_held a.text.now e.emit-size.ensures (omega arith) (kept j.before.before.before.before)) at r.add_rule.ensures in
+    let done = rw (kept_held a.text.now c.emit-size.ensures (omega arith) (kept c.before.before.before.before)) at c.add_rule.ensures in
     (done.0 ∙ front_ruled a.table.now a.board bytes, done.1 ∙ front_table a.table.now a.board bytes)
 
 pub add_long_spec : {M : Type 1} → statement M

@@ -7,18 +7,17 @@ use Rattle.text.proofs.adding.add_short.Tie as tie
 
 -- the buffer is long enough, and what it then holds
 fits : (e : tie.After-emit-size) → e.emit-size.result ≤ length e.emit-size.new.out
-fits e = let s = e in all_fit s.args.text.now e.emit-size.ensures s.requires.1 (omega (arith, s.requires.0))
+fits e = all_fit e.args.text.now e.emit-size.ensures e.requires.1 (omega (arith, e.requires.0))
 
 held : (e : tie.After-emit-size) → take e.emit-size.result e.emit-size.new.out ≡ bytes_in e.args.text.now
-held e = let s = e in all_held s.args.text.now e.emit-size.ensures s.requires.1 (omega (arith, s.requires.0))
+held e = all_held e.args.text.now e.emit-size.ensures e.requires.1 (omega (arith, e.requires.0))
 
 slice_aggregate_add_rule : tie.Need-slice_bounds-add_rule-end
-slice_aggregate_add_rule c = let e = c in sym (length-take-le e.emit-size.result e.emit-size.new.out (fits e.before.before.before))
+slice_aggregate_add_rule c = sym (length-take-le c.emit-size.result c.emit-size.new.out (fits c.before.before.before))
 
 returns : tie.Need-returns
 returns c =
-    let b = c in
-    rw (held b.before.before.before.before.before) at c.add_rule.ensures
+    rw (held c.before.before.before.before.before) at c.add_rule.ensures
 
 pub add_short_spec : {M : Type 1} → statement M
 add_short_spec = tie.close (tie.spec

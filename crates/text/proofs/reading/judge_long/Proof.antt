@@ -14,20 +14,16 @@ kept j = ⊎_elim (λ w. omega (arith, w.kept-is, w.if-size-lt-ENOUGH.true)) (λ
 
 fits : (j : tie.Joined-size-lt-ENOUGH) → j.if-size-lt-ENOUGH.kept ≤ length j.emit-size.new.out
 fits j =
-    let e = j in
-    kept_fits e.args.text.now e.emit-size.ensures (omega arith) (kept j)
+    kept_fits j.args.text.now j.emit-size.ensures (omega arith) (kept j)
 
 slice_aggregate_read_whole : tie.Need-slice_bounds-read_whole-end
-slice_aggregate_read_whole c = let j = c in sym (length-take-le j.if-size-lt-ENOUGH.kept j.emit-size.new.out (fits j.before))
+slice_aggregate_read_whole c = sym (length-take-le c.if-size-lt-ENOUGH.kept c.emit-size.new.out (fits c.before))
 
 returns : tie.Need-returns
 returns c =
-    let j = c in
-    let e = j in
-    let s = e in
-    let S = s.args.symbols in
-    let held = kept_held s.args.text.now e.emit-size.ensures (omega arith) (kept j.before.before) in
-    c.read_whole.ensures ∙ ap (λ l. read_of (whole_of S l)) held ∙ ap read_of (front_whole S (bytes_in s.args.text.now))
+    let S = c.args.symbols in
+    let held = kept_held c.args.text.now c.emit-size.ensures (omega arith) (kept c.before.before) in
+    c.read_whole.ensures ∙ ap (λ l. read_of (whole_of S l)) held ∙ ap read_of (front_whole S (bytes_in c.args.text.now))
 
 pub judge_long_spec : {M : Type 1} → statement M
 judge_long_spec = tie.close (tie.spec

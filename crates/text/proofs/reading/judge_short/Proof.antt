@@ -6,17 +6,15 @@ use Rattle.text.proofs.reading.judge_short.Statement.{statement}
 use Rattle.text.proofs.reading.judge_short.Tie as tie
 
 fits : (e : tie.After-emit-size) → e.emit-size.result ≤ length e.emit-size.new.out
-fits e = let s = e in all_fit s.args.text.now e.emit-size.ensures s.requires.1 (omega (arith, s.requires.0))
+fits e = all_fit e.args.text.now e.emit-size.ensures e.requires.1 (omega (arith, e.requires.0))
 
 slice_aggregate_read_whole : tie.Need-slice_bounds-read_whole-end
-slice_aggregate_read_whole c = let e = c in sym (length-take-le e.emit-size.result e.emit-size.new.out (fits e.before.before))
+slice_aggregate_read_whole c = sym (length-take-le c.emit-size.result c.emit-size.new.out (fits c.before.before))
 
 returns : tie.Need-returns
 returns c =
-    let e = c in
-    let s = e in
-    let held = all_held s.args.text.now e.emit-size.ensures s.requires.1 (omega (arith, s.requires.0)) in
-    c.read_whole.ensures ∙ ap (λ l. read_of (whole_of s.args.symbols l)) held
+    let held = all_held c.args.text.now c.emit-size.ensures c.requires.1 (omega (arith, c.requires.0)) in
+    c.read_whole.ensures ∙ ap (λ l. read_of (whole_of c.args.symbols l)) held
 
 pub judge_short_spec : {M : Type 1} → statement M
 judge_short_spec = tie.close (tie.spec
