@@ -11,126 +11,166 @@ use board::{Board, Change, Outcome};
 use report::comparing::{BYTE, WORD, changed, same_board, written_bytes, written_words};
 use report::printing::{counted, number, text};
 use report::{counting, printing};
+use std::io;
 
 // The name of a call and the literal that it is given.
-fn named(name: &[u8], l: i16) {
-    text(name);
-    printing::literal(l);
+fn named(rt: &impl Print, name: &[u8], l: i16) -> io::Result<()> {
+    text(rt, name)?;
+    printing::literal(rt, l)
 }
 
 // The furnace that a call names, after all else that it is given.
-fn for_furnace(furnace: u8) {
-    counted(b" for", furnace as usize);
+fn for_furnace(rt: &impl Print, furnace: u8) -> io::Result<()> {
+    counted(rt, b" for", furnace as usize)
 }
 
 // What adding a rule came to: the rows in use before it, those that it added, and at how many places the table changed.
-pub fn added(before: Board, told: Addition, places: usize, table: &[i16]) {
+pub fn added(
+    rt: &impl Print,
+    before: Board,
+    told: Addition,
+    places: usize,
+    table: &[i16],
+) -> io::Result<()> {
     let outcome = told.outcome;
     let next = told.board;
     match outcome {
         Outcome::Refused(why) => {
-            printing::rule_refused(why, told.place, places == 0 && same_board(before, next));
+            printing::rule_refused(rt, why, told.place, places == 0 && same_board(before, next))
         }
         Outcome::Done => {
-            printing::appended(table, before.rows, told.added);
-            counted(b", changed", places);
-            printing::board(next);
+            printing::appended(rt, table, before.rows, told.added)?;
+            counted(rt, b", changed", places)?;
+            printing::board(rt, next)
         }
     }
 }
 
 // Adds a rule to a table of which the first `lent` numbers are lent; `given` is a copy of it.
-pub fn rule_in(before: Board, given: &[i16], table: &mut [i16], lent: usize, bytes: &[u8]) -> Board
+pub fn rule_in(
+    rt: &impl Print,
+    before: Board,
+    given: &[i16],
+    table: &mut [i16],
+    lent: usize,
+    bytes: &[u8],
+) -> io::Result<Board>
     requires { lent ≤ length table.old }
 {
     let told = board::rules::add_rule(before, &mut table[..lent], bytes);
-    text(b"; rule");
-    printing::formula(bytes);
-    added(before, told, changed(given, table), table);
-    told.board
+    text(rt, b"; rule")?;
+    printing::formula(rt, bytes)?;
+    added(rt, before, told, changed(given, table), table)?;
+    Ok(told.board)
 }
 
 // The same with a table that is not used again.
-pub fn rule(before: Board, given: [i16; 45], lent: usize, bytes: &[u8])
+pub fn rule(
+    rt: &impl Print,
+    before: Board,
+    given: [i16; 45],
+    lent: usize,
+    bytes: &[u8],
+) -> io::Result<()>
     requires { lent ≤ 45 }
 {
     let mut table = given;
-    rule_in(before, &given, &mut table, lent, bytes);
+    rule_in(rt, before, &given, &mut table, lent, bytes)?;
+    Ok(())
 }
 
-fn change(before: Board, told: Change) {
+fn change(rt: &impl Print, before: Board, told: Change) -> io::Result<()> {
     let outcome = told.outcome;
     let next = told.board;
     match outcome {
-        Outcome::Refused(why) => printing::refused_with(why, same_board(before, next)),
-        Outcome::Done => printing::board(next),
+        Outcome::Refused(why) => printing::refused_with(rt, why, same_board(before, next)),
+        Outcome::Done => printing::board(rt, next),
     }
 }
 
-pub fn hold(before: Board, table: &[i16], furnace: u8, l: i16) -> Board {
+pub fn hold(
+    rt: &impl Print,
+    before: Board,
+    table: &[i16],
+    furnace: u8,
+    l: i16,
+) -> io::Result<Board> {
     let told = board::changes::hold(before, table, furnace, l);
-    named(b"; hold", l);
-    for_furnace(furnace);
-    change(before, told);
-    told.board
+    named(rt, b"; hold", l)?;
+    for_furnace(rt, furnace)?;
+    change(rt, before, told)?;
+    Ok(told.board)
 }
 
-pub fn withdraw(before: Board, table: &[i16], furnace: u8, l: i16) -> Board {
+pub fn withdraw(
+    rt: &impl Print,
+    before: Board,
+    table: &[i16],
+    furnace: u8,
+    l: i16,
+) -> io::Result<Board> {
     let told = board::changes::withdraw(before, table, furnace, l);
-    named(b"; drop", l);
-    for_furnace(furnace);
-    change(before, told);
-    told.board
+    named(rt, b"; drop", l)?;
+    for_furnace(rt, furnace)?;
+    change(rt, before, told)?;
+    Ok(told.board)
 }
 
 // What settle wrote at the front of each table, in full.
-fn tables(labels: &[u8], ranks: &[u16], supports: &[u16]) {
-    text(b" labels");
-    printing::bytes(labels, written_bytes(labels));
-    text(b" ranks");
-    printing::words(ranks, written_words(ranks));
-    text(b" supports");
-    printing::words(supports, written_words(supports));
+fn tables(rt: &impl Print, labels: &[u8], ranks: &[u16], supports: &[u16]) -> io::Result<()> {
+    text(rt, b" labels")?;
+    printing::bytes(rt, labels, written_bytes(labels))?;
+    text(rt, b" ranks")?;
+    printing::words(rt, ranks, written_words(ranks))?;
+    text(rt, b" supports")?;
+    printing::words(rt, supports, written_words(supports))
 }
 
 // How many literals have each rank, up to the last rank that any has.
-fn by_rank(ranks: &[u16]) {
-    text(b" by rank");
+fn by_rank(rt: &impl Print, ranks: &[u16]) -> io::Result<()> {
+    text(rt, b" by rank")?;
     let mut k: u16 = 0;
     while k < 400 {
         let n = counting::words(ranks, k);
         if n == 0 {
-            return;
+            return Ok(());
         }
-        number(n);
+        number(rt, n)?;
         k += 1;
     }
+    Ok(())
 }
 
 // The same in short: how many symbols have each label, the sums of the ranks and of the supports, how many literals have each rank.
-fn summary(labels: &[u8], ranks: &[u16], supports: &[u16]) {
-    counted(b" labels", counting::bytes(labels, 0));
-    number(counting::bytes(labels, 1));
-    number(counting::bytes(labels, 2));
-    number(counting::bytes(labels, 3));
-    counted(b" sums", counting::sum(ranks, 400));
-    number(counting::sum(supports, 400));
-    by_rank(ranks);
+fn summary(rt: &impl Print, labels: &[u8], ranks: &[u16], supports: &[u16]) -> io::Result<()> {
+    counted(rt, b" labels", counting::bytes(labels, 0))?;
+    number(rt, counting::bytes(labels, 1))?;
+    number(rt, counting::bytes(labels, 2))?;
+    number(rt, counting::bytes(labels, 3))?;
+    counted(rt, b" sums", counting::sum(ranks, 400))?;
+    number(rt, counting::sum(supports, 400))?;
+    by_rank(rt, ranks)
 }
 
-fn settled(told: Outcome, labels: &[u8], ranks: &[u16], supports: &[u16]) {
+fn settled(
+    rt: &impl Print,
+    told: Outcome,
+    labels: &[u8],
+    ranks: &[u16],
+    supports: &[u16],
+) -> io::Result<()> {
     let n = written_bytes(labels);
     match told {
         Outcome::Done => {
             if n < 200 {
-                tables(labels, ranks, supports);
+                tables(rt, labels, ranks, supports)
             } else {
-                summary(labels, ranks, supports);
+                summary(rt, labels, ranks, supports)
             }
         }
         Outcome::Refused(why) => {
             let m = written_words(ranks);
-            printing::refused_with(why, n == 0 && m == 0 && written_words(supports) == 0);
+            printing::refused_with(rt, why, n == 0 && m == 0 && written_words(supports) == 0)
         }
     }
 }
@@ -160,7 +200,15 @@ fn settle_in(
 }
 
 // Settles with so many places of each table lent.
-pub fn settle(before: Board, table: &[i16], furnace: u8, a: usize, b: usize, c: usize)
+pub fn settle(
+    rt: &impl Print,
+    before: Board,
+    table: &[i16],
+    furnace: u8,
+    a: usize,
+    b: usize,
+    c: usize,
+) -> io::Result<()>
     requires { (a ≤ 410) × (b ≤ 410) × (c ≤ 410) }
 {
     let mut labels = [BYTE; 410];
@@ -177,96 +225,133 @@ pub fn settle(before: Board, table: &[i16], furnace: u8, a: usize, b: usize, c: 
         &mut supports,
         c,
     );
-    counted(b"; settle", a);
-    number(b);
-    number(c);
-    for_furnace(furnace);
-    settled(told, &labels, &ranks, &supports);
+    counted(rt, b"; settle", a)?;
+    number(rt, b)?;
+    number(rt, c)?;
+    for_furnace(rt, furnace)?;
+    settled(rt, told, &labels, &ranks, &supports)
 }
 
-fn standing(s: Standing) {
+fn standing(rt: &impl Print, s: Standing) -> io::Result<()> {
     match s {
-        Standing::Conflict => text(b" conflict"),
-        Standing::Stands => text(b" stands"),
-        Standing::RuledOut => text(b" out"),
-        Standing::Open => text(b" open"),
-        Standing::Refused(why) => printing::refused(why),
+        Standing::Conflict => text(rt, b" conflict"),
+        Standing::Stands => text(rt, b" stands"),
+        Standing::RuledOut => text(rt, b" out"),
+        Standing::Open => text(rt, b" open"),
+        Standing::Refused(why) => printing::refused(rt, why),
     }
 }
 
 // Both of the calls that ask.
-pub fn ask(before: Board, table: &[i16], furnace: u8, l: i16) {
-    named(b"; ask", l);
-    for_furnace(furnace);
-    standing(board::asking::ask(before, table, furnace, l));
-    text(b", whole");
-    standing(board::asking::ask_whole(before, table, furnace, l));
+pub fn ask(rt: &impl Print, before: Board, table: &[i16], furnace: u8, l: i16) -> io::Result<()> {
+    named(rt, b"; ask", l)?;
+    for_furnace(rt, furnace)?;
+    standing(rt, board::asking::ask(before, table, furnace, l))?;
+    text(rt, b", whole")?;
+    standing(rt, board::asking::ask_whole(before, table, furnace, l))
 }
 
-fn reason(r: Reason) {
+fn reason(rt: &impl Print, r: Reason) -> io::Result<()> {
     let outcome = r.outcome;
-    printing::outcome(outcome);
-    counted(b" rank", r.rank as usize);
-    counted(b" row", r.row as usize);
-    counted(b" rule", r.rule as usize);
+    printing::outcome(rt, outcome)?;
+    counted(rt, b" rank", r.rank as usize)?;
+    counted(rt, b" row", r.row as usize)?;
+    counted(rt, b" rule", r.rule as usize)
 }
 
 // Both of the calls that explain.
-pub fn explain(before: Board, table: &[i16], furnace: u8, l: i16) {
-    named(b"; why", l);
-    for_furnace(furnace);
-    reason(board::asking::explain_numbers(before, table, furnace, l));
-    printing::numbers(board::asking::explain(before, table, furnace, l));
+pub fn explain(
+    rt: &impl Print,
+    before: Board,
+    table: &[i16],
+    furnace: u8,
+    l: i16,
+) -> io::Result<()> {
+    named(rt, b"; why", l)?;
+    for_furnace(rt, furnace)?;
+    reason(
+        rt,
+        board::asking::explain_numbers(before, table, furnace, l),
+    )?;
+    printing::numbers(rt, board::asking::explain(before, table, furnace, l))
 }
 
 // What ground or blame wrote at the front of the table: the marks, or of many how many are set.
-fn marked(told: Outcome, marks: &[u8]) {
+fn marked(rt: &impl Print, told: Outcome, marks: &[u8]) -> io::Result<()> {
     let n = written_bytes(marks);
     match told {
         Outcome::Done => {
             if n < 400 {
-                printing::bytes(marks, n);
+                printing::bytes(rt, marks, n)
             } else {
-                counted(b" marked", counting::bytes(marks, 1));
+                counted(rt, b" marked", counting::bytes(marks, 1))
             }
         }
-        Outcome::Refused(why) => printing::refused_with(why, n == 0),
+        Outcome::Refused(why) => printing::refused_with(rt, why, n == 0),
     }
 }
 
 // Grounds a literal with the first so many marks lent.
-fn ground_in(before: Board, table: &[i16], furnace: u8, l: i16, marks: &mut [u8], lent: usize)
+fn ground_in(
+    rt: &impl Print,
+    before: Board,
+    table: &[i16],
+    furnace: u8,
+    l: i16,
+    marks: &mut [u8],
+    lent: usize,
+) -> io::Result<()>
     requires { lent ≤ length marks.old }
 {
     let told = board::grounds::ground(before, table, furnace, l, &mut marks[..lent]);
-    marked(told, marks);
+    marked(rt, told, marks)
 }
 
 // Grounds a literal with so many marks lent.
-pub fn ground(before: Board, table: &[i16], furnace: u8, l: i16, lent: usize)
+pub fn ground(
+    rt: &impl Print,
+    before: Board,
+    table: &[i16],
+    furnace: u8,
+    l: i16,
+    lent: usize,
+) -> io::Result<()>
     requires { lent ≤ 410 }
 {
     let mut marks = [BYTE; 410];
-    named(b"; ground", l);
-    counted(b" in", lent);
-    for_furnace(furnace);
-    ground_in(before, table, furnace, l, &mut marks, lent);
+    named(rt, b"; ground", l)?;
+    counted(rt, b" in", lent)?;
+    for_furnace(rt, furnace)?;
+    ground_in(rt, before, table, furnace, l, &mut marks, lent)
 }
 
 // Blames with the first so many marks lent.
-fn blame_in(before: Board, table: &[i16], furnace: u8, marks: &mut [u8], lent: usize)
+fn blame_in(
+    rt: &impl Print,
+    before: Board,
+    table: &[i16],
+    furnace: u8,
+    marks: &mut [u8],
+    lent: usize,
+) -> io::Result<()>
     requires { lent ≤ length marks.old }
 {
     let told = board::grounds::blame(before, table, furnace, &mut marks[..lent]);
-    marked(told, marks);
+    marked(rt, told, marks)
 }
 
 // Blames with so many marks lent.
-pub fn blame(before: Board, table: &[i16], furnace: u8, lent: usize)
+pub fn blame(
+    rt: &impl Print,
+    before: Board,
+    table: &[i16],
+    furnace: u8,
+    lent: usize,
+) -> io::Result<()>
     requires { lent ≤ 410 }
 {
     let mut marks = [BYTE; 410];
-    counted(b"; blame in", lent);
-    for_furnace(furnace);
-    blame_in(before, table, furnace, &mut marks, lent);
+    counted(rt, b"; blame in", lent)?;
+    for_furnace(rt, furnace)?;
+    blame_in(rt, before, table, furnace, &mut marks, lent)
 }

@@ -2,43 +2,44 @@
 
 use board::Board;
 use report::{boards, printing};
+use std::io;
 
 // Hold and withdraw, each on the board as it is, and then ask, explain and ground.
-fn show(b: Board, l: i16) {
+fn show(rt: &impl Print, b: Board, l: i16) -> io::Result<()> {
     let table = boards::rows();
-    printing::on(b, 45);
-    calls::hold(b, &table, 1, l);
-    calls::withdraw(b, &table, 1, l);
-    calls::ask(b, &table, 1, l);
-    calls::explain(b, &table, 1, l);
-    calls::ground(b, &table, 1, l, 8);
-    printing::end();
+    printing::on(rt, b, 45)?;
+    calls::hold(rt, b, &table, 1, l)?;
+    calls::withdraw(rt, b, &table, 1, l)?;
+    calls::ask(rt, b, &table, 1, l)?;
+    calls::explain(rt, b, &table, 1, l)?;
+    calls::ground(rt, b, &table, 1, l, 8)?;
+    printing::end(rt)
 }
 
 // Hold twice, hold the opposite, withdraw twice: each is given the board that the one before handed back.
-fn one_after_another(table: &[i16]) {
+fn one_after_another(rt: &impl Print, table: &[i16]) -> io::Result<()> {
     let a = boards::none();
-    printing::on(a, 45);
-    let b = calls::hold(a, table, 1, 4);
-    let c = calls::hold(b, table, 1, 4);
-    let d = calls::hold(c, table, 1, -4);
-    let e = calls::withdraw(d, table, 1, 4);
-    calls::withdraw(e, table, 1, 4);
-    printing::end();
+    printing::on(rt, a, 45)?;
+    let b = calls::hold(rt, a, table, 1, 4)?;
+    let c = calls::hold(rt, b, table, 1, 4)?;
+    let d = calls::hold(rt, c, table, 1, -4)?;
+    let e = calls::withdraw(rt, d, table, 1, 4)?;
+    calls::withdraw(rt, e, table, 1, 4)?;
+    printing::end(rt)
 }
 
-pub fn run() {
+pub fn run(rt: &impl Print) -> io::Result<()> {
     let b = boards::both();
-    show(b, 0);
-    show(b, 5);
-    show(b, -5);
-    show(b, -32768);
-    show(b, 4);
-    show(b, -4);
-    show(b, 2);
-    show(b, 1);
-    show(boards::none(), 4);
-    show(boards::clash(), 3);
-    show(boards::with(boards::clash(), 0), 4);
-    one_after_another(&boards::rows());
+    show(rt, b, 0)?;
+    show(rt, b, 5)?;
+    show(rt, b, -5)?;
+    show(rt, b, -32768)?;
+    show(rt, b, 4)?;
+    show(rt, b, -4)?;
+    show(rt, b, 2)?;
+    show(rt, b, 1)?;
+    show(rt, boards::none(), 4)?;
+    show(rt, boards::clash(), 3)?;
+    show(rt, boards::with(boards::clash(), 0), 4)?;
+    one_after_another(rt, &boards::rows())
 }

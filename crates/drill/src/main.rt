@@ -14,15 +14,17 @@ mod numbers;
 mod opening;
 mod rules;
 
-fn main() {
-    opening::run();
-    rules::run();
-    numbers::run();
-    faults::run();
-    literals_given::run();
-    furnaces::run();
-    asking::run();
-    grounds::run();
-    lengths::run();
-    journal::run();
+use std::io;
+
+fn main(rt: HostRuntime) -> io::Result<()> {
+    opening::run(&rt)?;
+    rules::run(&rt)?;
+    numbers::run(&rt)?;
+    faults::run(&rt)?;
+    literals_given::run(&rt)?;
+    furnaces::run(&rt)?;
+    asking::run(&rt)?;
+    grounds::run(&rt)?;
+    lengths::run(&rt)?;
+    journal::run(&rt)
 }

@@ -2,27 +2,28 @@
 
 use board::Board;
 use report::printing;
+use std::io;
 
 // What an open answers, and the board that it hands back.
-pub fn open(symbols: usize) -> Board {
+pub fn open(rt: &impl Print, symbols: usize) -> io::Result<Board> {
     let told = board::changes::open(symbols);
     let outcome = told.outcome;
     let next = told.board;
-    printing::counted(b"open", symbols);
-    printing::outcome(outcome);
-    printing::board(next);
-    next
+    printing::counted(rt, b"open", symbols)?;
+    printing::outcome(rt, outcome)?;
+    printing::board(rt, next)?;
+    Ok(next)
 }
 
-fn show(symbols: usize) {
-    open(symbols);
-    printing::end();
+fn show(rt: &impl Print, symbols: usize) -> io::Result<()> {
+    open(rt, symbols)?;
+    printing::end(rt)
 }
 
-pub fn run() {
-    show(200);
-    show(1);
-    show(0);
-    show(201);
-    show(18446744073709551615);
+pub fn run(rt: &impl Print) -> io::Result<()> {
+    show(rt, 200)?;
+    show(rt, 1)?;
+    show(rt, 0)?;
+    show(rt, 201)?;
+    show(rt, 18446744073709551615)
 }

@@ -4,6 +4,8 @@
 mod telling;
 mod tries;
 
-fn main() {
-    tries::run();
+use std::io;
+
+fn main(rt: HostRuntime) -> io::Result<()> {
+    tries::run(&rt)
 }

@@ -9,6 +9,7 @@ use report::comparing::{BYTE, changed, same_board, written_bytes};
 use report::printing::{counted, text};
 use report::quoting::quoted;
 use report::{counting, printing};
+use std::io;
 
 // Whether a refused reading left everything as it was.
 fn as_given(before: Board, told: Reading, places: usize) -> bool {
@@ -23,72 +24,98 @@ fn as_given(before: Board, told: Reading, places: usize) -> bool {
 }
 
 // What reading a text came to: the rows in use before it, those that it added, its clauses, and at how many places the table changed.
-fn came_to(before: Board, told: Reading, places: usize, table: &[i16]) {
+fn came_to(
+    rt: &impl Print,
+    before: Board,
+    told: Reading,
+    places: usize,
+    table: &[i16],
+) -> io::Result<()> {
     let outcome = told.outcome;
     let next = told.board;
     match outcome {
         Outcome::Refused(why) => {
-            printing::refused(why);
-            counted(b" after", told.clauses);
-            text(b" clauses");
-            printing::left(as_given(before, told, places));
+            printing::refused(rt, why)?;
+            counted(rt, b" after", told.clauses)?;
+            text(rt, b" clauses")?;
+            printing::left(rt, as_given(before, told, places))
         }
         Outcome::Done => {
-            printing::appended(table, before.rows, told.added);
-            counted(b", clauses", told.clauses);
-            counted(b", changed", places);
-            printing::board(next);
+            printing::appended(rt, table, before.rows, told.added)?;
+            counted(rt, b", clauses", told.clauses)?;
+            counted(rt, b", changed", places)?;
+            printing::board(rt, next)
         }
     }
 }
 
 // Reads a text onto a table of which the first `lent` numbers are lent; `given` is a copy of it.
-fn read_in(before: Board, given: &[i16], table: &mut [i16], lent: usize, bytes: &[u8])
+fn read_in(
+    rt: &impl Print,
+    before: Board,
+    given: &[i16],
+    table: &mut [i16],
+    lent: usize,
+    bytes: &[u8],
+) -> io::Result<()>
     requires { lent ≤ length table.old }
 {
     let told = dimacs::reading::read(before, &mut table[..lent], bytes);
-    text(b"; read");
-    quoted(bytes, bytes.len());
-    came_to(before, told, changed(given, table), table);
+    text(rt, b"; read")?;
+    quoted(rt, bytes, bytes.len())?;
+    came_to(rt, before, told, changed(given, table), table)
 }
 
 // The same with a table that is not used again.
-pub fn read(before: Board, given: [i16; 45], lent: usize, bytes: &[u8])
+pub fn read(
+    rt: &impl Print,
+    before: Board,
+    given: [i16; 45],
+    lent: usize,
+    bytes: &[u8],
+) -> io::Result<()>
     requires { lent ≤ 45 }
 {
     let mut table = given;
-    read_in(before, &given, &mut table, lent, bytes);
+    read_in(rt, before, &given, &mut table, lent, bytes)
 }
 
 // What writing came to: how many bytes, and these; and how many of all the bytes are unwritten, which no byte of a text looks like.
-fn wrote(told: Writing, out: &[u8]) {
+fn wrote(rt: &impl Print, told: Writing, out: &[u8]) -> io::Result<()> {
     let outcome = told.outcome;
     match outcome {
         Outcome::Refused(why) => printing::refused_with(
+            rt,
             why,
             told.bytes == 0 && written_bytes(out) == 0,
         ),
         Outcome::Done => {
-            counted(b" wrote", told.bytes);
-            quoted(out, told.bytes);
-            counted(b", unwritten", counting::bytes(out, BYTE));
+            counted(rt, b" wrote", told.bytes)?;
+            quoted(rt, out, told.bytes)?;
+            counted(rt, b", unwritten", counting::bytes(out, BYTE))
         }
     }
 }
 
 // Writes the rows in use, with the first so many bytes lent.
-pub fn write_in(before: Board, table: &[i16], out: &mut [u8], room: usize)
+pub fn write_in(
+    rt: &impl Print,
+    before: Board,
+    table: &[i16],
+    out: &mut [u8],
+    room: usize,
+) -> io::Result<()>
     requires { room ≤ length out.old }
 {
     let told = dimacs::writing::write(before, table, &mut out[..room]);
-    counted(b"; write in", room);
-    wrote(told, out);
+    counted(rt, b"; write in", room)?;
+    wrote(rt, told, out)
 }
 
 // Writes the rows in use, with so many bytes of 100 lent.
-pub fn write(before: Board, table: &[i16], room: usize)
+pub fn write(rt: &impl Print, before: Board, table: &[i16], room: usize) -> io::Result<()>
     requires { room ≤ 100 }
 {
     let mut out = [BYTE; 100];
-    write_in(before, table, &mut out, room);
+    write_in(rt, before, table, &mut out, room)
 }

@@ -7,8 +7,10 @@ mod rows;
 mod telling;
 mod valves;
 
-fn main() {
-    rows::run();
-    faults::run();
-    networks::run();
+use std::io;
+
+fn main(rt: HostRuntime) -> io::Result<()> {
+    rows::run(&rt)?;
+    faults::run(&rt)?;
+    networks::run(&rt)
 }

@@ -9,27 +9,30 @@ use report::boards::GUARD;
 use report::comparing::changed;
 use report::printing;
 use report::printing::{counted, number};
+use std::io;
 
 // Enters a variable into a table of which the first `lent` numbers are lent; `given` is a copy of it.
 pub fn enter_variable(
+    rt: &impl Print,
     before: Board,
     given: &[i16],
     table: &mut [i16],
     lent: usize,
     first: usize,
     count: usize,
-) -> Board
+) -> io::Result<Board>
     requires { lent ≤ length table.old }
 {
     let told = add_positions(before, &mut table[..lent], first, count);
-    counted(b"; positions", first);
-    number(count);
-    calls::added(before, told, changed(given, table), table);
-    told.board
+    counted(rt, b"; positions", first)?;
+    number(rt, count)?;
+    calls::added(rt, before, told, changed(given, table), table)?;
+    Ok(told.board)
 }
 
 // The same of a pair table.
 pub fn enter_pairs(
+    rt: &impl Print,
     before: Board,
     given: &[i16],
     table: &mut [i16],
@@ -39,7 +42,7 @@ pub fn enter_pairs(
     other: usize,
     others: usize,
     pairs: usize,
-) -> Board
+) -> io::Result<Board>
     requires { lent ≤ length table.old }
 {
     let told = add_pairs(
@@ -51,28 +54,35 @@ pub fn enter_pairs(
         others,
         pairs,
     );
-    counted(b"; pairs", first);
-    number(count);
-    counted(b" with", other);
-    number(others);
-    counted(b" by", pairs);
-    calls::added(before, told, changed(given, table), table);
-    told.board
+    counted(rt, b"; pairs", first)?;
+    number(rt, count)?;
+    counted(rt, b" with", other)?;
+    number(rt, others)?;
+    counted(rt, b" by", pairs)?;
+    calls::added(rt, before, told, changed(given, table), table)?;
+    Ok(told.board)
 }
 
 // A line: a board, and a variable that is entered into a table of no sound row.
-pub fn variable(b: Board, lent: usize, first: usize, count: usize)
+pub fn variable(
+    rt: &impl Print,
+    b: Board,
+    lent: usize,
+    first: usize,
+    count: usize,
+) -> io::Result<()>
     requires { lent ≤ 225 }
 {
     let given = [GUARD; 225];
     let mut table = given;
-    printing::on(b, lent);
-    enter_variable(b, &given, &mut table, lent, first, count);
-    printing::end();
+    printing::on(rt, b, lent)?;
+    enter_variable(rt, b, &given, &mut table, lent, first, count)?;
+    printing::end(rt)
 }
 
 // The same of a pair table.
 pub fn pair_table(
+    rt: &impl Print,
     b: Board,
     lent: usize,
     first: usize,
@@ -80,14 +90,14 @@ pub fn pair_table(
     other: usize,
     others: usize,
     pairs: usize,
-)
+) -> io::Result<()>
     requires { lent ≤ 225 }
 {
     let given = [GUARD; 225];
     let mut table = given;
-    printing::on(b, lent);
+    printing::on(rt, b, lent)?;
     enter_pairs(
-        b, &given, &mut table, lent, first, count, other, others, pairs,
-    );
-    printing::end();
+        rt, b, &given, &mut table, lent, first, count, other, others, pairs,
+    )?;
+    printing::end(rt)
 }

@@ -7,8 +7,10 @@ mod telling;
 mod tries;
 mod withdrawals;
 
-fn main() {
-    tries::run();
-    faults::run();
-    withdrawals::run();
+use std::io;
+
+fn main(rt: HostRuntime) -> io::Result<()> {
+    tries::run(&rt)?;
+    faults::run(&rt)?;
+    withdrawals::run(&rt)
 }

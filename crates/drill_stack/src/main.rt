@@ -17,14 +17,16 @@ mod telling;
 mod tries;
 mod turns;
 
-fn main() {
-    opening::run();
-    given::run();
-    spoilt::run();
-    beyond::run();
-    nested::run();
-    turns::run();
-    circle::run();
-    full::run();
-    most::run();
+use std::io;
+
+fn main(rt: HostRuntime) -> io::Result<()> {
+    opening::run(&rt)?;
+    given::run(&rt)?;
+    spoilt::run(&rt)?;
+    beyond::run(&rt)?;
+    nested::run(&rt)?;
+    turns::run(&rt)?;
+    circle::run(&rt)?;
+    full::run(&rt)?;
+    most::run(&rt)
 }

@@ -6,6 +6,7 @@ use crate::desks::{Desk, bare, empty, stacked, with_count, with_last};
 use crate::telling::{by_both, every, open};
 use report::boards;
 use report::boards::blank;
+use std::io;
 
 // The literal at a place: +s at 2(s - 1), -s at the next.
 fn literal_at(p: u16) -> i16
@@ -49,33 +50,39 @@ fn emptied(d: Desk, furnace: u8) -> Desk {
 }
 
 // Each literal is good, so that the count alone is at fault: "more than 2S literals", a place more than there are, and the most that can be said.
-fn miscounted(first: Desk, second: Desk, count: u16) {
+fn miscounted(rt: &impl Print, first: Desk, second: Desk, count: u16) -> io::Result<()> {
     let one = first.stacks;
     let two = second.stacks;
     by_both(
+        rt,
         stacked(first.board, with_count(one.first, count), empty()),
         1,
-    );
+    )?;
     by_both(
+        rt,
         stacked(second.board, empty(), with_count(two.second, count)),
         1,
-    );
+    )
 }
 
 // 1 stands in the last place too, where -200 was.
-fn repeated(d: Desk) {
+fn repeated(rt: &impl Print, d: Desk) -> io::Result<()> {
     let stacks = d.stacks;
-    by_both(stacked(d.board, empty(), with_last(stacks.second, 1)), 1);
+    by_both(
+        rt,
+        stacked(d.board, empty(), with_last(stacks.second, 1)),
+        1,
+    )
 }
 
-pub fn run() {
+pub fn run(rt: &impl Print) -> io::Result<()> {
     let first = filled(1);
     let second = filled(2);
-    by_both(second, 1);
-    by_both(first, -200);
-    miscounted(first, second, 401);
-    miscounted(first, second, 65535);
-    repeated(second);
-    every(emptied(second, 2), 2, 1);
-    open(3, second.stacks);
+    by_both(rt, second, 1)?;
+    by_both(rt, first, -200)?;
+    miscounted(rt, first, second, 401)?;
+    miscounted(rt, first, second, 65535)?;
+    repeated(rt, second)?;
+    every(rt, emptied(second, 2), 2, 1)?;
+    open(rt, 3, second.stacks)
 }

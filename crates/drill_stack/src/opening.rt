@@ -2,34 +2,35 @@
 
 use crate::desks::{counting, record, single, with_last};
 use crate::telling::open;
+use std::io;
 
 // A record that goes with some board: 3 on the stack of furnace 1, -4 on that of furnace 2.
-fn counts() {
+fn counts(rt: &impl Print) -> io::Result<()> {
     let tries = record(single(3), single(-4));
-    open(4, tries);
-    open(1, tries);
-    open(200, tries);
-    open(0, tries);
-    open(201, tries);
-    open(18446744073709551615, tries);
+    open(rt, 4, tries)?;
+    open(rt, 1, tries)?;
+    open(rt, 200, tries)?;
+    open(rt, 0, tries)?;
+    open(rt, 201, tries)?;
+    open(rt, 18446744073709551615, tries)
 }
 
 // "1 also, but not at open": a repeated literal, and more literals than there are places.
-fn spoilt() {
+fn spoilt(rt: &impl Print) -> io::Result<()> {
     let tries = record(counting(2, &[3, 3]), counting(65535, &[0, 77]));
-    open(4, tries);
-    open(0, tries);
+    open(rt, 4, tries)?;
+    open(rt, 0, tries)
 }
 
 // Numbers beyond the literals of a stack, up to the last place.
-fn beyond() {
+fn beyond(rt: &impl Print) -> io::Result<()> {
     let tries = record(counting(0, &[5, -6]), with_last(single(-4), 77));
-    open(4, tries);
-    open(201, tries);
+    open(rt, 4, tries)?;
+    open(rt, 201, tries)
 }
 
-pub fn run() {
-    counts();
-    spoilt();
-    beyond();
+pub fn run(rt: &impl Print) -> io::Result<()> {
+    counts(rt)?;
+    spoilt(rt)?;
+    beyond(rt)
 }

@@ -7,6 +7,7 @@ use board::Board;
 use report::printing;
 use report::printing::{counted, literal, number, text};
 use stack::{Stack, Stacks};
+use std::io;
 
 // More literals than these are told in short.
 const MANY: usize = 12;
@@ -27,33 +28,32 @@ fn used(places: &[i16]) -> usize
 }
 
 // The places of a stack up to the last that is not 0, so that what stands beyond its literals is told too; of many how many, the first and the last.
-fn places(list: &[i16]) {
+fn places(rt: &impl Print, list: &[i16]) -> io::Result<()> {
     let n = used(list);
     if n <= MANY {
-        printing::numbers(&list[..n]);
-        return;
+        return printing::numbers(rt, &list[..n]);
     }
-    text(b" [");
-    number(n);
-    text(b" from");
-    literal(list[0]);
-    text(b" to");
-    literal(list[n - 1]);
-    text(b" ]");
+    text(rt, b" [")?;
+    number(rt, n)?;
+    text(rt, b" from")?;
+    literal(rt, list[0])?;
+    text(rt, b" to")?;
+    literal(rt, list[n - 1])?;
+    text(rt, b" ]")
 }
 
-fn one(s: Stack) {
-    number(s.count as usize);
+fn one(rt: &impl Print, s: Stack) -> io::Result<()> {
+    number(rt, s.count as usize)?;
     let list = s.literals;
-    places(&list);
+    places(rt, &list)
 }
 
 // The stack of furnace 1, and then that of furnace 2.
-pub fn stacks(s: Stacks) {
-    text(b" stacks");
-    one(s.first);
-    text(b" and");
-    one(s.second);
+pub fn stacks(rt: &impl Print, s: Stacks) -> io::Result<()> {
+    text(rt, b" stacks")?;
+    one(rt, s.first)?;
+    text(rt, b" and")?;
+    one(rt, s.second)
 }
 
 fn how_many(flags: &[bool]) -> usize {
@@ -69,24 +69,23 @@ fn how_many(flags: &[bool]) -> usize {
 }
 
 // A board; of many premises how many.
-pub fn board(b: Board) {
+pub fn board(rt: &impl Print, b: Board) -> io::Result<()> {
     let first = how_many(&b.first);
     let second = how_many(&b.second);
     if first <= MANY && second <= MANY {
-        printing::board(b);
-        return;
+        return printing::board(rt, b);
     }
-    counted(b" S", b.symbols);
-    counted(b" rows", b.rows);
-    counted(b" rules", b.rules);
-    counted(b" held", first);
-    counted(b" and", second);
+    counted(rt, b" S", b.symbols)?;
+    counted(rt, b" rows", b.rows)?;
+    counted(rt, b" rules", b.rules)?;
+    counted(rt, b" held", first)?;
+    counted(rt, b" and", second)
 }
 
 // The front of a line: a board, how many numbers of its table are lent, and the record.
-pub fn on(d: Desk, lent: usize) {
-    text(b"on");
-    board(d.board);
-    counted(b" lent", lent);
-    stacks(d.stacks);
+pub fn on(rt: &impl Print, d: Desk, lent: usize) -> io::Result<()> {
+    text(rt, b"on")?;
+    board(rt, d.board)?;
+    counted(rt, b" lent", lent)?;
+    stacks(rt, d.stacks)
 }

@@ -8,9 +8,10 @@ use report::comparing::same_board;
 use report::printing::{counted, text};
 use report::{boards, printing};
 use stack::{Stacks, Step};
+use std::io;
 
 // What a step came to: the board and the record, or why it was refused and whether both are as they were.
-fn step(before: Desk, told: Step) -> Desk {
+fn step(rt: &impl Print, before: Desk, told: Step) -> io::Result<Desk> {
     let change = told.change;
     let outcome = change.outcome;
     let board = change.board;
@@ -18,75 +19,76 @@ fn step(before: Desk, told: Step) -> Desk {
     match outcome {
         Outcome::Refused(why) => {
             let same = same_board(before.board, board) && same_stacks(before.stacks, stacks);
-            printing::refused_with(why, same);
+            printing::refused_with(rt, why, same)?;
         }
         Outcome::Done => {
-            printed::board(board);
-            printed::stacks(stacks);
+            printed::board(rt, board)?;
+            printed::stacks(rt, stacks)?;
         }
     }
-    Desk { board, stacks }
+    Ok(Desk { board, stacks })
 }
 
 // The literal that a call is given and the furnace that it names.
-fn given(furnace: u8, l: i16) {
-    printing::literal(l);
-    counted(b" for", furnace as usize);
+fn given(rt: &impl Print, furnace: u8, l: i16) -> io::Result<()> {
+    printing::literal(rt, l)?;
+    counted(rt, b" for", furnace as usize)
 }
 
-pub fn push(d: Desk, table: &[i16], furnace: u8, l: i16) -> Desk {
+pub fn push(rt: &impl Print, d: Desk, table: &[i16], furnace: u8, l: i16) -> io::Result<Desk> {
     let told = stack::steps::push(d.board, table, d.stacks, furnace, l);
-    text(b"; push");
-    given(furnace, l);
-    step(d, told)
+    text(rt, b"; push")?;
+    given(rt, furnace, l)?;
+    step(rt, d, told)
 }
 
-pub fn pop(d: Desk, table: &[i16], furnace: u8) -> Desk {
+pub fn pop(rt: &impl Print, d: Desk, table: &[i16], furnace: u8) -> io::Result<Desk> {
     let told = stack::steps::pop(d.board, table, d.stacks, furnace);
-    counted(b"; pop for", furnace as usize);
-    step(d, told)
+    counted(rt, b"; pop for", furnace as usize)?;
+    step(rt, d, told)
 }
 
-pub fn withdraw(d: Desk, table: &[i16], furnace: u8, l: i16) -> Desk {
+pub fn withdraw(rt: &impl Print, d: Desk, table: &[i16], furnace: u8, l: i16) -> io::Result<Desk> {
     let told = stack::steps::withdraw(d.board, table, d.stacks, furnace, l);
-    text(b"; drop");
-    given(furnace, l);
-    step(d, told)
+    text(rt, b"; drop")?;
+    given(rt, furnace, l)?;
+    step(rt, d, told)
 }
 
 // A line: a record, what an open answers, and what it hands back of both.
-pub fn open(symbols: usize, stacks: Stacks) {
+pub fn open(rt: &impl Print, symbols: usize, stacks: Stacks) -> io::Result<()> {
     let told = stack::steps::open(symbols, stacks);
     let change = told.change;
     let outcome = change.outcome;
-    text(b"with");
-    printed::stacks(stacks);
-    counted(b"; open", symbols);
-    printing::outcome(outcome);
-    printed::board(change.board);
-    printed::stacks(told.stacks);
-    printing::end();
+    text(rt, b"with")?;
+    printed::stacks(rt, stacks)?;
+    counted(rt, b"; open", symbols)?;
+    printing::outcome(rt, outcome)?;
+    printed::board(rt, change.board)?;
+    printed::stacks(rt, told.stacks)?;
+    printing::end(rt)
 }
 
 // Push, pop and withdraw, each on the desk as it is, with the two rows of the journal lent.
-fn calls_for(d: Desk, furnace: u8, l: i16) {
+fn calls_for(rt: &impl Print, d: Desk, furnace: u8, l: i16) -> io::Result<()> {
     let table = boards::rows();
-    push(d, &table, furnace, l);
-    pop(d, &table, furnace);
-    withdraw(d, &table, furnace, l);
+    push(rt, d, &table, furnace, l)?;
+    pop(rt, d, &table, furnace)?;
+    withdraw(rt, d, &table, furnace, l)?;
+    Ok(())
 }
 
 // A line: a desk and the three calls by one furnace.
-pub fn every(d: Desk, furnace: u8, l: i16) {
-    printed::on(d, 45);
-    calls_for(d, furnace, l);
-    printing::end();
+pub fn every(rt: &impl Print, d: Desk, furnace: u8, l: i16) -> io::Result<()> {
+    printed::on(rt, d, 45)?;
+    calls_for(rt, d, furnace, l)?;
+    printing::end(rt)
 }
 
 // The same by both furnaces.
-pub fn by_both(d: Desk, l: i16) {
-    printed::on(d, 45);
-    calls_for(d, 1, l);
-    calls_for(d, 2, l);
-    printing::end();
+pub fn by_both(rt: &impl Print, d: Desk, l: i16) -> io::Result<()> {
+    printed::on(rt, d, 45)?;
+    calls_for(rt, d, 1, l)?;
+    calls_for(rt, d, 2, l)?;
+    printing::end(rt)
 }

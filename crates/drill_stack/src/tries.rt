@@ -3,36 +3,38 @@
 use crate::desks::Desk;
 use crate::{printed, telling};
 use report::printing;
+use std::io;
 
 // What settle tells for a furnace, on tables of just the length that it writes.
-pub fn labels(d: Desk, table: &[i16], furnace: u8) {
+pub fn labels(rt: &impl Print, d: Desk, table: &[i16], furnace: u8) -> io::Result<()> {
     let board = d.board;
     let n = board.symbols;
     if n <= 200 {
-        calls::settle(board, table, furnace, n, 2 * n, 2 * n);
+        calls::settle(rt, board, table, furnace, n, 2 * n, 2 * n)?;
     }
+    Ok(())
 }
 
-pub fn push(d: Desk, table: &[i16], furnace: u8, l: i16) -> Desk {
-    printed::on(d, 45);
-    let next = telling::push(d, table, furnace, l);
-    labels(next, table, furnace);
-    printing::end();
-    next
+pub fn push(rt: &impl Print, d: Desk, table: &[i16], furnace: u8, l: i16) -> io::Result<Desk> {
+    printed::on(rt, d, 45)?;
+    let next = telling::push(rt, d, table, furnace, l)?;
+    labels(rt, next, table, furnace)?;
+    printing::end(rt)?;
+    Ok(next)
 }
 
-pub fn pop(d: Desk, table: &[i16], furnace: u8) -> Desk {
-    printed::on(d, 45);
-    let next = telling::pop(d, table, furnace);
-    labels(next, table, furnace);
-    printing::end();
-    next
+pub fn pop(rt: &impl Print, d: Desk, table: &[i16], furnace: u8) -> io::Result<Desk> {
+    printed::on(rt, d, 45)?;
+    let next = telling::pop(rt, d, table, furnace)?;
+    labels(rt, next, table, furnace)?;
+    printing::end(rt)?;
+    Ok(next)
 }
 
-pub fn withdraw(d: Desk, table: &[i16], furnace: u8, l: i16) -> Desk {
-    printed::on(d, 45);
-    let next = telling::withdraw(d, table, furnace, l);
-    labels(next, table, furnace);
-    printing::end();
-    next
+pub fn withdraw(rt: &impl Print, d: Desk, table: &[i16], furnace: u8, l: i16) -> io::Result<Desk> {
+    printed::on(rt, d, 45)?;
+    let next = telling::withdraw(rt, d, table, furnace, l)?;
+    labels(rt, next, table, furnace)?;
+    printing::end(rt)?;
+    Ok(next)
 }

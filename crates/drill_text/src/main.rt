@@ -5,7 +5,9 @@ mod telling;
 mod texts;
 mod written;
 
-fn main() {
-    texts::run();
-    written::run();
+use std::io;
+
+fn main(rt: HostRuntime) -> io::Result<()> {
+    texts::run(&rt)?;
+    written::run(&rt)
 }

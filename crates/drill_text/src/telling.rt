@@ -7,91 +7,132 @@ use report::comparing::changed;
 use report::printing::counted;
 use report::quoting::quoted;
 use report::{counting, printing};
+use std::io;
 use text::Spelling;
 
 // What stands in the bytes lent before a call: no kind, no symbol's number and no byte of a text.
 pub const FREE: u8 = 0xfe;
 
 // Adds the rule of a text to a table of which the first `lent` numbers are lent; `given` is a copy of it.
-fn add_in(before: Board, given: &[i16], table: &mut [i16], lent: usize, words: &[u8])
+fn add_in(
+    rt: &impl Print,
+    before: Board,
+    given: &[i16],
+    table: &mut [i16],
+    lent: usize,
+    words: &[u8],
+) -> io::Result<()>
     requires { lent ≤ length table.old }
 {
     let told = text::adding::add_text(before, &mut table[..lent], words);
-    printing::text(b"; add");
-    calls::added(before, told, changed(given, table), table);
+    printing::text(rt, b"; add")?;
+    calls::added(rt, before, told, changed(given, table), table)
 }
 
 // The same with a table that is not used again.
-pub fn add(before: Board, given: [i16; 45], lent: usize, words: &[u8])
+pub fn add(
+    rt: &impl Print,
+    before: Board,
+    given: [i16; 45],
+    lent: usize,
+    words: &[u8],
+) -> io::Result<()>
     requires { lent ≤ 45 }
 {
     let mut table = given;
-    add_in(before, &given, &mut table, lent, words);
+    add_in(rt, before, &given, &mut table, lent, words)
 }
 
 // The first n bytes of a list, in hex.
-fn hexed(list: &[u8], n: usize) {
+fn hexed(rt: &impl Print, list: &[u8], n: usize) -> io::Result<()> {
     let mut k = 0;
     while k < list.len() {
         if k < n {
-            printing::hex(b' ', list[k]);
+            printing::hex(rt, b' ', list[k])?;
         }
         k += 1;
     }
+    Ok(())
 }
 
 // What was written into the bytes lent: how many bytes are told, these in quotes or in hex, and how many of all that are lent changed.
-fn came_to(told: Spelling, out: &[u8], quotes: bool) {
+fn came_to(rt: &impl Print, told: Spelling, out: &[u8], quotes: bool) -> io::Result<()> {
     let places = out.len() - counting::bytes(out, FREE);
     let outcome = told.outcome;
     match outcome {
         Outcome::Refused(why) => {
-            printing::rule_refused(why, told.place, told.bytes == 0 && places == 0);
+            printing::rule_refused(rt, why, told.place, told.bytes == 0 && places == 0)
         }
         Outcome::Done => {
-            counted(b" wrote", told.bytes);
+            counted(rt, b" wrote", told.bytes)?;
             if quotes {
-                quoted(out, told.bytes);
+                quoted(rt, out, told.bytes)?;
             } else {
-                hexed(out, told.bytes);
+                hexed(rt, out, told.bytes)?;
             }
-            counted(b", changed", places);
+            counted(rt, b", changed", places)
         }
     }
 }
 
 // Reads a text to bytes, with the first so many bytes lent.
-fn read_in(before: Board, table: &[i16], words: &[u8], out: &mut [u8], room: usize)
+fn read_in(
+    rt: &impl Print,
+    before: Board,
+    table: &[i16],
+    words: &[u8],
+    out: &mut [u8],
+    room: usize,
+) -> io::Result<()>
     requires { room ≤ length out.old }
 {
     let told = text::reading::read(before, table, words, &mut out[..room]);
-    counted(b"; read in", room);
-    came_to(told, out, false);
+    counted(rt, b"; read in", room)?;
+    came_to(rt, told, out, false)
 }
 
 // Reads a text to bytes, with so many bytes of 100 lent.
-pub fn read(before: Board, table: &[i16], words: &[u8], room: usize)
+pub fn read(
+    rt: &impl Print,
+    before: Board,
+    table: &[i16],
+    words: &[u8],
+    room: usize,
+) -> io::Result<()>
     requires { room ≤ 100 }
 {
     let mut out = [FREE; 100];
-    read_in(before, table, words, &mut out, room);
+    read_in(rt, before, table, words, &mut out, room)
 }
 
 // Writes the text of a formula's bytes, with the first so many bytes lent.
-pub fn write_in(before: Board, table: &[i16], bytes: &[u8], out: &mut [u8], room: usize)
+pub fn write_in(
+    rt: &impl Print,
+    before: Board,
+    table: &[i16],
+    bytes: &[u8],
+    out: &mut [u8],
+    room: usize,
+) -> io::Result<()>
     requires { room ≤ length out.old }
 {
     let told = text::writing::write(before, table, bytes, &mut out[..room]);
-    printing::text(b"; write");
-    printing::formula(bytes);
-    counted(b" in", room);
-    came_to(told, out, true);
+    printing::text(rt, b"; write")?;
+    printing::formula(rt, bytes)?;
+    counted(rt, b" in", room)?;
+    came_to(rt, told, out, true)
 }
 
 // Writes the text of a formula's bytes, with so many bytes of 100 lent.
-pub fn write(before: Board, table: &[i16], bytes: &[u8], room: usize)
+pub fn write(
+    rt: &impl Print,
+    before: Board,
+    table: &[i16],
+    bytes: &[u8],
+    room: usize,
+) -> io::Result<()>
     requires { room ≤ 100 }
 {
     let mut out = [FREE; 100];
-    write_in(before, table, bytes, &mut out, room);
+    write_in(rt, before, table, bytes, &mut out, room)
 }

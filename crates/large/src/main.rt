@@ -5,6 +5,7 @@ ghost use Rattle.std.specs.Prelude.{◌+◌, ◌≤◌, length};
 
 use board::Board;
 use report::{boards, printing};
+use std::io;
 
 // Adds the rules that each symbol but the last implies the next.
 fn chain(table: &mut [i16]) -> Board {
@@ -20,13 +21,13 @@ fn chain(table: &mut [i16]) -> Board {
 }
 
 // Settle, and explain and ground for one literal, and blame, for furnace 1.
-fn show(b: Board, table: &[i16], l: i16) {
-    printing::on(b, table.len());
-    calls::settle(b, table, 1, 200, 400, 400);
-    calls::explain(b, table, 1, l);
-    calls::ground(b, table, 1, l, 400);
-    calls::blame(b, table, 1, 400);
-    printing::end();
+fn show(rt: &impl Print, b: Board, table: &[i16], l: i16) -> io::Result<()> {
+    printing::on(rt, b, table.len())?;
+    calls::settle(rt, b, table, 1, 200, 400, 400)?;
+    calls::explain(rt, b, table, 1, l)?;
+    calls::ground(rt, b, table, 1, l, 400)?;
+    calls::blame(rt, b, table, 1, 400)?;
+    printing::end(rt)
 }
 
 fn signed(symbol: usize, positive: bool) -> i16
@@ -74,25 +75,25 @@ fn held(rows: usize) -> Board {
 }
 
 // Adds the rule 1 implies 200 with so many rows in use.
-fn add(table: &mut [i16], given: &[i16], rows: usize)
+fn add(rt: &impl Print, table: &mut [i16], given: &[i16], rows: usize) -> io::Result<()>
     requires { 18441 ≤ length table.old }
 {
     let b = held(rows);
-    printing::on(b, 18441);
-    calls::rule_in(b, given, table, 18441, b"\x14\x10\x01\x10\xc8");
-    printing::end();
+    printing::on(rt, b, 18441)?;
+    calls::rule_in(rt, b, given, table, 18441, b"\x14\x10\x01\x10\xc8")?;
+    printing::end(rt)
 }
 
 // The table has room for 2,049 rows, of which 2,048 are lent.
-fn main() {
+fn main(rt: HostRuntime) -> io::Result<()> {
     let mut table = [boards::GUARD; 18441];
     let b = chain(&mut table);
-    show(boards::with(b, 0), &table, 200);
+    show(&rt, boards::with(b, 0), &table, 200)?;
     fill(&mut table);
-    show(held(2048), &table, 193);
+    show(&rt, held(2048), &table, 193)?;
     let given = table;
-    add(&mut table, &given, 2048);
-    add(&mut table, &given, 2049);
-    add(&mut table, &given, 2047);
-    show(held(2048), &table, 200);
+    add(&rt, &mut table, &given, 2048)?;
+    add(&rt, &mut table, &given, 2049)?;
+    add(&rt, &mut table, &given, 2047)?;
+    show(&rt, held(2048), &table, 200)
 }

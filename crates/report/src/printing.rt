@@ -5,84 +5,85 @@ ghost use Rattle.std.specs.Prelude.{◌<◌};
 use board::rules::NO_PLACE;
 use board::{Board, Outcome};
 use findings::NONE;
-use libc::STDOUT_FILENO;
 use literals::refusal::Refusal;
+use std::io;
 
-pub fn text(t: &[u8]) {
-    io::write_all(STDOUT_FILENO, t);
+pub fn text(rt: &impl Print, t: &[u8]) -> io::Result<()> {
+    rt.write_all(t)
 }
 
-pub fn end() {
-    text(b"\n");
+pub fn end(rt: &impl Print) -> io::Result<()> {
+    text(rt, b"\n")
 }
 
-pub fn number(n: usize) {
-    text(b" ");
-    io::print_decimal(STDOUT_FILENO, n as u64);
+pub fn number(rt: &impl Print, n: usize) -> io::Result<()> {
+    text(rt, b" ")?;
+    rt.print(n)
 }
 
-pub fn counted(label: &[u8], n: usize) {
-    text(label);
-    number(n);
+pub fn counted(rt: &impl Print, label: &[u8], n: usize) -> io::Result<()> {
+    text(rt, label)?;
+    number(rt, n)
 }
 
-fn byte(b: u8) {
-    number(b as usize);
+fn byte(rt: &impl Print, b: u8) -> io::Result<()> {
+    number(rt, b as usize)
 }
 
 // A rank or a row number, or a dash where there is none.
-fn word(n: u16) {
+fn word(rt: &impl Print, n: u16) -> io::Result<()> {
     if n == NONE {
-        text(b" -");
+        text(rt, b" -")
     } else {
-        number(n as usize);
+        number(rt, n as usize)
     }
 }
 
-fn signed(negative: bool, n: usize) {
+fn signed(rt: &impl Print, negative: bool, n: usize) -> io::Result<()> {
     if negative {
-        text(b" -");
+        text(rt, b" -")?;
     } else {
-        text(b" ");
+        text(rt, b" ")?;
     }
-    io::print_decimal(STDOUT_FILENO, n as u64);
+    rt.print(n)
 }
 
-pub fn literal(l: i16) {
-    signed(l < 0, literals::symbol(l));
+pub fn literal(rt: &impl Print, l: i16) -> io::Result<()> {
+    signed(rt, l < 0, literals::symbol(l))
 }
 
 // The numbers of a row, or of a part of one.
-pub fn numbers(row: &[i16]) {
-    text(b" [");
+pub fn numbers(rt: &impl Print, row: &[i16]) -> io::Result<()> {
+    text(rt, b" [")?;
     let mut k = 0;
     while k < row.len() {
-        literal(row[k]);
+        literal(rt, row[k])?;
         k += 1;
     }
-    text(b" ]");
+    text(rt, b" ]")
 }
 
 // The rows of a table from row `from` on, `count` of them.
-pub fn rows(table: &[i16], from: usize, count: usize) {
+pub fn rows(rt: &impl Print, table: &[i16], from: usize, count: usize) -> io::Result<()> {
     let mut row = 0;
     let mut at = 0;
     while table.len() - at >= 9 {
         if row >= from {
             if row - from < count {
-                numbers(&table[at..at + 9]);
+                numbers(rt, &table[at..at + 9])?;
             }
         }
         row += 1;
         at += 9;
     }
+    Ok(())
 }
 
 // The rows in use before a call, how many it added, and these.
-pub fn appended(table: &[i16], from: usize, count: usize) {
-    counted(b" rows", from);
-    number(count);
-    rows(table, from, count);
+pub fn appended(rt: &impl Print, table: &[i16], from: usize, count: usize) -> io::Result<()> {
+    counted(rt, b" rows", from)?;
+    number(rt, count)?;
+    rows(rt, table, from, count)
 }
 
 fn digit(n: u8) -> u8
@@ -92,104 +93,107 @@ fn digit(n: u8) -> u8
 }
 
 // A byte as two hex digits, behind a mark.
-pub fn hex(mark: u8, b: u8) {
+pub fn hex(rt: &impl Print, mark: u8, b: u8) -> io::Result<()> {
     let digits = [mark, digit(b / 16), digit(b % 16)];
-    text(&digits);
+    text(rt, &digits)
 }
 
 // The bytes of a formula.
-pub fn formula(bytes: &[u8]) {
+pub fn formula(rt: &impl Print, bytes: &[u8]) -> io::Result<()> {
     let mut k = 0;
     while k < bytes.len() {
-        hex(b' ', bytes[k]);
+        hex(rt, b' ', bytes[k])?;
         k += 1;
     }
+    Ok(())
 }
 
 // The first n bytes of a list.
-pub fn bytes(list: &[u8], n: usize) {
+pub fn bytes(rt: &impl Print, list: &[u8], n: usize) -> io::Result<()> {
     let mut k = 0;
     while k < list.len() {
         if k < n {
-            byte(list[k]);
+            byte(rt, list[k])?;
         }
         k += 1;
     }
+    Ok(())
 }
 
 // The first n ranks or row numbers of a list.
-pub fn words(list: &[u16], n: usize) {
+pub fn words(rt: &impl Print, list: &[u16], n: usize) -> io::Result<()> {
     let mut k = 0;
     while k < list.len() {
         if k < n {
-            word(list[k]);
+            word(rt, list[k])?;
         }
         k += 1;
     }
+    Ok(())
 }
 
 // The premises of a furnace, in the order of their places.
-fn premises(held: &[bool]) {
-    text(b" [");
+fn premises(rt: &impl Print, held: &[bool]) -> io::Result<()> {
+    text(rt, b" [")?;
     let mut k = 0;
     while k < held.len() {
         if held[k] {
-            signed(k % 2 == 1, k / 2 + 1);
+            signed(rt, k % 2 == 1, k / 2 + 1)?;
         }
         k += 1;
     }
-    text(b" ]");
+    text(rt, b" ]")
 }
 
 // A board, with the premises of furnace 1 and then those of furnace 2.
-pub fn board(b: Board) {
-    counted(b" S", b.symbols);
-    counted(b" rows", b.rows);
-    counted(b" rules", b.rules);
-    text(b" held");
-    premises(&b.first);
-    text(b" and");
-    premises(&b.second);
+pub fn board(rt: &impl Print, b: Board) -> io::Result<()> {
+    counted(rt, b" S", b.symbols)?;
+    counted(rt, b" rows", b.rows)?;
+    counted(rt, b" rules", b.rules)?;
+    text(rt, b" held")?;
+    premises(rt, &b.first)?;
+    text(rt, b" and")?;
+    premises(rt, &b.second)
 }
 
 // The front of a line: a board, and how many numbers of its table are lent.
-pub fn on(b: Board, lent: usize) {
-    text(b"on");
-    board(b);
-    counted(b" lent", lent);
+pub fn on(rt: &impl Print, b: Board, lent: usize) -> io::Result<()> {
+    text(rt, b"on")?;
+    board(rt, b)?;
+    counted(rt, b" lent", lent)
 }
 
-pub fn refused(why: Refusal) {
-    counted(b" no", literals::refusal::number(why) as usize);
+pub fn refused(rt: &impl Print, why: Refusal) -> io::Result<()> {
+    counted(rt, b" no", literals::refusal::number(why) as usize)
 }
 
-pub fn outcome(o: Outcome) {
+pub fn outcome(rt: &impl Print, o: Outcome) -> io::Result<()> {
     match o {
-        Outcome::Done => text(b" ok"),
-        Outcome::Refused(why) => refused(why),
+        Outcome::Done => text(rt, b" ok"),
+        Outcome::Refused(why) => refused(rt, why),
     }
 }
 
 // Whether a refused call left everything as it was.
-pub fn left(same: bool) {
+pub fn left(rt: &impl Print, same: bool) -> io::Result<()> {
     if same {
-        text(b", as given");
+        text(rt, b", as given")
     } else {
-        text(b", changed");
+        text(rt, b", changed")
     }
 }
 
 // Why a call was refused, and whether it left everything as it was.
-pub fn refused_with(why: Refusal, same: bool) {
-    refused(why);
-    left(same);
+pub fn refused_with(rt: &impl Print, why: Refusal, same: bool) -> io::Result<()> {
+    refused(rt, why)?;
+    left(rt, same)
 }
 
 // The same of a rule, with the place where its formula breaks, if it does.
-pub fn rule_refused(why: Refusal, place: usize, same: bool) {
-    refused(why);
+pub fn rule_refused(rt: &impl Print, why: Refusal, place: usize, same: bool) -> io::Result<()> {
+    refused(rt, why)?;
     if place != NO_PLACE {
-        counted(b" at", place);
+        counted(rt, b" at", place)?;
     }
-    left(same);
+    left(rt, same)
 }

@@ -2,30 +2,29 @@
 
 use crate::printing;
 use crate::printing::text;
+use std::io;
 
 // A byte of a text: a line feed as `/`, and another byte that does not print as `\` and two hex digits.
-fn shown(b: u8) {
+fn shown(rt: &impl Print, b: u8) -> io::Result<()> {
     if b == b'\n' {
-        text(b"/");
-        return;
+        return text(rt, b"/");
     }
     if b < 32 || 126 < b {
-        printing::hex(b'\\', b);
-        return;
+        return printing::hex(rt, b'\\', b);
     }
     let one = [b];
-    text(&one);
+    text(rt, &one)
 }
 
 // The first n bytes of a text, in quotes.
-pub fn quoted(list: &[u8], n: usize) {
-    text(b" \"");
+pub fn quoted(rt: &impl Print, list: &[u8], n: usize) -> io::Result<()> {
+    text(rt, b" \"")?;
     let mut k = 0;
     while k < list.len() {
         if k < n {
-            shown(list[k]);
+            shown(rt, list[k])?;
         }
         k += 1;
     }
-    text(b"\"");
+    text(rt, b"\"")
 }

@@ -6,56 +6,64 @@ ghost use Rattle.meaning.specs.Tests.{all};
 ghost use Rattle.literals.specs.Row.{width, most_rules};
 
 use implicates::Appended;
-use libc::STDOUT_FILENO;
 use literals::{MOST_LITERALS, WIDTH};
+use std::io;
 
-fn print_count(n: usize) {
-    io::print_decimal(STDOUT_FILENO, n as u64);
-    io::write_all(STDOUT_FILENO, b" rows\n");
+fn print_count(rt: &impl Print, n: usize) -> io::Result<()> {
+    rt.print(n)?;
+    rt.write_all(b" rows\n")
 }
 
 // Prints a literal with its sign.
-fn print_literal(l: i16) {
+fn print_literal(rt: &impl Print, l: i16) -> io::Result<()> {
     if l < 0 {
-        io::write_all(STDOUT_FILENO, b" -");
+        rt.write_all(b" -")?;
     } else {
-        io::write_all(STDOUT_FILENO, b" +");
+        rt.write_all(b" +")?;
     }
-    io::print_decimal(STDOUT_FILENO, literals::symbol(l) as u64);
+    rt.print(literals::symbol(l))
 }
 
 // Prints the literals of a row and its rule's number on a line.
-fn print_row(table: &[i16], row: usize)
+fn print_row(rt: &impl Print, table: &[i16], row: usize) -> io::Result<()>
     requires { width * row + width ≤ length table.now }
 {
     let mut k = 0;
     while k < MOST_LITERALS {
         let l = table[WIDTH * row + k];
         if l != 0 {
-            print_literal(l);
+            print_literal(rt, l)?;
         }
         k += 1;
     }
-    io::write_all(STDOUT_FILENO, b" of rule ");
-    io::print_decimal(STDOUT_FILENO, literals::rule_at(table, row) as u64);
-    io::write_all(STDOUT_FILENO, b"\n");
+    rt.write_all(b" of rule ")?;
+    rt.print(literals::rule_at(table, row))?;
+    rt.write_all(b"\n")
 }
 
 // Prints the first four and the last four of n rows from row `used` on.
-fn print_rows(table: &[i16], used: usize, n: usize)
+fn print_rows(rt: &impl Print, table: &[i16], used: usize, n: usize) -> io::Result<()>
     requires { width * (used + n) ≤ length table.now }
 {
     let mut i = 0;
     while i < n {
         if i < 4 || n - i <= 4 {
-            print_row(table, used + i);
+            print_row(rt, table, used + i)?;
         }
         i += 1;
     }
+    Ok(())
 }
 
 // Appends a rule after `used` rows and `rules` rules to a table of `lent` rows, and prints what it appended, or why it appended nothing.
-fn show(symbols: &[u8], truth: &[bool], used: usize, rules: usize, lent: usize)
+fn show(
+    rt: &impl Print,
+    symbols: &[u8],
+    truth: &[bool],
+    used: usize,
+    rules: usize,
+    lent: usize,
+) -> io::Result<()>
     requires symbols_len_bound { (length symbols.now ≤ 8) × (all (leb 1) symbols.now ≡ true) × (length truth.now ≡ 2 ^ length symbols.now) }
     requires used_le_lent { (used ≤ lent) × (lent ≤ 128) × (rules ≤ most_rules) }
 {
@@ -63,15 +71,11 @@ fn show(symbols: &[u8], truth: &[bool], used: usize, rules: usize, lent: usize)
     let told = implicates::append_rule(&mut table, used, rules, lent, symbols, truth);
     match told {
         Appended::Rows(n) => {
-            print_count(n);
-            print_rows(&table, used, n);
+            print_count(rt, n)?;
+            print_rows(rt, &table, used, n)
         }
-        Appended::Unsatisfiable => {
-            io::write_all(STDOUT_FILENO, b"no assignment\n");
-        }
-        Appended::Full => {
-            io::write_all(STDOUT_FILENO, b"no room\n");
-        }
+        Appended::Unsatisfiable => rt.write_all(b"no assignment\n"),
+        Appended::Full => rt.write_all(b"no room\n"),
     }
 }
 
@@ -90,12 +94,19 @@ fn spelt(text: &[u8]) -> [bool; 256]
 }
 
 // The same for a truth table that a text of 0 and 1 spells.
-fn show_text(symbols: &[u8], text: &[u8], used: usize, rules: usize, lent: usize)
+fn show_text(
+    rt: &impl Print,
+    symbols: &[u8],
+    text: &[u8],
+    used: usize,
+    rules: usize,
+    lent: usize,
+) -> io::Result<()>
     requires symbols_len_bound { (length symbols.now ≤ 8) × (all (leb 1) symbols.now ≡ true) × (length text.now ≡ 2 ^ length symbols.now) }
     requires text_len_bound { (length text.now ≤ 256) × (used ≤ lent) × (lent ≤ 128) × (rules ≤ most_rules) }
 {
     let truth = spelt(text);
-    show(symbols, &truth[..text.len()], used, rules, lent);
+    show(rt, symbols, &truth[..text.len()], used, rules, lent)
 }
 
 // The truth table of the rule that an odd number of eight symbols is true.
@@ -111,50 +122,51 @@ fn parity() -> [bool; 256]
     truth
 }
 
-fn show_parity() {
+fn show_parity(rt: &impl Print) -> io::Result<()> {
     let truth = parity();
-    show(b"\x01\x02\x03\x04\x05\x06\x07\x08", &truth, 0, 0, 128);
+    show(rt, b"\x01\x02\x03\x04\x05\x06\x07\x08", &truth, 0, 0, 128)
 }
 
 // Rules over one symbol and over two, where they fit and where they do not.
-fn show_small() {
-    show_text(b"\x01", b"10", 0, 0, 128);
-    show_text(b"\x01", b"11", 0, 0, 128);
-    show_text(b"\x01", b"00", 0, 0, 128);
-    show_text(b"\x01\x02", b"1001", 5, 3, 7);
-    show_text(b"\x01\x02", b"1001", 5, 3, 6);
-    show_text(b"\x01\x02", b"0101", 0, 7, 128);
-    show_text(b"\x01\x02", b"0011", 0, 255, 128);
+fn show_small(rt: &impl Print) -> io::Result<()> {
+    show_text(rt, b"\x01", b"10", 0, 0, 128)?;
+    show_text(rt, b"\x01", b"11", 0, 0, 128)?;
+    show_text(rt, b"\x01", b"00", 0, 0, 128)?;
+    show_text(rt, b"\x01\x02", b"1001", 5, 3, 7)?;
+    show_text(rt, b"\x01\x02", b"1001", 5, 3, 6)?;
+    show_text(rt, b"\x01\x02", b"0101", 0, 7, 128)?;
+    show_text(rt, b"\x01\x02", b"0011", 0, 255, 128)
 }
 
 // Rules over three symbols and more.
-fn show_larger() {
-    show_text(b"\x01\x02\x03", b"00110101", 0, 256, 128);
-    show_text(b"\x05\x07\x09", b"00010111", 3, 1, 128);
-    show_text(b"\x02\x64\xc8", b"01101000", 0, 0, 128);
-    show_text(b"\x01\x02\x03\x04", b"1001011001101001", 0, 0, 128);
+fn show_larger(rt: &impl Print) -> io::Result<()> {
+    show_text(rt, b"\x01\x02\x03", b"00110101", 0, 256, 128)?;
+    show_text(rt, b"\x05\x07\x09", b"00010111", 3, 1, 128)?;
+    show_text(rt, b"\x02\x64\xc8", b"01101000", 0, 0, 128)?;
+    show_text(rt, b"\x01\x02\x03\x04", b"1001011001101001", 0, 0, 128)?;
     show_text(
+        rt,
         b"\x03\x04\x05\x06\x07",
         b"01101110010111001101001101011001",
         0,
         0,
         128,
-    );
-    show_parity();
+    )?;
+    show_parity(rt)
 }
 
 // The last rule that has a number, one with rows and one with none; then, with no number left, a rule with rows, one with none, and one that no
 // assignment satisfies.
-fn show_last() {
-    show_text(b"\x01\x02", b"1001", 0, 32766, 128);
-    show_text(b"\x01", b"11", 0, 32766, 128);
-    show_text(b"\x01\x02", b"1001", 0, 32767, 128);
-    show_text(b"\x01", b"11", 0, 32767, 128);
-    show_text(b"\x01", b"00", 0, 32767, 128);
+fn show_last(rt: &impl Print) -> io::Result<()> {
+    show_text(rt, b"\x01\x02", b"1001", 0, 32766, 128)?;
+    show_text(rt, b"\x01", b"11", 0, 32766, 128)?;
+    show_text(rt, b"\x01\x02", b"1001", 0, 32767, 128)?;
+    show_text(rt, b"\x01", b"11", 0, 32767, 128)?;
+    show_text(rt, b"\x01", b"00", 0, 32767, 128)
 }
 
-fn main() {
-    show_small();
-    show_larger();
-    show_last();
+fn main(rt: HostRuntime) -> io::Result<()> {
+    show_small(&rt)?;
+    show_larger(&rt)?;
+    show_last(&rt)
 }

@@ -1,9 +1,0 @@
--- `blame_in` is safe: the part of the marks that it lends is as long as it says.
-use Rattle.meaning.proofs.Kit.{sym, length-take-le, rules}
-use Rattle.calls.proofs.blame_in.Statement.{statement}
-use Rattle.calls.proofs.blame_in.Tie as tie
-
-pub blame_in_spec : {M : Type 1} → statement M
-blame_in_spec = tie.close (tie.spec
-    (λ c. search rules) (λ c. sym (length-take-le _ _ (search rules))) (λ c κs. search rules) (λ c κs. search rules) (λ c. search rules)
-    (λ c. search rules))
