@@ -95,7 +95,7 @@ module _ {f : ℕ} {v u : World} (s : Same f v u) (sound-v : Sound v) (sound-u :
   unfolding rule_faults
   rule_fault lent bytes =
       let fault : Bool → ℕ → ℕ → ℕ → List ℤ → Outcome =
-          λ g S used rules table. first_fault (record { given = not g; refusal = BadBoard } ∷ bytes_faults S used rules (rows_lent (take lent table)) bytes) in
+      λ g S used rules table. first_fault (record { given = not g; refusal = BadBoard } ∷ bytes_faults S used rules (rows_lent (take lent table)) bytes) in
       ap (λ (g : Bool). fault g v.board.symbols v.board.rows v.board.rules v.table) (good lent)
       ∙ ap (λ (S : ℕ). fault (good_board (front u lent) u.board) S v.board.rows v.board.rules v.table) a.symbols
       ∙ ap (λ (used : ℕ). fault (good_board (front u lent) u.board) u.board.symbols used v.board.rules v.table) a.rows

@@ -1,7 +1,6 @@
 -- 01's boards "Marked P: to be proved", together: what 01 says of each, and that the calls come to the same; and those of 02's Tickets 1, 2, 4
 -- and 5. Rules are given as 01's bytes or as text, each board is opened over a table of 8 rows of zeros, and the premises are furnace 1's.
 use Rattle.meaning.proofs.Kit.{◌≡◌, refl, List, [], ◌∷◌, ◌++◌, map, ℕ, ◌*◌, ℤ, pos, negsuc, take, replicate}
-use Rattle.meaning.specs.Literals.{place}
 use Rattle.board.specs.Faults.{number_in}
 use Rattle.board.specs.Changes.{empty_board}
 use Rattle.board.specs.Rules.{no_place, ruled}

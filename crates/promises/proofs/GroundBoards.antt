@@ -8,7 +8,6 @@ use Rattle.board.specs.declared.Outcome.TheVariants.{Done, Refused}
 use Rattle.board.specs.declared.asking.Standing.TheVariants.{Conflict, Stands, Open}
 use Rattle.spelling.proofs.Ascii.{ascii}
 use Rattle.promises.specs.Calls.{Call, opens, holds, withdraws, asks, explains, grounds, reads, Answer, of_ask, of_explain, of_marks, answer}
-use Rattle.promises.specs.Calls.{outcome}
 use Rattle.promises.proofs.Boards.{lent, blank, FreshHold}
 use Rattle.promises.proofs.Computing.{the_definitions}
 

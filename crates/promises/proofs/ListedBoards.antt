@@ -5,7 +5,7 @@ use Rattle.literals.specs.declared.refusal.Refusal.{Refusal}
 use Rattle.literals.specs.declared.refusal.Refusal.TheVariants.{BadBoard, BadLiteral, BadCandidates, TableTooShort}
 use Rattle.board.specs.declared.Outcome.TheVariants.{Done, Refused}
 use Rattle.spelling.proofs.Ascii.{ascii}
-use Rattle.promises.specs.Calls.{Call, opens, holds, lists, reads, Answer, answer, of_listing, outcome}
+use Rattle.promises.specs.Calls.{Call, opens, holds, lists, reads, Answer, answer, of_listing}
 use Rattle.promises.proofs.Boards.{lent, blank, FreshHold}
 use Rattle.promises.proofs.Computing.{the_definitions}
 

@@ -7,7 +7,6 @@ use Rattle.board.specs.declared.Outcome.TheVariants.{Done, Refused}
 use Rattle.board.specs.declared.asking.Standing.TheVariants.{Conflict, Stands}
 use Rattle.spelling.proofs.Ascii.{ascii}
 use Rattle.promises.specs.Calls.{Call, opens, holds, withdraws, asks_whole, asks_least, reads, Answer, of_change, of_ask, of_withdrawal, answer}
-use Rattle.promises.specs.Calls.{outcome}
 use Rattle.promises.proofs.Boards.{lent, FreshHold}
 use Rattle.promises.proofs.ListedBoards.{twelve}
 use Rattle.promises.proofs.Computing.{the_definitions}

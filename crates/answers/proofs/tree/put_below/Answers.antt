@@ -10,5 +10,5 @@ waiting_at-requires c =
     let other : ℤ = get_or c.args.row.now (c.loop-k.k - 1) (pos 0) in
     let f = range_facts 200 (back other) (sym c.in_range.ensures ∙ c.if-in_range.true) in
     let small : (1 ≤ nat_abs (back c.opposite.result)) × (nat_abs (back c.opposite.result) ≤ 200) =
-        rw (c.opposite.ensures, to_z-of_z (minus_fits (back other) (omega (arith, f))), minus_abs) f in
+    rw (c.opposite.ensures, to_z-of_z (minus_fits (back other) (omega (arith, f))), minus_abs) f in
     (c.requires.2, omega (arith, c.place.ensures, place_bound 200 (back c.opposite.result) small.0 small.1))
