@@ -1,0 +1,14 @@
+-- `lines::commands::formula_length` meets its contract: by what reading answers.
+use Rattle.meaning.proofs.Kit.{◌∙◌, sym}
+use Rattle.formula.specs.Parse.{levels, parse}
+use Rattle.lines.specs.Commands.{formula_length}
+use Rattle.lines.proofs.Reading.{length_good, length_bad}
+use Rattle.lines.proofs.commands.formula_length.Goals as goal
+
+pub returns-in-Used : goal.returns-in-Used
+unfolding formula_length
+returns-in-Used c = sym (length_good (parse c.args.symbols levels c.args.body.now) _ _ (sym c.read.ensures ∙ c.in-Used.is))
+
+pub returns-in-Refused : goal.returns-in-Refused
+unfolding formula_length
+returns-in-Refused c = sym (length_bad (parse c.args.symbols levels c.args.body.now) _ _ _ (sym c.read.ensures ∙ c.in-Refused.is))
