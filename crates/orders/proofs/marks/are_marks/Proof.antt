@@ -13,20 +13,16 @@ decreases_loop word count k₀ k = length word - k
 
 returns : tie.Need-returns-then-word-k-lt48 invariant_loop decreases_loop
 unfolding are_marks
-returns c = let i = c in rw (tested_breaks i.loop-k.invariant i.loop-k-test.true (too_low 48 49 _ c.if-word-k-lt48.true))
+returns c = rw (tested_breaks c.loop-k.invariant c.loop-k-test.true (too_low 48 49 _ c.if-word-k-lt48.true))
 
 returns_2 : tie.Need-returns-then-word-k-gt49 invariant_loop decreases_loop
 unfolding are_marks
 returns_2 c =
-    let low = c in
-    let i = low in
-    rw (tested_breaks i.loop-k.invariant i.loop-k-test.true (too_high 48 49 _ low.if-word-k-lt48.false c.if-word-k-gt49.true))
+    rw (tested_breaks c.loop-k.invariant c.loop-k-test.true (too_high 48 49 _ c.if-word-k-lt48.false c.if-word-k-gt49.true))
 
 loop_again : tie.Need-loop-k-preserved invariant_loop decreases_loop
 loop_again c =
-    let low = c in
-    let i = low in
-    tested_more i.loop-k.invariant i.loop-k-test.true (inside 48 49 _ low.if-word-k-lt48.false c.if-word-k-gt49.false)
+    tested_more c.loop-k.invariant c.loop-k-test.true (inside 48 49 _ c.if-word-k-lt48.false c.if-word-k-gt49.false)
 
 returns_3 : tie.Need-returns invariant_loop decreases_loop
 unfolding are_marks

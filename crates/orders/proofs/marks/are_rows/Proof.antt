@@ -22,11 +22,9 @@ step : (c : tie.After-are_marks invariant_loop decreases_loop) → let l = c in 
     are_rows a.line.now a.from a.rows a.count
     ≡ (c.are_marks.result && are_rows a.line.now (a.from + (l.loop-k.k + 1)) (a.rows - (l.loop-k.k + 1)) a.count)
 step c =
-    let i = c in
-    let l = i in
-    let a = l.args in
-    let k = l.loop-k.k in
-    l.loop-k.invariant.1
+    let a = c.args in
+    let k = c.loop-k.k in
+    c.loop-k.invariant.1
     ∙ rows_step a.line.now a.from a.rows k (k + 1) (add-one k) (omega arith) a.count
     ∙ ap (λ (b : Bool). b && are_rows a.line.now (a.from + (k + 1)) (a.rows - (k + 1)) a.count) (sym (told c))
 
@@ -38,9 +36,8 @@ loop_again c = (omega arith, step c.before ∙ rw (not-false c.are_marks.result 
 
 returns_2 : tie.Need-returns invariant_loop decreases_loop
 returns_2 c =
-    let l = c in
-    let a = l.args in
-    sym (l.loop-k.invariant.1 ∙ rows_over a.line.now (a.from + l.loop-k.k) a.rows l.loop-k.k a.count c.loop-k-test.false)
+    let a = c.args in
+    sym (c.loop-k.invariant.1 ∙ rows_over a.line.now (a.from + c.loop-k.k) a.rows c.loop-k.k a.count c.loop-k-test.false)
 
 pub are_rows_spec : {M : Type 1} → statement M
 are_rows_spec = tie.close (tie.spec

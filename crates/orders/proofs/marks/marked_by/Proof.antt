@@ -21,8 +21,7 @@ small c =
 bit_is : (c : tie.Joined-word-k-eq49 invariant_loop decreases_loop) → let l = c in
     c.if-word-k-eq49.bit ≡ cond (eqb (get_or l.args.word.now (l.loop-k.k - 1) 0) 49) 1 0
 bit_is c =
-    let l = c in
-    let b = get_or l.args.word.now (l.loop-k.k - 1) 0 in
+    let b = get_or c.args.word.now (c.loop-k.k - 1) 0 in
     ⊎_elim (λ w. w.bit-is ∙ rw (eq-eqb b 49 w.if-word-k-eq49.true)) (λ w. w.bit-is ∙ rw (ne_eqb b 49 w.if-word-k-eq49.false)) c.if-word-k-eq49.branch-raw
 
 bit_small : (c : tie.Joined-word-k-eq49 invariant_loop decreases_loop) → c.if-word-k-eq49.bit < 2
@@ -30,24 +29,21 @@ bit_small c = ⊎_elim (λ w. omega arith) (λ w. omega arith) c.if-word-k-eq49.
 
 loop_again : tie.Need-loop-k-preserved invariant_loop decreases_loop
 loop_again c =
-    let j = c in
-    let l = j in
-    let word = l.args.word.now in
-    let k = l.loop-k.k in
-    let left : length word - (k - 1) ≡ suc (length word - k) = omega (arith, l.loop-k.invariant.0) in (
+    let word = c.args.word.now in
+    let k = c.loop-k.k in
+    let left : length word - (k - 1) ≡ suc (length word - k) = omega (arith, c.loop-k.invariant.0) in (
       omega arith,
-      omega (arith, l.loop-k.invariant.1, bit_is j.before, marked_step word (k - 1) k (omega arith) (omega arith)),
-      rw left (grown_below 2 (length word - k) l.loop-k.value j.if-word-k-eq49.bit l.loop-k.invariant.2 (bit_small j.before)),
+      omega (arith, c.loop-k.invariant.1, bit_is c.before, marked_step word (k - 1) k (omega arith) (omega arith)),
+      rw left (grown_below 2 (length word - k) c.loop-k.value c.if-word-k-eq49.bit c.loop-k.invariant.2 (bit_small c.before)),
     )
 
 returns : tie.Need-returns invariant_loop decreases_loop
 returns c =
-    let l = c in
-    let none : l.loop-k.k ≡ 0 = omega arith in
-    (l.loop-k.invariant.1 ∙ ap (λ (k : ℕ). marked_by (drop k l.args.word.now)) none, small l.before)
+    let none : c.loop-k.k ≡ 0 = omega arith in
+    (c.loop-k.invariant.1 ∙ ap (λ (k : ℕ). marked_by (drop k c.args.word.now)) none, small c.before)
 
 pub marked_by_spec : {M : Type 1} → statement M
 marked_by_spec = tie.close (tie.spec
     invariant_loop decreases_loop (λ c. let word = c.args.word.now in (omega arith, marked_none word, none_below 2 (length word))) (λ c. omega arith)
     (λ c. omega arith) (λ c. omega (arith, small c.before.before.before))
-    (λ c. let j = c in omega (arith, small j.before.before.before.before, bit_small j.before)) (λ c. omega arith) loop_again returns)
+    (λ c. omega (arith, small c.before.before.before.before, bit_small c.before)) (λ c. omega arith) loop_again returns)

@@ -17,16 +17,13 @@ decreases_loop line from rows count value₀ k₀ value k = k
 -- at most six words were read before
 small : (c : tie.In-loop-k invariant_loop decreases_loop) → c.loop-k.value < 128 ^ 6
 small c =
-    let l = c in
-    omega (arith, l.loop-k.invariant.2, few_below 128 (l.args.rows - l.loop-k.k) 6 (omega arith) (omega arith))
+    omega (arith, c.loop-k.invariant.2, few_below 128 (c.args.rows - c.loop-k.k) 6 (omega arith) (omega arith))
 
 marked_by_requires : tie.Need-marked_by-requires invariant_loop decreases_loop
 marked_by_requires c κs =
-    let l = c in
-    let s = l in
-    let a = s.args in
-    let size = row_size a.line.now a.from a.rows a.count (l.loop-k.k - 1) s.requires.3 (omega arith) in
-    omega (arith, ap length c.word.ensures, size, s.requires.1)
+    let a = c.args in
+    let size = row_size a.line.now a.from a.rows a.count (c.loop-k.k - 1) c.requires.3 (omega arith) in
+    omega (arith, ap length c.word.ensures, size, c.requires.1)
 
 -- the word that is read
 pairs_are : (c : tie.After-marked_by invariant_loop decreases_loop) → let l = c in let a = l.args in
@@ -35,21 +32,19 @@ pairs_are c = c.marked_by.ensures.0 ∙ ap marked_by c.word.ensures
 
 loop_again : tie.Need-loop-k-preserved invariant_loop decreases_loop
 loop_again c =
-    let l = c in
-    let a = l.args in
-    let k = l.loop-k.k in
-    let left : a.rows - (k - 1) ≡ suc (a.rows - k) = omega (arith, l.loop-k.invariant.0) in (
+    let a = c.args in
+    let k = c.loop-k.k in
+    let left : a.rows - (k - 1) ≡ suc (a.rows - k) = omega (arith, c.loop-k.invariant.0) in (
       omega arith,
-      omega (arith, l.loop-k.invariant.1, pairs_are c, marked_rows_step a.line.now a.from a.rows (k - 1) k (omega arith) (omega arith)),
-      rw left (grown_below 128 (a.rows - k) l.loop-k.value c.marked_by.result l.loop-k.invariant.2 c.marked_by.ensures.1),
+      omega (arith, c.loop-k.invariant.1, pairs_are c, marked_rows_step a.line.now a.from a.rows (k - 1) k (omega arith) (omega arith)),
+      rw left (grown_below 128 (a.rows - k) c.loop-k.value c.marked_by.result c.loop-k.invariant.2 c.marked_by.ensures.1),
     )
 
 returns : tie.Need-returns invariant_loop decreases_loop
 returns c =
-    let l = c in
-    let a = l.args in
-    let none : l.loop-k.k ≡ 0 = omega arith in
-    l.loop-k.invariant.1
+    let a = c.args in
+    let none : c.loop-k.k ≡ 0 = omega arith in
+    c.loop-k.invariant.1
     ∙ ap (λ (k : ℕ). rows_marked a.line.now (a.from + k) (a.rows - k)) none
     ∙ marked_rows_all a.line.now a.from a.rows
 

@@ -14,20 +14,16 @@ decreases_loop word k₀ k = length word - k
 
 returns : tie.Need-returns-then-word-k-lt48 invariant_loop decreases_loop
 unfolding is_number
-returns c = let i = c in rw (tested_breaks i.loop-k.invariant i.loop-k-test.true (too_low 48 57 _ c.if-word-k-lt48.true))
+returns c = rw (tested_breaks c.loop-k.invariant c.loop-k-test.true (too_low 48 57 _ c.if-word-k-lt48.true))
 
 returns_2 : tie.Need-returns-then-word-k-gt57 invariant_loop decreases_loop
 unfolding is_number
 returns_2 c =
-    let low = c in
-    let i = low in
-    rw (tested_breaks i.loop-k.invariant i.loop-k-test.true (too_high 48 57 _ low.if-word-k-lt48.false c.if-word-k-gt57.true))
+    rw (tested_breaks c.loop-k.invariant c.loop-k-test.true (too_high 48 57 _ c.if-word-k-lt48.false c.if-word-k-gt57.true))
 
 loop_again : tie.Need-loop-k-preserved invariant_loop decreases_loop
 loop_again c =
-    let low = c in
-    let i = low in
-    tested_more i.loop-k.invariant i.loop-k-test.true (inside 48 57 _ low.if-word-k-lt48.false c.if-word-k-gt57.false)
+    tested_more c.loop-k.invariant c.loop-k-test.true (inside 48 57 _ c.if-word-k-lt48.false c.if-word-k-gt57.false)
 
 returns_3 : tie.Need-returns invariant_loop decreases_loop
 unfolding is_number

@@ -6,26 +6,20 @@ use Rattle.orders.proofs.Literals.{symbol_narrow, literal_of_none, literal_denie
 use Rattle.orders.proofs.reading.literal_in.Statement.{statement}
 use Rattle.orders.proofs.reading.literal_in.Tie as tie
 
--- where there is a first byte, and where the call began
-abbrev start : tie.Else-word-eq0 → tie.Start
-start c = c.before.before.before
-
 returns : tie.Need-returns-then-word-eq0
 returns c = literal_of_none _ _ c.if-word-eq0.true
 
 returns_2 : tie.Need-returns-then-word-eq45
 returns_2 c =
-    let t = c in
-    let a = (start t.before.before.before.before.before).args in
+    let a = c.args in
     c.deny.ensures
     ∙ ap denied (c.symbol_in.ensures ∙ ap (symbol_in a.names.now) (onward_drop 1 a.word.now))
-    ∙ literal_denied a.names.now a.word.now (omega arith) t.if-word-eq45.true
+    ∙ literal_denied a.names.now a.word.now (omega arith) c.if-word-eq45.true
 
 returns_3 : tie.Need-returns
 returns_3 c =
-    let t = c in
-    let a = (start t.before.before.before.before).args in
-    c.affirm.ensures ∙ ap affirmed c.symbol_in-2.ensures ∙ literal_affirmed a.names.now a.word.now (omega arith) t.if-word-eq45.false
+    let a = c.args in
+    c.affirm.ensures ∙ ap affirmed c.symbol_in-2.ensures ∙ literal_affirmed a.names.now a.word.now (omega arith) c.if-word-eq45.false
 
 pub literal_in_spec : {M : Type 1} → statement M
 literal_in_spec = tie.close (tie.spec

@@ -7,7 +7,7 @@ use Rattle.orders.proofs.reading.number_in.Tie as tie
 
 returns : tie.Need-returns-then-is_number
 unfolding number_in
-returns c = let t = c in rw (sym t.is_number.ensures ∙ t.if-is_number.true) (ap Of c.value_of.ensures)
+returns c = rw (sym c.is_number.ensures ∙ c.if-is_number.true) (ap Of c.value_of.ensures)
 
 returns_2 : tie.Need-returns
 unfolding number_in

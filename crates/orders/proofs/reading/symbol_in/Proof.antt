@@ -7,16 +7,12 @@ use Rattle.orders.specs.declared.Slip.TheVariants.{UnknownName}
 use Rattle.orders.proofs.reading.symbol_in.Statement.{statement}
 use Rattle.orders.proofs.reading.symbol_in.Tie as tie
 
--- where it is no number, and where the call began
-abbrev start : tie.Else-is_number → tie.Start
-start c = c.before.before.before.before
-
 returns : tie.Need-returns-then-is_number
 unfolding symbol_in
-returns c = let t = c in rw (← t.is_number.ensures, t.if-is_number.true) (ap Of c.value_of.ensures)
+returns c = rw (← c.is_number.ensures, c.if-is_number.true) (ap Of c.value_of.ensures)
 
 -- it is no number
-no_number : (c : tie.Else-is_number) → is_number (start c).args.word.now ≡ false
+no_number : (c : tie.Else-is_number) → is_number c.args.word.now ≡ false
 no_number c = sym c.is_number.ensures ∙ c.if-is_number.false
 
 returns_2 : tie.Need-returns-then-not-is_name
@@ -24,12 +20,11 @@ unfolding symbol_in
 returns_2 c = rw (no_number c.before.before, sym c.is_name.ensures ∙ not-true _ c.if-not-is_name.true-raw)
 
 -- it is a name: what it comes to, by its slot
-named : (c : tie.After-slot_of-slot) → let a = (start c.before.before.before).args in
+named : (c : tie.After-slot_of-slot) → let a = c.args in
     symbol_in a.names.now a.word.now ≡ cond (ltb c.slot_of-slot.result most_named) (Of (suc c.slot_of-slot.result)) (Not UnknownName)
 unfolding symbol_in
 named c =
-    let n = c in
-    rw (no_number n.before.before.before, sym n.is_name.ensures ∙ not-false _ n.if-not-is_name.false-raw, ← c.slot_of-slot.ensures)
+    rw (no_number c.before.before.before, sym c.is_name.ensures ∙ not-false _ c.if-not-is_name.false-raw, ← c.slot_of-slot.ensures)
 
 returns_3 : tie.Need-returns-then-slot-lt-SYMBOLS
 returns_3 c = let slot = c.slot_of-slot.result in rw (named c.before, lt-ltb slot most_named c.if-slot-lt-SYMBOLS.true, add-one slot)
@@ -39,5 +34,5 @@ returns_4 c = rw (named c.before, le-ltb c.slot_of-slot.result most_named c.if-s
 
 pub symbol_in_spec : {M : Type 1} → statement M
 symbol_in_spec = tie.close (tie.spec
-    (λ c κs. tt) (λ c κs. sym c.is_number.ensures ∙ c.if-is_number.true) returns (λ c κs. tt) returns_2 (λ c κs. (start c.before.before).requires)
+    (λ c κs. tt) (λ c κs. sym c.is_number.ensures ∙ c.if-is_number.true) returns (λ c κs. tt) returns_2 (λ c κs. c.requires)
     (λ c. omega arith) returns_3 returns_4)

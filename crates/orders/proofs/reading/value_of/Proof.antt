@@ -17,9 +17,8 @@ digit c = digit_here c.loop-k.invariant c.loop-k-test.true
 
 loop_again : tie.Need-loop-k-preserved invariant_loop decreases_loop
 loop_again c =
-    let i = c in
-    let l = i.loop-k in
-    valued_more l.invariant i.loop-k-test.true c.if-value-gt-MOST.value
+    let l = c.loop-k in
+    valued_more l.invariant c.loop-k-test.true c.if-value-gt-MOST.value
     (⊎_elim (λ w. omega arith) (λ w. omega arith) c.if-value-gt-MOST.branch-raw)
 
 pub value_of_spec : {M : Type 1} → statement M

@@ -8,16 +8,8 @@ use Rattle.orders.proofs.taking.add_typed.Tie as tie
 
 returns : tie.Need-returns
 returns c =
-    let t = c in
-    -- where its names are replaced, where it is in its room, and where the call began
-    let m = t in
-    let r = m in
-    let n = r in
-    let p = n in
-    let k = p in
-    let s = k in
-    let a = s.args in
-    rw (c.of_addition.ensures, t.add_text-addition.ensures.0, t.add_text-addition.ensures.1, r.replace.ensures, p.put.ensures, s.requires.1, padded_whole)
+    let a = c.args in
+    rw (c.of_addition.ensures, c.add_text-addition.ensures.0, c.add_text-addition.ensures.1, c.replace.ensures, c.put.ensures, c.requires.1, padded_whole)
     (ruled_does a.desk a.table.now a.names.now (replaced a.names.now a.typed.now))
 
 pub add_typed_spec : {M : Type 1} → statement M

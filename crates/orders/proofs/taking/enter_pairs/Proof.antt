@@ -6,11 +6,7 @@ use Rattle.orders.proofs.Carried.{entered_does}
 use Rattle.orders.proofs.taking.enter_pairs.Statement.{statement}
 use Rattle.orders.proofs.taking.enter_pairs.Tie as tie
 
--- where the marks are tested, and where the call began
-abbrev start : tie.Else-not-table_fits → tie.Start
-start c = c.before.before.before.before
-
-fits : (c : tie.Else-not-table_fits) → let a = (start c).args in table_fits a.line.now a.count a.others ≡ true
+fits : (c : tie.Else-not-table_fits) → let a = c.args in table_fits a.line.now a.count a.others ≡ true
 fits c = sym c.table_fits.ensures ∙ not-false _ c.if-not-table_fits.false-raw
 
 returns : tie.Need-returns-then-not-table_fits
@@ -18,10 +14,8 @@ returns c = rw (c.slip.ensures, sym c.table_fits.ensures ∙ not-true _ c.if-not
 
 returns_2 : tie.Need-returns
 returns_2 c =
-    let p = c in
-    let i = p in
-    let added = p.add_pairs-addition.ensures in
-    rw (c.of_addition.ensures, added.0, added.1, i.pairs_in-allowed.ensures, fits i.before.before.before.before.before.before) (entered_does _ _ _ _)
+    let added = c.add_pairs-addition.ensures in
+    rw (c.of_addition.ensures, added.0, added.1, c.pairs_in-allowed.ensures, fits c.before.before.before.before.before.before) (entered_does _ _ _ _)
 
 pub enter_pairs_spec : {M : Type 1} → statement M
 enter_pairs_spec = tie.close (tie.spec

@@ -6,29 +6,20 @@ use Rattle.orders.proofs.Named.{named_fits, slot_written, unmade}
 use Rattle.orders.proofs.taking.name.Statement.{statement}
 use Rattle.orders.proofs.taking.name.Tie as tie
 
--- where the name is judged, and where the call began
-abbrev start : tie.After-judge_name-judged → tie.Start
-start c = c.before.before.before.before
-
-fits : (c : tie.In-Done) → let a = (start c.before).args in (1 ≤ a.symbol) × (a.symbol ≤ 200)
+fits : (c : tie.In-Done) → let a = c.args in (1 ≤ a.symbol) × (a.symbol ≤ 200)
 fits c = named_fits _ _ _ _ _ c.judge_name-judged.ensures c.in-Done.is
 
 returns : tie.Need-returns-in-Done
 returns c =
-    let p = c in
-    let t = p in
-    let j = t in
-    let s = start j.before.before.before.before.before in
-    let a = s.args in
+    let a = c.args in
     let at = 24 * (a.symbol - 1) in
-    rw (slot_written a.names.now at (at + 24 - at) a.given.now _ (omega arith) (omega (arith, fits t.before.before.before.before, s.requires)) p.put.ensures)
-    (rw (ap is_made c.in-Done.is) at (named_does a.desk a.table.now _ _ _ _ j.judge_name-judged.ensures))
+    rw (slot_written a.names.now at (at + 24 - at) a.given.now _ (omega arith) (omega (arith, fits c.before.before.before.before, c.requires)) c.put.ensures)
+    (rw (ap is_made c.in-Done.is) at (named_does a.desk a.table.now _ _ _ _ c.judge_name-judged.ensures))
 
 returns_2 : tie.Need-returns-in_default
 returns_2 c =
-    let j = c in
-    let a = (start j.before).args in
-    rw (unmade _ c.in_default.in_default-own.keys2) at (named_does a.desk a.table.now _ _ _ _ j.judge_name-judged.ensures)
+    let a = c.args in
+    rw (unmade _ c.in_default.in_default-own.keys2) at (named_does a.desk a.table.now _ _ _ _ c.judge_name-judged.ensures)
 
 pub name_spec : {M : Type 1} → statement M
 name_spec = tie.close (tie.spec

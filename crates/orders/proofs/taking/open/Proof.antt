@@ -6,16 +6,11 @@ use Rattle.orders.proofs.taking.open.Tie as tie
 
 returns : tie.Need-returns-in-Refused
 returns c =
-    let k = c in
     rw c.simple.ensures (unopened_does _ _ _ _ _ (rw (← c.open-step.ensures) c.in-Refused.is))
 
 returns_2 : tie.Need-returns-in-Done
 returns_2 c =
-    let n = c in
-    let p = n in
-    let t = p in
-    let o = t in
-    rw (c.simple-in-Done.ensures, p.put.ensures, o.requires, zeros, c.open-step.ensures)
+    rw (c.simple-in-Done.ensures, c.put.ensures, c.requires, zeros, c.open-step.ensures)
     (opened_does _ _ _ _ (rw (← c.open-step.ensures) c.in-Done.is))
 
 pub open_spec : {M : Type 1} → statement M

@@ -6,31 +6,24 @@ use Rattle.orders.proofs.Slips.{slip_does}
 use Rattle.orders.proofs.taking.open_line.Statement.{statement}
 use Rattle.orders.proofs.taking.open_line.Tie as tie
 
--- where the word is read, and where the call began
-abbrev start : tie.After-number_in → tie.Start
-start c = c.before.before.before.before
-
--- where it is looked whether another follows
+-- from where it is looked whether another follows to where the word is read
 abbrev at : tie.After-ends_at → tie.After-number_in
 at c = c.before.before
 
-read : (c : tie.After-number_in) → let a = (start c).args in number_in (word_at 1 a.line.now) ≡ c.number_in.result
+read : (c : tie.After-number_in) → let a = c.args in number_in (word_at 1 a.line.now) ≡ c.number_in.result
 read c = rw (← c.word.ensures) (sym c.number_in.ensures)
 
 returns : tie.Need-returns-then-not-ends_at
 returns c =
-    let e = c in
-    rw (c.slip-then-not-ends_at.ensures, read (at e.before.before) ∙ c.in-Of.is, sym e.ends_at.ensures ∙ not-true _ c.if-not-ends_at.true-raw)
+    rw (c.slip-then-not-ends_at.ensures, read (at c.before.before) ∙ c.in-Of.is, sym c.ends_at.ensures ∙ not-true _ c.if-not-ends_at.true-raw)
     (slip_does _ _ 2)
 
 returns_2 : tie.Need-returns-in-Not
-returns_2 c = let w = c in rw (c.slip.ensures, read w.before.before ∙ c.in-Not.is) (slip_does _ _ 1)
+returns_2 c = rw (c.slip.ensures, read c.before.before ∙ c.in-Not.is) (slip_does _ _ 1)
 
 returns_3 : tie.Need-returns-else-not-ends_at
 returns_3 c =
-    let o = c in
-    let e = o in
-    rw (read (at e.before.before.before.before.before) ∙ c.in-Of.is, sym e.ends_at.ensures ∙ not-false _ o.if-not-ends_at.false-raw) o.«open».ensures
+    rw (read (at c.before.before.before.before.before) ∙ c.in-Of.is, sym c.ends_at.ensures ∙ not-false _ c.if-not-ends_at.false-raw) c.«open».ensures
 
 pub open_line_spec : {M : Type 1} → statement M
 open_line_spec = tie.close (tie.spec

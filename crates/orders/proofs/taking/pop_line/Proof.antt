@@ -10,9 +10,7 @@ returns c = rw (c.slip.ensures, sym c.ends_at.ensures ∙ not-true _ c.if-not-en
 
 returns_2 : tie.Need-returns
 returns_2 c =
-    let p = c in
-    let t = p in
-    rw (c.of_step.ensures, p.pop.ensures, sym t.ends_at.ensures ∙ not-false _ t.if-not-ends_at.false-raw) (popped_does _ _ _ _)
+    rw (c.of_step.ensures, c.pop.ensures, sym c.ends_at.ensures ∙ not-false _ c.if-not-ends_at.false-raw) (popped_does _ _ _ _)
 
 pub pop_line_spec : {M : Type 1} → statement M
 pop_line_spec = tie.close (tie.spec (λ c κs. search rules) (λ c κs. search rules) returns (λ c κs. search rules) (λ c κs. search rules) returns_2)

@@ -6,33 +6,26 @@ use Rattle.orders.proofs.Slips.{slip_does}
 use Rattle.orders.proofs.taking.second_valve.Statement.{statement}
 use Rattle.orders.proofs.taking.second_valve.Tie as tie
 
--- where the first word is read, and where the call began; where the second is
-abbrev start : tie.After-symbol_in → tie.Start
-start c = c.before.before.before.before
-
+-- from where the second word is read to where the first is
 abbrev one : tie.After-number_in → tie.After-symbol_in
 one c = c.before.before.before
 
-read : (c : tie.After-symbol_in) → let a = (start c).args in symbol_in a.names.now (word_at 3 a.line.now) ≡ c.symbol_in.result
+read : (c : tie.After-symbol_in) → let a = c.args in symbol_in a.names.now (word_at 3 a.line.now) ≡ c.symbol_in.result
 read c = rw (← c.word.ensures) (sym c.symbol_in.ensures)
 
-read_next : (c : tie.After-number_in) → number_in (word_at 4 (start (one c)).args.line.now) ≡ c.number_in.result
+read_next : (c : tie.After-number_in) → number_in (word_at 4 c.args.line.now) ≡ c.number_in.result
 read_next c = rw (← c.word-in-Of.ensures) (sym c.number_in.ensures)
 
 returns : tie.Need-returns-in-Not
-returns c = let w = c in rw (c.slip.ensures, read w.before.before ∙ c.in-Not.is) (slip_does _ _ 3)
+returns c = rw (c.slip.ensures, read c.before.before ∙ c.in-Not.is) (slip_does _ _ 3)
 
 returns_2 : tie.Need-returns-in-Not-number_in
 returns_2 c =
-    let w = c in
-    let m = w in
-    rw (c.slip-in-Not-number_in.ensures, read (one m.before.before) ∙ c.in-Of.is, read_next m.before.before ∙ c.in-Not-number_in.is) (slip_does _ _ 4)
+    rw (c.slip-in-Not-number_in.ensures, read (one c.before.before) ∙ c.in-Of.is, read_next c.before.before ∙ c.in-Not-number_in.is) (slip_does _ _ 4)
 
 returns_3 : tie.Need-returns-in-Of-number_in
 returns_3 c =
-    let k = c in
-    let m = k in
-    rw (read (one m.before.before.before.before) ∙ c.in-Of.is, read_next m.before.before.before.before ∙ c.in-Of-number_in.is) c.enter_pairs.ensures
+    rw (read (one c.before.before.before.before) ∙ c.in-Of.is, read_next c.before.before.before.before ∙ c.in-Of-number_in.is) c.enter_pairs.ensures
 
 pub second_valve_spec : {M : Type 1} → statement M
 second_valve_spec = tie.close (tie.spec

@@ -5,23 +5,15 @@ use Rattle.orders.proofs.Slips.{slip_does}
 use Rattle.orders.proofs.taking.take.Statement.{statement}
 use Rattle.orders.proofs.taking.take.Tie as tie
 
--- where the line is short enough, and where the call began
-abbrev start : tie.After-word → tie.Start
-start c = c.before.before.before.before
-
 returns : tie.Need-returns-then-line-gt-MOST_BYTES
 unfolding line_of
 returns c =
-    let t = c in
-    rw (c.slip.ensures, lt-ltb 500 (length t.args.line.now) (omega arith)) (slip_does _ _ 0)
+    rw (c.slip.ensures, lt-ltb 500 (length c.args.line.now) (omega arith)) (slip_does _ _ 0)
 
 returns_2 : tie.Need-returns
 unfolding line_of
 returns_2 c =
-    let t = c in
-    let o = t in
-    let w = o in
-    rw (le-ltb 500 (length (start w.before.before.before.before.before.before.before).args.line.now) (omega arith), ← w.word.ensures, ← o.order_of-order.ensures) t.take_order.ensures
+    rw (le-ltb 500 (length c.args.line.now) (omega arith), ← c.word.ensures, ← c.order_of-order.ensures) c.take_order.ensures
 
 pub take_spec : {M : Type 1} → statement M
 take_spec = tie.close (tie.spec

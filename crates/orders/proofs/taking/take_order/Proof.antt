@@ -6,13 +6,13 @@ use Rattle.orders.proofs.taking.take_order.Statement.{statement}
 use Rattle.orders.proofs.taking.take_order.Tie as tie
 
 returns : tie.Need-returns-in-Open
-returns c = let l = c in rw c.in-Open.is l.open_line.ensures
+returns c = rw c.in-Open.is c.open_line.ensures
 
 returns_2 : tie.Need-returns-in-Name
-returns_2 c = let l = c in rw c.in-Name.is l.name_line.ensures
+returns_2 c = rw c.in-Name.is c.name_line.ensures
 
 returns_3 : tie.Need-returns-in-Rule
-returns_3 c = let l = c in rw c.in-Rule.is l.rule_line.ensures
+returns_3 c = rw c.in-Rule.is c.rule_line.ensures
 
 returns_4 : tie.Need-returns-in-Hold
 returns_4 c = rw c.in-Hold.is c.literal_line.ensures
@@ -27,10 +27,10 @@ returns_7 : tie.Need-returns-in-Pop
 returns_7 c = rw c.in-Pop.is c.pop_line.ensures
 
 returns_8 : tie.Need-returns-in-Valve
-returns_8 c = let l = c in rw c.in-Valve.is l.valve_line.ensures
+returns_8 c = rw c.in-Valve.is c.valve_line.ensures
 
 returns_9 : tie.Need-returns-in-Pairs
-returns_9 c = let l = c in rw c.in-Pairs.is l.pairs_line.ensures
+returns_9 c = rw c.in-Pairs.is c.pairs_line.ensures
 
 returns_10 : tie.Need-returns-in-Furnace
 returns_10 c = rw c.in-Furnace.is c.furnace_line.ensures

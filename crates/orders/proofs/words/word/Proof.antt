@@ -8,7 +8,7 @@ goes_on_lem : (c : tie.After-word_end-to) → c.word_place-from.result ≤ c.wor
 goes_on_lem c = word_goes_on c.args.k c.word_place-from.ensures c.word_end-to.ensures
 
 returns : tie.Need-returns
-returns c = let e = c in word_part e.args.k e.word_place-from.ensures e.word_end-to.ensures
+returns c = word_part c.args.k c.word_place-from.ensures c.word_end-to.ensures
 
 pub word_spec : {M : Type 1} → statement M
 word_spec = tie.close (tie.spec

@@ -15,10 +15,10 @@ loop_holds : tie.Need-loop-i-init invariant_loop decreases_loop
 loop_holds c = sought_none is_blank c.args.line.now c.args.at c.requires
 
 returns : tie.Need-returns-then-line-i-eq32 invariant_loop decreases_loop
-returns c = let i = c in sought_here i.loop-i.invariant i.loop-i-test.true (eq-eqb _ 32 c.if-line-i-eq32.true)
+returns c = sought_here c.loop-i.invariant c.loop-i-test.true (eq-eqb _ 32 c.if-line-i-eq32.true)
 
 loop_again : tie.Need-loop-i-preserved invariant_loop decreases_loop
-loop_again c = let i = c in sought_more i.loop-i.invariant i.loop-i-test.true (ne_eqb _ 32 c.if-line-i-eq32.false)
+loop_again c = sought_more c.loop-i.invariant c.loop-i-test.true (ne_eqb _ 32 c.if-line-i-eq32.false)
 
 returns_2 : tie.Need-returns invariant_loop decreases_loop
 returns_2 c = sought_end c.loop-i.invariant c.loop-i-test.false

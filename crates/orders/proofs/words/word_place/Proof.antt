@@ -14,15 +14,13 @@ decreases_loop line k at₀ n₀ at n = k - n
 
 loop_again : tie.Need-loop-n-preserved invariant_loop decreases_loop
 loop_again c =
-    let e = c in
-    let l = e.loop-n in
-    (omega arith, next_place l.n l.invariant.1 e.word_end.ensures c.next_word-at-in-loop-n.ensures)
+    let l = c.loop-n in
+    (omega arith, next_place l.n l.invariant.1 c.word_end.ensures c.next_word-at-in-loop-n.ensures)
 
 returns : tie.Need-returns invariant_loop decreases_loop
 returns c =
-    let l = c in
-    let e : l.loop-n.n ≡ l.args.k = omega arith in
-    rw e at l.loop-n.invariant.1
+    let e : c.loop-n.n ≡ c.args.k = omega arith in
+    rw e at c.loop-n.invariant.1
 
 pub word_place_spec : {M : Type 1} → statement M
 word_place_spec = tie.close (tie.spec
