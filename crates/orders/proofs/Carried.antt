@@ -7,7 +7,7 @@ use Rattle.stack.specs.declared.Step.{Step}
 use Rattle.positions.specs.Positions.{Entry}
 use Rattle.positions.specs.Entering.{entered, entered_table}
 use Rattle.text.specs.Adding.{ruled_text, ruled_text_table}
-use Rattle.promises.specs.Calls.{Call, adds_text, enters, holds, withdraws, pushes, pops, answer, after, outcome}
+use Rattle.promises.specs.Calls.{Call, adds_text, enters, holds, withdraws, pushes, pops, answer, after}
 use Rattle.orders.specs.Lines.{calling}
 use Rattle.orders.specs.States.{state_of, did, tells, simply, reply_of, Does}
 use Rattle.orders.specs.declared.Desk.{Desk}
