@@ -1,5 +1,5 @@
 -- `journal` meets its contract: what was written and what is left are the whole journal, and where the loop is left nothing is.
-use Rattle.std.proofs.Common.{◌≡◌, ◌∙◌, sym, refl, subst, [], ◌++◌, arith, take}
+use Rattle.std.proofs.Common.{◌∙◌, sym, refl, subst, [], ◌++◌, arith, take}
 use Rattle.std.proofs.KnownBytes.{Appends-nil, Appends-trans}
 use Rattle.std.specs.Io.KnownBytes.{Appends}
 use Rattle.journal.specs.Promises.{nothing, another}

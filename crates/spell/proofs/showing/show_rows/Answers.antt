@@ -1,6 +1,6 @@
 -- A row has eight literals at most.
-use Rattle.std.proofs.Common.{◌≤◌, ◌*◌, arith, length-take}
-use Rattle.literals.specs.Row.{width, most_literals}
+use Rattle.std.proofs.Common.{◌*◌, arith, length-take}
+use Rattle.literals.specs.Row.{width}
 use Rattle.literals.proofs.Counting.{count_few}
 use Rattle.spell.proofs.showing.show_rows.Goals as goal
 
