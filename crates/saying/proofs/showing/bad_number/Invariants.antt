@@ -1,3 +1,4 @@
+-- Each round goes on by a byte or a run.
 use Rattle.std.proofs.Common.{◌≤◌, ◌-◌, length}
 use Rattle.saying.proofs.showing.bad_number.Given as goal
 
