@@ -1,9 +1,0 @@
--- `write_in` is safe: the part of the bytes that it lends is as long as it says.
-use Rattle.meaning.proofs.Kit.{sym, length-take-le, rules}
-use Rattle.drill_text.proofs.telling.write_in.Statement.{statement}
-use Rattle.drill_text.proofs.telling.write_in.Tie as tie
-
-pub write_in_spec : {M : Type 1} → statement M
-write_in_spec = tie.close (tie.spec
-    (λ c. search rules) (λ c. sym (length-take-le _ _ (search rules))) (λ c κs. search rules) (λ c. search rules) (λ c κs. search rules)
-    (λ c κs. search rules) (λ c. search rules) (λ c κs. search rules) (λ c κs. search rules) (λ c. search rules) (λ c. search rules))

@@ -1,9 +1,0 @@
--- `show` is safe: the part of the table that it lends is as long as it says.
-use Rattle.meaning.proofs.Kit.{sym, length-take-le, rules}
-use Rattle.drill_text.proofs.texts.show.Statement.{statement}
-use Rattle.drill_text.proofs.texts.show.Tie as tie
-
-pub show_spec : {M : Type 1} → statement M
-show_spec = tie.close (tie.spec
-    (λ c κs. search rules) (λ c κs. search rules) (λ c κs. search rules) (λ c κs. search rules) (λ c. search rules)
-    (λ c. sym (length-take-le _ _ (search rules))) (λ c κs. search rules) (λ c κs. search rules) (λ c. search rules))
