@@ -3,3 +3,4 @@ pub mod Plain
 pub mod Bytes
 pub mod Parts
 pub mod Along
+pub mod Leaving
