@@ -6,7 +6,8 @@ use Rattle.meaning.proofs.Kit.{eqb-true, ltb-true, lt-ltb, le-ltb, ltb-false}
 use native.Mathlib.Nat.{min-le_left}
 use Rattle.meaning.proofs.Tests.{true_or_false}
 use Rattle.meaning.proofs.Tables.{le_or_lt}
-use lib.Seq.{take-append-add}
+use lib.Seq.{take-append-add, take-add, take-take}
+use Rattle.std.proofs.lemmas.List.{drop-take}
 use Rattle.desk.specs.Sittings.{Sat, kept, after_byte, after_part, after_bytes, line_length, after_line}
 
 pub length_within : (bytes : List ℕ) → line_length bytes ≤ length bytes
@@ -139,3 +140,47 @@ pub bytes_both : (s : Sat) (bytes others : List ℕ) → after_bytes s (bytes ++
 unfolding after_bytes
 bytes_both s [] others = refl
 bytes_both s (b ∷ bytes) others = bytes_both (after_byte s b) bytes others
+
+-- ---- the bytes up to a place, with which a part ends
+
+-- the line feed that ends a part stays where it is
+line_feed_stays : (bytes : List ℕ) → line_length (take (suc (line_length bytes)) bytes) ≡ line_length bytes
+unfolding line_length
+line_feed_stays [] = refl
+line_feed_stays (b ∷ rest) =
+    ⊎_elim (λ e. rw e) (λ e. rw e (ap suc (line_feed_stays rest))) (true_or_false (eqb b 10))
+
+-- from a place where the bytes before it are taken
+pub bytes_up_to : (start s : Sat) (bytes : List ℕ) (at n : ℕ) → s ≡ after_bytes start (take at bytes) → at ≤ length bytes → length s.pending ≤ 502
+    → n ≡ line_length (drop at bytes)
+    → after_part s (take (at + n - at) (drop at bytes)) (ltb (at + n) (length bytes)) ≡ after_bytes start (take (at + n + 1) bytes)
+unfolding after_bytes
+bytes_up_to start s bytes at n s-is within short e =
+    let m = at + n + 1 in
+    let front = take m bytes in
+    let rest : drop at front ≡ take (suc n) (drop at bytes) = ap (λ (k : ℕ). drop at (take k bytes)) (omega arith) ∙ drop-take at (suc n) bytes in
+    let stops : n ≡ line_length (drop at front) = rw (rest, e) (sym (line_feed_stays (drop at bytes))) in
+    let long : length front ≡ min m (length bytes) = length-take m bytes in
+    let step = bytes_step s front at n (omega (arith, long, within)) short stops in
+    let part : take (at + n - at) (take (suc n) (drop at bytes)) ≡ take (at + n - at) (drop at bytes) =
+    take-take (at + n - at) (suc n) (drop at bytes) (omega arith) in
+    let here = rw (rest, part, drop_of_length-le front {i = m} (omega (arith, long)), ends) at step in
+    sym here
+    ∙ ap (λ (u : Sat). after_bytes u (take (suc n) (drop at bytes))) s-is
+    ∙ sym (bytes_both start (take at bytes) (take (suc n) (drop at bytes)))
+    ∙ ap (λ (l : List ℕ). after_bytes start l) (sym (take-add at (suc n) bytes) ∙ ap (λ (k : ℕ). take k bytes) (omega arith))
+  where
+    ends : ltb (at + n) (length (take (at + n + 1) bytes)) ≡ ltb (at + n) (length bytes)
+    ends = go (ltb (at + n) (length bytes)) refl
+      where
+        go : (b : Bool) → ltb (at + n) (length bytes) ≡ b → ltb (at + n) (length (take (at + n + 1) bytes)) ≡ b
+        go true t = let less = ltb-true (at + n) (length bytes) t in lt-ltb (at + n) _ (omega (arith, length-take (at + n + 1) bytes))
+        go false f = let more = ltb-false (at + n) (length bytes) f in le-ltb (at + n) _ (omega (arith, length-take (at + n + 1) bytes))
+
+-- a line that begins in the bytes ends in them
+pub line_inside : (bytes : List ℕ) (at n : ℕ) → at ≤ length bytes → n ≡ line_length (drop at bytes) → at + n ≤ length bytes
+line_inside bytes at n within e = omega (arith, e, length_within (drop at bytes), length-drop at bytes)
+
+-- what is kept of a line is no longer than its room
+pub short : (filled : ℕ) (line : List ℕ) → filled ≤ 502 → length (take filled line) ≤ 502
+short filled line h = omega (arith, length-take filled line, min-le_left filled (length line))

@@ -3,11 +3,15 @@
 
 mod sitting;
 
-ghost use Rattle.std.specs.Prelude.{◌≡◌, ◌≤◌, length};
+ghost use Rattle.std.specs.Prelude.{◌≡◌, ◌≤◌, ◌<◌, length, IfOk, IfSome};
 ghost use Rattle.names.specs.Names.{table_length};
 ghost use Rattle.saying.specs.Limits.{kept_length};
+ghost use Rattle.orders.specs.States.{state_of};
+ghost use Rattle.desk.specs.Sittings.{starting};
+ghost use Rattle.desk.specs.Promises.{IsAfter};
 
 use crate::sitting::{end_line, start, take_bytes};
+use orders::Desk;
 use saying::pieces::{say, say_number};
 use std::io;
 use std::io::Read;
@@ -26,30 +30,36 @@ fn say_end(rt: &impl Print, lines: usize, whole: bool) -> io::Result<()> {
     say(rt, b" lines: the input cannot be read\n")
 }
 
-// Takes the input to its end: what is read at a time, and at last what no line feed ended.
-fn serve(
-    rt: &(impl Print + Input),
+// Takes the input to its end: what is read at a time, and at last what no line feed ended. Answers the desk as it is then, or nothing where the input
+// cannot be read.
+fn serve<R: Read>(
+    rt: &impl Print,
+    from: &mut R,
     table: &mut [i16],
     names: &mut [u8],
     texts: &mut [u8],
     line: &mut [u8],
     input: &mut [u8],
-) -> io::Result<()>
+) -> io::Result<Option<Desk>>
     requires { (length names.old ≡ table_length) × (length texts.old ≡ kept_length) × (length line.old ≡ 502) × (length input.old ≤ 4096) }
+    ensures { IfOk result (λ end. IfSome end (λ desk. IfSome (R.remaining from.old) (λ text. 0 < length input.old
+        → IsAfter (state_of starting.desk table.old names.old) text (state_of desk table.new names.new)))) }
 {
-    let mut reader = rt.reader();
     let mut sitting = start();
     for _ in 0..MOST_READS {
-        let Ok(n) = reader.read(input) else {
-            return say_end(rt, sitting.lines, false);
+        let Ok(n) = from.read(input) else {
+            say_end(rt, sitting.lines, false)?;
+            return Ok(None);
         };
         if n == 0 {
             let ended = end_line(rt, sitting, table, names, texts, line)?;
-            return say_end(rt, ended.lines, true);
+            say_end(rt, ended.lines, true)?;
+            return Ok(Some(ended.desk));
         }
         sitting = take_bytes(rt, sitting, table, names, texts, line, &input[..n])?;
     }
-    say_end(rt, sitting.lines, false)
+    say_end(rt, sitting.lines, false)?;
+    Ok(None)
 }
 
 fn main(rt: HostRuntime) -> io::Result<()> {
@@ -59,6 +69,13 @@ fn main(rt: HostRuntime) -> io::Result<()> {
     let mut line = [0u8; 502];
     let mut input = [0u8; 4096];
     serve(
-        &rt, &mut table, &mut names, &mut texts, &mut line, &mut input,
-    )
+        &rt,
+        &mut rt.reader(),
+        &mut table,
+        &mut names,
+        &mut texts,
+        &mut line,
+        &mut input,
+    )?;
+    Ok(())
 }
