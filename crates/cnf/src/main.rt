@@ -2,7 +2,7 @@
 // is said in a line on standard error.
 #![tactic(auto)]
 
-ghost use Rattle.std.specs.Prelude.{◌≡◌, ◌+◌, ◌<◌, ◌≤◌, length};
+ghost use Rattle.std.specs.Prelude.{◌≡◌, ◌+◌, ◌<◌, ◌≤◌, length, IfOk};
 ghost use Rattle.dimacs.specs.Words.{beyond};
 ghost use Rattle.cnf.specs.Rewriting.{made, read_made, rows_made};
 
@@ -111,17 +111,32 @@ fn say_refusal(err: Stderr, why: Refusal, before: usize) -> io::Result<()>
     }
 }
 
+// Fills the buffer as far as the input goes, and answers how many bytes there were.
+fn read_full<R: Read>(from: &mut R, buf: &mut [u8]) -> io::Result<usize>
+    ensures { IfOk result (λ n. n ≤ length buf.new) }
+{
+    let mut done = 0;
+    while done < buf.len() {
+        let n = from.read(&mut buf[done..])?;
+        if n == 0 {
+            break;
+        }
+        done += n;
+    }
+    Ok(done)
+}
+
 fn main(rt: HostRuntime) -> io::Result<()> {
-    let mut input = Vec::new(rt.alloc());
-    rt.reader().take(262145).read_to_end(&mut input)?;
-    if MOST_INPUT < input.len() {
+    let mut input = [0u8; 262145];
+    let n = read_full(&mut rt.reader(), &mut input)?;
+    if MOST_INPUT < n {
         return rt
             .stderr()
             .write_all(b"cnf: input too long: more than 262144 bytes\n");
     }
     let mut table = [0i16; 18432];
     let mut out = [0u8; 86031];
-    match rewrite(&mut table, input.as_slice(), &mut out) {
+    match rewrite(&mut table, &input[..n], &mut out) {
         Rewritten::Text(bytes) => rt.write_all(&out[..bytes]),
         Rewritten::NoBoard(variables) => say(
             rt.stderr(),

@@ -1,7 +1,7 @@
 // The journal: commands on standard input, a line for each on standard output.
 #![tactic(auto)]
 
-ghost use Rattle.std.specs.Prelude.{◌+◌, ◌≤◌, ◌<◌, ◌≡◌, true, length, OnOk};
+ghost use Rattle.std.specs.Prelude.{◌+◌, ◌≤◌, ◌<◌, ◌≡◌, true, length, IfOk, OnOk};
 ghost use Rattle.std.specs.Io.KnownBytes.{Appends};
 ghost use Rattle.journal.specs.Promises.{all_lines};
 ghost use Rattle.journal.specs.Told.{left, more, Runs, starting, told};
@@ -110,12 +110,27 @@ fn journal<W: Write>(to: &mut W, table: &mut [i16], input: &[u8]) -> io::Result<
     Ok(())
 }
 
+// Fills the buffer as far as the input goes, and answers how many bytes there were.
+fn read_full<R: Read>(from: &mut R, buf: &mut [u8]) -> io::Result<usize>
+    ensures { IfOk result (λ n. n ≤ length buf.new) }
+{
+    let mut done = 0;
+    while done < buf.len() {
+        let n = from.read(&mut buf[done..])?;
+        if n == 0 {
+            break;
+        }
+        done += n;
+    }
+    Ok(done)
+}
+
 fn main(rt: HostRuntime) -> io::Result<()> {
-    let mut input = Vec::new(rt.alloc());
-    rt.reader().take(32769).read_to_end(&mut input)?;
-    if MOST_INPUT < input.len() {
+    let mut input = [0u8; 32769];
+    let n = read_full(&mut rt.reader(), &mut input)?;
+    if MOST_INPUT < n {
         return rt.write_all(b"input too long\n");
     }
     let mut table = [0i16; 18432];
-    journal(&mut io::writer(&rt), &mut table, input.as_slice())
+    journal(&mut io::writer(&rt), &mut table, &input[..n])
 }

@@ -7,7 +7,7 @@ mod pieces;
 mod sentences;
 mod showing;
 
-ghost use Rattle.std.specs.Prelude.{ℕ, ◌+◌, ◌*◌, ◌<◌, ◌≤◌, ◌≡◌, length, get_or};
+ghost use Rattle.std.specs.Prelude.{ℕ, ◌+◌, ◌*◌, ◌<◌, ◌≤◌, ◌≡◌, length, get_or, IfOk};
 
 use std::io;
 use std::io::Read;
@@ -53,14 +53,29 @@ fn answer_lines(
     Ok(())
 }
 
+// Fills the buffer as far as the input goes, and answers how many bytes there were.
+fn read_full<R: Read>(from: &mut R, buf: &mut [u8]) -> io::Result<usize>
+    ensures { IfOk result (λ n. n ≤ length buf.new) }
+{
+    let mut done = 0;
+    while done < buf.len() {
+        let n = from.read(&mut buf[done..])?;
+        if n == 0 {
+            break;
+        }
+        done += n;
+    }
+    Ok(done)
+}
+
 // Reads the input, and answers its lines. No input at all asks for help.
 fn main(rt: HostRuntime) -> io::Result<()> {
-    let mut input = Vec::new(rt.alloc());
-    rt.reader().take(32769).read_to_end(&mut input)?;
-    if input.is_empty() {
+    let mut input = [0u8; 32769];
+    let n = read_full(&mut rt.reader(), &mut input)?;
+    if n == 0 {
         return sentences::help(rt.stderr());
     }
-    if MOST_INPUT < input.len() {
+    if MOST_INPUT < n {
         return sentences::complain(
             rt.stderr(),
             b"spell: input too long: more than 32768 bytes\n",
@@ -69,5 +84,5 @@ fn main(rt: HostRuntime) -> io::Result<()> {
     let mut table = [0i16; 18432];
     let mut bytes = [0u8; 65536];
     let mut page = [0u8; 196612];
-    answer_lines(&rt, input.as_slice(), &mut table, &mut bytes, &mut page)
+    answer_lines(&rt, &input[..n], &mut table, &mut bytes, &mut page)
 }
