@@ -19,7 +19,7 @@ def show(symbols, truth, used, rules, lent):
             print("".join(f" {'-' if l < 0 else '+'}{abs(l)}" for l in r) + f" of rule {rules + 1}")
 
 calls = re.sub(r"\s+", " ", src[src.index("fn show_small"):])
-for line in re.findall(r"show_text\([^)]*\);|show_parity\(\);", calls):
+for line in re.findall(r"show_text\([^)]*\)|show_parity\(rt\)", calls):
     if line.startswith("show_parity"):
         show(list(range(1, 9)), lambda a: sum(a) % 2 == 1, 0, 0, 128)
         continue
