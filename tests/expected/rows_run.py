@@ -23,7 +23,7 @@ for line in re.findall(r"show_text\([^)]*\)|show_parity\(rt\)", calls):
     if line.startswith("show_parity"):
         show(list(range(1, 9)), lambda a: sum(a) % 2 == 1, 0, 0, 128)
         continue
-    m = re.match(r'show_text\( ?b"([^"]*)", b"([01]*)", (\d+), (\d+), (\d+),? ?\);', line)
+    m = re.match(r'show_text\( ?rt, b"([^"]*)", b"([01]*)", (\d+), (\d+), (\d+),? ?\)', line)
     symbols = [int(h, 16) for h in re.findall(r"\\x(..)", m.group(1))]
     text = m.group(2)
     def truth(a, text=text):
