@@ -111,11 +111,8 @@ symbols_fit S (positions x) = on_board S x
 symbols_fit S (pairs t) = on_board S t.one && on_board S t.other
 
 -- 19: "a count outside 2 to 7 or a pair table whose two variables share a symbol"
-abbrev pub is_count : ℕ → Bool
-is_count count = leb 2 count && leb count 7
-
 abbrev pub counted : Variable → Bool
-counted x = is_count x.count
+counted x = leb 2 x.count && leb x.count 7
 
 abbrev pub share : Variable → Variable → Bool
 share x y = any (λ s. member s (symbols_in y)) (symbols_in x)
