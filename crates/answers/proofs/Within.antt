@@ -3,16 +3,16 @@ use Rattle.meaning.proofs.Kit.{◌≡◌, List, ◌≤◌, ℕ, arith, ℤ, leng
 use Rattle.board.specs.Faults.{if_done}
 use Rattle.board.specs.Settling.{over}
 use Rattle.board.specs.declared.Board.{Board}
-use Rattle.board.specs.declared.Outcome.{Outcome}
-use Rattle.board.specs.declared.Outcome.TheVariants.{Done, Refused}
+use Rattle.board.specs.Faults.{Outcome}
+use Rattle.std.specs.Prelude.{Ok, Err}
 use Rattle.dimacs.specs.Writing.{text_on, write_answer, write_bytes, write_outcome}
 use Rattle.dimacs.specs.declared.writing.Writing.{Writing}
 use Rattle.smallest.specs.Listing.{smallest_on, smallest_answer, smallest_sets, smallest_outcome}
 use Rattle.smallest.specs.declared.Listing.{Listing}
 
 within : (o : Outcome) (list out : List ℕ) → if_done o (length list) (λ _. 0) ≤ length (over o list out)
-within Done list out = omega (arith, length-append list (drop (length list) out))
-within (Refused why) list out = omega arith
+within (Ok tt) list out = omega (arith, length-append list (drop (length list) out))
+within (Err why) list out = omega arith
 
 -- `out` and `sets` are the places lent, and `after` what they are then
 module _ (table : List ℤ) (b : Board) where

@@ -21,7 +21,7 @@ pub fn ask(rt: &impl Print, desk: Desk, table: &[i16], names: &[u8], l: i16) -> 
 {
     let board = desk.board;
     let standing = board::asking::ask(board, table, desk.furnace, l);
-    if let Standing::Refused(why) = standing {
+    if let Err(why) = standing {
         return refuse(rt, Order::Ask, why);
     }
     say(rt, b"  ")?;
@@ -61,8 +61,8 @@ pub fn ground(rt: &impl Print, desk: Desk, table: &[i16], names: &[u8], l: i16) 
     let board = desk.board;
     let mut marks = [0u8; 400];
     match board::grounds::ground(board, table, desk.furnace, l, &mut marks) {
-        Outcome::Refused(why) => refuse(rt, Order::Ground, why),
-        Outcome::Done => {
+        Err(why) => refuse(rt, Order::Ground, why),
+        Ok(()) => {
             say(rt, b"  ")?;
             say_literal(rt, names, l)?;
             say(rt, b" stands on ")?;
@@ -78,8 +78,8 @@ pub fn blame(rt: &impl Print, desk: Desk, table: &[i16], names: &[u8]) -> io::Re
     let board = desk.board;
     let mut marks = [0u8; 400];
     match board::grounds::blame(board, table, desk.furnace, &mut marks) {
-        Outcome::Refused(why) => refuse(rt, Order::Blame, why),
-        Outcome::Done => {
+        Err(why) => refuse(rt, Order::Blame, why),
+        Ok(()) => {
             say(rt, b"  to blame: ")?;
             say_marked(rt, names, &marks)
         }
@@ -166,7 +166,7 @@ pub fn marks(rt: &impl Print, desk: Desk, table: &[i16], names: &[u8]) -> io::Re
         &mut ranks,
         &mut supports,
     ) {
-        Outcome::Refused(why) => refuse(rt, Order::Marks, why),
-        Outcome::Done => say_marks(rt, desk, names, &ranks),
+        Err(why) => refuse(rt, Order::Marks, why),
+        Ok(()) => say_marks(rt, desk, names, &ranks),
     }
 }

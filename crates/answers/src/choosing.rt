@@ -97,8 +97,8 @@ fn say_least(
     let least = least::call::least(board, table, desk.furnace, given);
     let outcome = least.outcome;
     match outcome {
-        Outcome::Refused(why) => refuse(rt, Order::Least, why),
-        Outcome::Done => {
+        Err(why) => refuse(rt, Order::Least, why),
+        Ok(()) => {
             say(rt, b"  to drop: ")?;
             say_set(
                 rt,
@@ -169,8 +169,8 @@ fn list_sets(
     let listing = smallest::call::smallest(board, table, given, l, &mut sets);
     let outcome = listing.outcome;
     match outcome {
-        Outcome::Refused(why) => refuse(rt, Order::Sets, why),
-        Outcome::Done => {
+        Err(why) => refuse(rt, Order::Sets, why),
+        Ok(()) => {
             let count = listing.count;
             say_sets(rt, names, given, l, &sets[..count])
         }

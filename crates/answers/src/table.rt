@@ -76,8 +76,8 @@ pub fn cnf(rt: &impl Print, desk: Desk, table: &[i16]) -> io::Result<()> {
     let writing = dimacs::writing::write(board, table, &mut out);
     let outcome = writing.outcome;
     match outcome {
-        Outcome::Refused(why) => refuse(rt, Order::Cnf, why),
-        Outcome::Done => {
+        Err(why) => refuse(rt, Order::Cnf, why),
+        Ok(()) => {
             let n = writing.bytes;
             say(rt, &out[..n])
         }

@@ -48,7 +48,7 @@ fn say_node(
     let board = desk.board;
     let reason = board::asking::explain_numbers(board, table, desk.furnace, l);
     let outcome = reason.outcome;
-    if let Outcome::Refused(_) = outcome {
+    if let Err(_) = outcome {
         say_premise(rt, desk, names, l)?;
         return Ok(false);
     }
@@ -130,8 +130,8 @@ fn is_derived(desk: Desk, table: &[i16], l: i16) -> bool {
     let reason = board::asking::explain_numbers(board, table, desk.furnace, l);
     let outcome = reason.outcome;
     match outcome {
-        Outcome::Done => true,
-        Outcome::Refused(_) => is_held(desk, l),
+        Ok(()) => true,
+        Err(_) => is_held(desk, l),
     }
 }
 
@@ -169,7 +169,7 @@ pub fn why(
 {
     let board = desk.board;
     match board::testing::place_on(board, table, desk.furnace, l) {
-        Placed::Refused(why) => refuse(rt, Order::Why, why),
-        Placed::At(p) => say_why(rt, desk, table, names, texts, p),
+        Err(why) => refuse(rt, Order::Why, why),
+        Ok(p) => say_why(rt, desk, table, names, texts, p),
     }
 }

@@ -16,12 +16,11 @@ use Rattle.formula.specs.declared.naming.Names.{Names}
 use Rattle.formula.proofs.Faults.{whole_faults}
 use Rattle.implicates.specs.Appending.{rule_by, fits, appended, answer_of, table_of}
 use Rattle.implicates.specs.declared.Appended.{Appended}
-use Rattle.implicates.specs.declared.Appended.TheVariants.{Rows, Unsatisfiable, Full}
+use Rattle.std.specs.Prelude.{Ok, Err}
 use Rattle.implicates.proofs.Rules.{answer_by_table, append_by_table}
 use Rattle.board.specs.Faults.{first_fault}
 use Rattle.board.specs.Rules.{rule_faults, no_place, place_told, rows_of_bytes, with_rules, ruled, ruled_table}
 use Rattle.board.specs.declared.Board.{Board}
-use Rattle.board.specs.declared.Outcome.TheVariants.{Done, Refused}
 
 -- ---- how many assignments there are to n symbols, as a shift tells
 
@@ -33,7 +32,7 @@ shifted n h = mod-eq_of_lt (rw one-mul (omega (arith, few_assignments n h))) ∙
 
 -- ---- a fault of the formula is told with its place
 
-pub place_told_lem : (S : ℕ) (bytes : List ℕ) {why : Refusal} {at : ℕ} → whole_of S bytes ≡ bad why at → place_told (Refused why) (whole_of S bytes) ≡ at
+pub place_told_lem : (S : ℕ) (bytes : List ℕ) {why : Refusal} {at : ℕ} → whole_of S bytes ≡ bad why at → place_told (Err why) (whole_of S bytes) ≡ at
 place_told_lem S bytes {why} e =
     let numbers = rw e at (whole_faults S bytes) in
     rw (e, le-leb 2 (number_of why) numbers.0, le-leb (number_of why) 6 numbers.1)
@@ -126,16 +125,16 @@ module _ (S : ℕ) (bytes names : List ℕ) (truth : List Bool) (g : is_good (wh
 module _ (rule : Rule) (used rules lent : ℕ) where
   -- what is known of the rule's two tests after each answer
   abbrev pub Because : Appended → Type 0
-  Because Unsatisfiable = satisfiable rule ≡ false
-  Because Full = (satisfiable rule ≡ true) × (fits used rules lent (rows_of rule) ≡ false)
-  Because (Rows n) = (satisfiable rule ≡ true) × (fits used rules lent (rows_of rule) ≡ true) × (n ≡ length (rows_of rule))
+  Because (Err NoAssignment) = satisfiable rule ≡ false
+  Because (Err TableFull) = (satisfiable rule ≡ true) × (fits used rules lent (rows_of rule) ≡ false)
+  Because (Ok n) = (satisfiable rule ≡ true) × (fits used rules lent (rows_of rule) ≡ true) × (n ≡ length (rows_of rule))
 
   pub because : {answer : Appended} → answer_of rule used rules lent ≡ answer → Because answer
   unfolding answer_of
   because {answer} e = subst Because e (go (satisfiable rule) (fits used rules lent (rows_of rule)) refl refl)
     where
       go : (s enough : Bool) → satisfiable rule ≡ s → fits used rules lent (rows_of rule) ≡ enough
-          → Because (cond s (cond enough (Rows (length (rows_of rule))) Full) Unsatisfiable)
+          → Because (cond s (cond enough (Ok (length (rows_of rule))) (Err TableFull)) (Err NoAssignment))
       go true true s f = (s, f, refl)
       go true false s f = (s, f)
       go false enough s f = s
@@ -143,14 +142,14 @@ module _ (rule : Rule) (used rules lent : ℕ) where
 -- ---- the answer and the table after it, where adding is refused and where it is done
 
 module _ (table : List ℤ) (b : Board) (bytes : List ℕ) where
-  pub rule_refused : (why : Refusal) {place : ℕ} → first_fault (rule_faults table b bytes) ≡ Refused why
-      → place_told (Refused why) (whole_of b.symbols bytes) ≡ place
-      → (record { outcome = Refused why; place = place; added = 0; board = b } ≡ ruled table b bytes) × (table ≡ ruled_table table b bytes)
+  pub rule_refused : (why : Refusal) {place : ℕ} → first_fault (rule_faults table b bytes) ≡ Err why
+      → place_told (Err why) (whole_of b.symbols bytes) ≡ place
+      → (record { outcome = Err why; place = place; added = 0; board = b } ≡ ruled table b bytes) × (table ≡ ruled_table table b bytes)
   unfolding ruled ruled_table
   rule_refused why e p = rw (e, sym p) (refl, refl)
 
-  pub rule_done : first_fault (rule_faults table b bytes) ≡ Done → let rows = rows_of_bytes b.symbols bytes in
-      (record { outcome = Done; place = no_place; added = length rows; board = with_rules b (length rows) 1 } ≡ ruled table b bytes)
+  pub rule_done : first_fault (rule_faults table b bytes) ≡ Ok tt → let rows = rows_of_bytes b.symbols bytes in
+      (record { outcome = (Ok tt); place = no_place; added = length rows; board = with_rules b (length rows) 1 } ≡ ruled table b bytes)
       × (appended table b.rows (of_rule (suc b.rules) rows) ≡ ruled_table table b bytes)
   unfolding ruled ruled_table
   rule_done e = rw e (refl, refl)

@@ -9,29 +9,29 @@ use Rattle.formula.proofs.Faults.{UpTo}
 use Rattle.board.specs.Faults.{Fault, first_fault, if_done, number_in}
 use Rattle.board.specs.Rules.{why_of, place_told, rule_faults, ruled}
 use Rattle.board.specs.declared.Board.{Board}
-use Rattle.board.specs.declared.Outcome.{Outcome}
-use Rattle.board.specs.declared.Outcome.TheVariants.{Done, Refused}
+use Rattle.board.specs.Faults.{Outcome}
+use Rattle.std.specs.Prelude.{Ok, Err}
 use Rattle.board.specs.declared.rules.Addition.{Addition}
 
-pub refused_not_done : {X : Type 0} {why : Refusal} → Refused why ≡ Done → X
+pub refused_not_done : {X : Type 0} {why : Refusal} → Err why ≡ Ok tt → X
 refused_not_done e = let z : ◌≡◌ {A = ℕ} 0 1 = cc in absurd (omega arith)
 
 -- the faults of two lists: the first of the first, and only where there is none the first of the second
-pub first_append : (fs gs : List Fault) → first_fault (fs ++ gs) ≡ if_done (first_fault fs) (first_fault gs) (λ why. Refused why)
+pub first_append : (fs gs : List Fault) → first_fault (fs ++ gs) ≡ if_done (first_fault fs) (first_fault gs) (λ why. Err why)
 first_append [] gs = refl
 first_append (f ∷ fs) gs = go f.given (first_append fs gs)
   where
-    go : (b : Bool) → first_fault (fs ++ gs) ≡ if_done (first_fault fs) (first_fault gs) (λ why. Refused why)
-        → cond b (Refused f.refusal) (first_fault (fs ++ gs))
-        ≡ if_done (cond b (Refused f.refusal) (first_fault fs)) (first_fault gs) (λ why. Refused why)
+    go : (b : Bool) → first_fault (fs ++ gs) ≡ if_done (first_fault fs) (first_fault gs) (λ why. Err why)
+        → cond b (Err f.refusal) (first_fault (fs ++ gs))
+        ≡ if_done (cond b (Err f.refusal) (first_fault fs)) (first_fault gs) (λ why. Err why)
     go true e = refl
     go false e = e
 
 -- an answer made by `if_done` tells the outcome it was made by, if both its parts do
-pub told_by_lem : {A : Type 0} (tell : A → Outcome) (done : A) (refused : Refusal → A) (o : Outcome) → (o ≡ Done → tell done ≡ o)
-    → ((why : Refusal) → o ≡ Refused why → tell (refused why) ≡ o) → tell (if_done o done refused) ≡ o
-told_by_lem tell done refused Done d r = d refl
-told_by_lem tell done refused (Refused why) d r = r why refl
+pub told_by_lem : {A : Type 0} (tell : A → Outcome) (done : A) (refused : Refusal → A) (o : Outcome) → (o ≡ Ok tt → tell done ≡ o)
+    → ((why : Refusal) → o ≡ Err why → tell (refused why) ≡ o) → tell (if_done o done refused) ≡ o
+told_by_lem tell done refused (Ok tt) d r = d refl
+told_by_lem tell done refused (Err why) d r = r why refl
 
 pub rule_told : (table : List ℤ) (b : Board) (bytes : List ℕ) → (ruled table b bytes).outcome ≡ first_fault (rule_faults table b bytes)
 unfolding ruled
@@ -45,21 +45,21 @@ rule_place table b bytes = go (first_fault (rule_faults table b bytes)) refl
   where
     go : (o : Outcome) → first_fault (rule_faults table b bytes) ≡ o
         → (ruled table b bytes).place ≡ place_told (ruled table b bytes).outcome (whole_of b.symbols bytes)
-    go Done e = rw e
-    go (Refused why) e = rw e
+    go (Ok tt) e = rw e
+    go (Err why) e = rw e
 
 -- 0 is the number of a call that is done and of no other
-pub done_alone : (o : Outcome) → number_in o ≡ 0 → o ≡ Done
-done_alone Done e = refl
-done_alone (Refused why) e = let some = number_some why in absurd (omega arith)
+pub done_alone : (o : Outcome) → number_in o ≡ 0 → o ≡ Ok tt
+done_alone (Ok tt) e = refl
+done_alone (Err why) e = let some = number_some why in absurd (omega arith)
 
 -- where a call is done, no fault is given
-pub none_given : (faults : List Fault) → first_fault faults ≡ Done → (i : ℕ) → get_or (map (λ f. f.given) faults) i false ≡ false
+pub none_given : (faults : List Fault) → first_fault faults ≡ Ok tt → (i : ℕ) → get_or (map (λ f. f.given) faults) i false ≡ false
 none_given [] e i = refl
 none_given (f ∷ faults) e i = go f.given refl e i (λ h j. none_given faults h j)
   where
-    go : (t : Bool) → f.given ≡ t → cond t (Refused f.refusal) (first_fault faults) ≡ Done → (i : ℕ)
-        → (first_fault faults ≡ Done → (j : ℕ) → get_or (map (λ f. f.given) faults) j false ≡ false)
+    go : (t : Bool) → f.given ≡ t → cond t (Err f.refusal) (first_fault faults) ≡ Ok tt → (i : ℕ)
+        → (first_fault faults ≡ Ok tt → (j : ℕ) → get_or (map (λ f. f.given) faults) j false ≡ false)
         → get_or (map (λ f. f.given) (f ∷ faults)) i false ≡ false
     go true g e i rest = refused_not_done e
     go false g e zero rest = g
@@ -80,6 +80,6 @@ never_answered number [] some w e = omega arith
 never_answered number (f ∷ fs) some w e = go f.given w.0 (never_answered number fs some w.1) e
   where
     go : (g : Bool) → (g ≡ true → number_of f.refusal ≢ number) → number_in (first_fault fs) ≢ number
-        → number_in (cond g (Refused f.refusal) (first_fault fs)) ≡ number → ⊥
+        → number_in (cond g (Err f.refusal) (first_fault fs)) ≡ number → ⊥
     go true here later e = here refl e
     go false here later e = later e

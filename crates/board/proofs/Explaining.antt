@@ -15,8 +15,8 @@ use Rattle.board.specs.Furnaces.{held_by}
 use Rattle.board.specs.Ranking.{rows_on, derived_on, rank_on, support_on}
 use Rattle.board.specs.Asking.{explain_faults, explain_numbers, explain_part}
 use Rattle.board.specs.declared.Board.{Board}
-use Rattle.board.specs.declared.Outcome.{Outcome}
-use Rattle.board.specs.declared.Outcome.TheVariants.{Done, Refused}
+use Rattle.board.specs.Faults.{Outcome}
+use Rattle.std.specs.Prelude.{Ok, Err}
 use Rattle.board.proofs.Goodness.{Good, good_is}
 use Rattle.board.proofs.Answered.{none_given}
 use Rattle.literals.proofs.Arguments.{place_fits}
@@ -30,16 +30,16 @@ module _ (table : List ℤ) (b : Board) (furnace : ℕ) (l : ℤ) where
     where
       go : (o : Outcome) → first_fault (explain_faults table b furnace l) ≡ o
           → (explain_numbers table b furnace l).outcome ≡ first_fault (explain_faults table b furnace l)
-      go Done e = rw e
-      go (Refused why) e = rw e
+      go (Ok tt) e = rw e
+      go (Err why) e = rw e
 
-  pub nothing_shown : {why : Refusal} → (explain_numbers table b furnace l).outcome ≡ Refused why
+  pub nothing_shown : {why : Refusal} → (explain_numbers table b furnace l).outcome ≡ Err why
       → explain_part table b furnace l ≡ record { start = 0; stop = 0 }
   unfolding explain_part
   nothing_shown e = rw (sym outcome_is ∙ e)
 
-  module _ (e : (explain_numbers table b furnace l).outcome ≡ Done) where
-    done : first_fault (explain_faults table b furnace l) ≡ Done
+  module _ (e : (explain_numbers table b furnace l).outcome ≡ Ok tt) where
+    done : first_fault (explain_faults table b furnace l) ≡ Ok tt
     done = sym outcome_is ∙ e
 
     row_is : (explain_numbers table b furnace l).row ≡ support_on table b furnace (place_of l)

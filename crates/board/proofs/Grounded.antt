@@ -16,7 +16,7 @@ use Rattle.board.specs.Furnaces.{held_by}
 use Rattle.board.specs.Ranking.{rows_on}
 use Rattle.board.specs.Grounds.{byte_of, ground_outcome, ground_marks, blame_outcome, blame_marks}
 use Rattle.board.specs.declared.Board.{Board}
-use Rattle.board.specs.declared.Outcome.TheVariants.{Done, Refused}
+use Rattle.std.specs.Prelude.{Ok, Err}
 
 -- ---- marks as bytes
 
@@ -62,30 +62,30 @@ module _ (table : List ℤ) (b : Board) (furnace : ℕ) (marks : List ℕ) where
   -- ---- ground
 
   module _ (l : ℤ) where
-    pub ground_refused : (why : Refusal) → ground_outcome table b furnace l marks ≡ Refused why
-        → (Refused why ≡ ground_outcome table b furnace l marks) × (marks ≡ ground_marks table b furnace l marks)
+    pub ground_refused : (why : Refusal) → ground_outcome table b furnace l marks ≡ Err why
+        → (Err why ≡ ground_outcome table b furnace l marks) × (marks ≡ ground_marks table b furnace l marks)
     unfolding ground_marks
     ground_refused why e = (sym e, rw e)
 
     pub ground_done : (p : ℕ) {marked : List Bool} {after : List ℕ} → p ≡ place_of l → p < 2 * b.symbols
-        → ground_outcome table b furnace l marks ≡ Done
+        → ground_outcome table b furnace l marks ≡ Ok tt
         → marked ≡ reached_asked (2 * b.symbols) (rows_on table b) (held_by b furnace) p → after ≡ map byte_of marked ++ drop (length marked) marks
-        → (Done ≡ ground_outcome table b furnace l marks) × (after ≡ ground_marks table b furnace l marks)
+        → ((Ok tt) ≡ ground_outcome table b furnace l marks) × (after ≡ ground_marks table b furnace l marks)
     unfolding ground_marks
     ground_done p at low e reached is = (sym e, rw (e, ← at) (written (reached ∙ asked_ground (2 * b.symbols) rows (held_by b furnace) p low) is))
 
   -- ---- blame
 
-  pub blame_refused : (why : Refusal) → blame_outcome table b furnace marks ≡ Refused why
-      → (Refused why ≡ blame_outcome table b furnace marks) × (marks ≡ blame_marks table b furnace marks)
+  pub blame_refused : (why : Refusal) → blame_outcome table b furnace marks ≡ Err why
+      → (Err why ≡ blame_outcome table b furnace marks) × (marks ≡ blame_marks table b furnace marks)
   unfolding blame_marks
   blame_refused why e = (sym e, rw e)
 
   pub blame_done : (p : ℕ) {marked : List Bool} {after : List ℕ} → 2 * b.symbols < none → 2 * b.symbols ≤ p
       → (first (clash_in (ranks_of (2 * b.symbols) (rows_on table b) (held_by b furnace))) b.symbols ≡ none → ⊥)
-      → blame_outcome table b furnace marks ≡ Done
+      → blame_outcome table b furnace marks ≡ Ok tt
       → marked ≡ reached_asked (2 * b.symbols) (rows_on table b) (held_by b furnace) p → after ≡ map byte_of marked ++ drop (length marked) marks
-      → (Done ≡ blame_outcome table b furnace marks) × (after ≡ blame_marks table b furnace marks)
+      → ((Ok tt) ≡ blame_outcome table b furnace marks) × (after ≡ blame_marks table b furnace marks)
   unfolding blame_marks
   blame_done p small high some e reached is =
       (sym e, rw e (written (reached ∙ asked_blame b.symbols rows (held_by b furnace) p small high some) is))

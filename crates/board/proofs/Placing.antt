@@ -8,9 +8,8 @@ use Rattle.board.specs.Furnaces.{is_furnace}
 use Rattle.board.specs.Faults.{good_board, Fault, first_fault}
 use Rattle.board.specs.Placing.{placed}
 use Rattle.board.specs.declared.Board.{Board}
-use Rattle.board.specs.declared.Outcome.TheVariants.{Refused}
+use Rattle.std.specs.Prelude.{Ok, Err}
 use Rattle.board.specs.declared.testing.Placed.{Placed}
-use Rattle.board.specs.declared.testing.Placed.TheVariants as placing
 use Rattle.board.proofs.Goodness.{Good, good_is}
 use Rattle.literals.proofs.Arguments.{place_fits}
 
@@ -36,15 +35,15 @@ module _ (table : List ℤ) (b : Board) (furnace : ℕ) {l : ℤ} (f : SFits w16
   -- what is placed where the three tests come out so
   abbrev placed_if : (good furnace range : Bool) → Placed
   placed_if g h i =
-      cond g (cond h (cond i (placing.At (place_of l)) (placing.Refused BadLiteral)) (placing.Refused BadFurnace)) (placing.Refused BadBoard)
+      cond g (cond h (cond i (Ok (place_of l)) (Err BadLiteral)) (Err BadFurnace)) (Err BadBoard)
 
-  pub placed_at : {p : ℕ} → answer ≡ placing.At p → PlacedAt table b furnace l p
+  pub placed_at : {p : ℕ} → answer ≡ Ok p → PlacedAt table b furnace l p
   unfolding placed
   placed_at {p} e =
       go (good_board table b) (is_furnace furnace) (in_range b.symbols l) refl refl refl (sym (is ∙ ap (placed table b furnace) (to_z-of_z f)) ∙ e)
     where
       go : (g h i : Bool) → good_board table b ≡ g → is_furnace furnace ≡ h → in_range b.symbols l ≡ i
-          → placed_if g h i ≡ placing.At p
+          → placed_if g h i ≡ Ok p
           → PlacedAt table b furnace l p
       go true true true g h i e =
           let same : p ≡ place_of l = cc in
@@ -60,15 +59,15 @@ module _ (table : List ℤ) (b : Board) (furnace : ℕ) {l : ℤ} (f : SFits w16
       go true false k g h i e = let z : ◌≡◌ {A = ℕ} 0 1 = cc in absurd (omega arith)
       go false j k g h i e = let z : ◌≡◌ {A = ℕ} 0 1 = cc in absurd (omega arith)
 
-  pub placed_refused : {why : Refusal} → answer ≡ placing.Refused why → (own : List Fault)
-      → first_fault (literal_faults table b furnace l own) ≡ Refused why
+  pub placed_refused : {why : Refusal} → answer ≡ Err why → (own : List Fault)
+      → first_fault (literal_faults table b furnace l own) ≡ Err why
   unfolding placed
   placed_refused {why} e own =
       go (good_board table b) (is_furnace furnace) (in_range b.symbols l) (sym (is ∙ ap (placed table b furnace) (to_z-of_z f)) ∙ e)
     where
       go : (g h i : Bool)
-          → placed_if g h i ≡ placing.Refused why
-          → cond (not g) (Refused BadBoard) (cond (not h) (Refused BadFurnace) (cond (not i) (Refused BadLiteral) (first_fault own))) ≡ Refused why
+          → placed_if g h i ≡ Err why
+          → cond (not g) (Err BadBoard) (cond (not h) (Err BadFurnace) (cond (not i) (Err BadLiteral) (first_fault own))) ≡ Err why
       go true true true e = let z : ◌≡◌ {A = ℕ} 0 1 = cc in absurd (omega arith)
       go true true false e = cc
       go true false i e = cc

@@ -13,8 +13,8 @@ use Rattle.board.specs.Faults.{good_board}
 use Rattle.board.specs.Ranking.{rows_on}
 use Rattle.board.specs.Settling.{settle_faults, settle_outcome, settled_labels, settled_ranks, settled_supports, RanksBounded}
 use Rattle.board.specs.declared.Board.{Board}
-use Rattle.board.specs.declared.Outcome.{Outcome}
-use Rattle.board.specs.declared.Outcome.TheVariants.{Done, Refused}
+use Rattle.board.specs.Faults.{Outcome}
+use Rattle.std.specs.Prelude.{Ok, Err}
 use Rattle.board.proofs.Goodness.{good_is}
 use Rattle.board.proofs.Answered.{refused_not_done, none_given}
 use Rattle.board.proofs.Lending.{length_supports_of}
@@ -26,10 +26,10 @@ module _ (table : List ℤ) (b : Board) (furnace : ℕ) (labels ranks supports :
       (o ≡ settle_outcome table b furnace labels ranks supports)
       × ((l ≡ settled_labels table b furnace labels ranks supports)
       × ((r ≡ settled_ranks table b furnace labels ranks supports)
-      × ((s ≡ settled_supports table b furnace labels ranks supports) × (o ≡ Done → RanksBounded b.symbols r))))
+      × ((s ≡ settled_supports table b furnace labels ranks supports) × (o ≡ Ok tt → RanksBounded b.symbols r))))
 
-  pub settle_refused : (why : Refusal) → settle_outcome table b furnace labels ranks supports ≡ Refused why
-      → Settled (Refused why) labels ranks supports
+  pub settle_refused : (why : Refusal) → settle_outcome table b furnace labels ranks supports ≡ Err why
+      → Settled (Err why) labels ranks supports
   unfolding settled_labels settled_ranks settled_supports
   settle_refused why e = (sym e, (rw e, (rw e, (rw e, λ done. refused_not_done done))))
 
@@ -37,7 +37,7 @@ module _ (table : List ℤ) (b : Board) (furnace : ℕ) (labels ranks supports :
   rows = rows_on table b
 
   -- no rank written is above 2S
-  pub ranks_bounded : settle_outcome table b furnace labels ranks supports ≡ Done
+  pub ranks_bounded : settle_outcome table b furnace labels ranks supports ≡ Ok tt
       → RanksBounded b.symbols (settled_ranks table b furnace labels ranks supports)
   unfolding settle_outcome settle_faults settled_ranks
   ranks_bounded e p h =
@@ -54,10 +54,10 @@ module _ (table : List ℤ) (b : Board) (furnace : ℕ) (labels ranks supports :
   length_labels = length_tabulate b.symbols _
 
   -- what is written, over the front of each table
-  pub settle_done : {l r s : List ℕ} → 2 * b.symbols < none → settle_outcome table b furnace labels ranks supports ≡ Done
+  pub settle_done : {l r s : List ℕ} → 2 * b.symbols < none → settle_outcome table b furnace labels ranks supports ≡ Ok tt
       → l ≡ labels_from b.symbols (ranks_of (2 * b.symbols) rows (held_by b furnace)) → r ≡ ranks_of (2 * b.symbols) rows (held_by b furnace)
       → s ≡ supports_of (2 * b.symbols) rows (held_by b furnace)
-      → Settled Done (l ++ drop b.symbols labels) (r ++ drop (2 * b.symbols) ranks) (s ++ drop (2 * b.symbols) supports)
+      → Settled (Ok tt) (l ++ drop b.symbols labels) (r ++ drop (2 * b.symbols) ranks) (s ++ drop (2 * b.symbols) supports)
   unfolding settled_labels settled_ranks settled_supports
   settle_done {r = r} small e el er es =
       let are : r ++ drop (2 * b.symbols) ranks ≡ settled_ranks table b furnace labels ranks supports =

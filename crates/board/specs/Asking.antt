@@ -11,7 +11,8 @@ use Rattle.board.specs.Faults.{good_board, Fault, first_fault, if_done}
 use Rattle.board.specs.Ranking.{derived_on, rank_on, support_on}
 use Rattle.board.specs.declared.Board.{Board}
 use Rattle.board.specs.declared.asking.Standing.{Standing}
-use Rattle.board.specs.declared.asking.Standing.TheVariants.{Conflict, Stands, RuledOut, Open, Refused}
+use Rattle.board.specs.declared.asking.Standing.TheVariants.{Conflict, Stands, RuledOut, Open}
+use Rattle.std.specs.Prelude.{Err}
 use Rattle.board.specs.declared.asking.Reason.{Reason}
 
 -- ---- Ask. Here and in what follows, what is derived is so for the furnace that is named (02, Ticket 6).
@@ -34,14 +35,14 @@ abbrev pub standing : List Bool → ℕ → Standing
 standing known p = standing_if (has known p && has known (opp p)) (has known p) (has known (opp p))
 
 unfoldable pub asked : List ℤ → Board → (furnace : ℕ) → ℤ → Standing
-asked table b furnace l = if_done (first_fault (ask_faults table b furnace l)) (standing (derived_on table b furnace) (place_of l)) Refused
+asked table b furnace l = if_done (first_fault (ask_faults table b furnace l)) (standing (derived_on table b furnace) (place_of l)) Err
 
 -- "The old answer stays as a second call": 01, "conflict, if the board is in conflict; else .."
 abbrev pub standing_whole : List Bool → ℕ → Standing
 standing_whole known p = standing_if (conflict known) (has known p) (has known (opp p))
 
 unfoldable pub asked_whole : List ℤ → Board → (furnace : ℕ) → ℤ → Standing
-asked_whole table b furnace l = if_done (first_fault (ask_faults table b furnace l)) (standing_whole (derived_on table b furnace) (place_of l)) Refused
+asked_whole table b furnace l = if_done (first_fault (ask_faults table b furnace l)) (standing_whole (derived_on table b furnace) (place_of l)) Err
 
 -- ---- "Explain returns the supporting row as that part of the caller's table, its literals without the zeros, with rank and row number."
 -- 02, Ticket 8: it "returns the rule's number besides the literals, 0 when refused"

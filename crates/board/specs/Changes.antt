@@ -10,7 +10,7 @@ use Rattle.board.specs.Furnaces.{is_furnace, held_by, with_held}
 use Rattle.board.specs.Faults.{good_board, Fault, first_fault, if_done}
 use Rattle.board.specs.declared.Board.{Board}
 use Rattle.board.specs.declared.Change.{Change}
-use Rattle.board.specs.declared.Outcome.{Outcome}
+use Rattle.board.specs.Faults.{Outcome}
 
 -- what open, hold and withdraw answer: the board so changed, or as given
 abbrev pub changed : Outcome → Board → Board → Change

@@ -5,8 +5,8 @@ use Rattle.literals.specs.Row.{most_rules, rows_lent, rows_sound}
 use Rattle.literals.specs.Refusals.{number_of}
 use Rattle.literals.specs.declared.refusal.Refusal.{Refusal}
 use Rattle.board.specs.declared.Board.{Board}
-use Rattle.board.specs.declared.Outcome.{Outcome}
-use Rattle.board.specs.declared.Outcome.TheVariants.{Done, Refused}
+use Rattle.board.specs.Faults.{Outcome}
+use Rattle.std.specs.Prelude.{Ok, Err}
 
 -- "a held premise is of a symbol beyond S"
 abbrev pub beyond : ℕ → List Bool → Bool
@@ -33,13 +33,13 @@ pub record Fault : Type 0 where
 
 -- the first case that is given; where none is, the call is done
 abbrev pub first_fault : List Fault → Outcome
-first_fault [] = Done
-first_fault (f ∷ fs) = cond f.given (Refused f.refusal) (first_fault fs)
+first_fault [] = (Ok tt)
+first_fault (f ∷ fs) = cond f.given (Err f.refusal) (first_fault fs)
 
 -- what a call answers: this if it is done, and otherwise that
 abbrev pub if_done : {A : Type 0} → Outcome → A → (Refusal → A) → A
-if_done Done good refused = good
-if_done (Refused why) good refused = refused why
+if_done (Ok tt) good refused = good
+if_done (Err why) good refused = refused why
 
 -- the number that a call answers by: 0 for a call that is done, else the refusal's in 01's table
 abbrev pub number_in : Outcome → ℕ

@@ -9,7 +9,7 @@ use Rattle.board.specs.Faults.{good_board, Fault, first_fault}
 use Rattle.board.specs.Settling.{over}
 use Rattle.board.specs.Ranking.{rows_on, derived_on}
 use Rattle.board.specs.declared.Board.{Board}
-use Rattle.board.specs.declared.Outcome.{Outcome}
+use Rattle.board.specs.Faults.{Outcome}
 
 -- a premise that is reached as a byte
 abbrev pub byte_of : Bool → ℕ

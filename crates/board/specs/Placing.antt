@@ -6,10 +6,10 @@ use Rattle.board.specs.Furnaces.{is_furnace}
 use Rattle.board.specs.Faults.{good_board}
 use Rattle.board.specs.declared.Board.{Board}
 use Rattle.board.specs.declared.testing.Placed.{Placed}
-use Rattle.board.specs.declared.testing.Placed.TheVariants.{At, Refused}
+use Rattle.std.specs.Prelude.{Ok, Err}
 
 unfoldable pub placed : List ℤ → Board → (furnace : ℕ) → ℤ → Placed
 placed table b furnace l =
     cond (good_board table b)
-    (cond (is_furnace furnace) (cond (in_range b.symbols l) (At (place_of l)) (Refused BadLiteral)) (Refused BadFurnace))
-    (Refused BadBoard)
+    (cond (is_furnace furnace) (cond (in_range b.symbols l) (Ok (place_of l)) (Err BadLiteral)) (Err BadFurnace))
+    (Err BadBoard)

@@ -11,7 +11,7 @@ use Rattle.formula.specs.Answers.{is_good, formula_of}
 use Rattle.implicates.specs.Appending.{fits, appended}
 use Rattle.board.specs.Faults.{good_board, Fault, first_fault, if_done, number_in}
 use Rattle.board.specs.declared.Board.{Board}
-use Rattle.board.specs.declared.Outcome.{Outcome}
+use Rattle.board.specs.Faults.{Outcome}
 use Rattle.board.specs.declared.rules.Addition.{Addition}
 
 -- why bytes are no formula (asked only of those that are none)

@@ -7,7 +7,7 @@ use Rattle.board.specs.Furnaces.{is_furnace, held_by}
 use Rattle.board.specs.Faults.{good_board, Fault, first_fault, if_done}
 use Rattle.board.specs.Ranking.{rows_on}
 use Rattle.board.specs.declared.Board.{Board}
-use Rattle.board.specs.declared.Outcome.{Outcome}
+use Rattle.board.specs.Faults.{Outcome}
 
 -- `labels`, `ranks` and `supports` are how many places are lent
 unfoldable pub settle_faults : List ℤ → Board → (furnace : ℕ) → (labels ranks supports : ℕ) → List Fault

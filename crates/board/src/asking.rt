@@ -79,8 +79,8 @@ fn answer(board: Board, table: &[i16], furnace: u8, l: i16, whole: bool) -> Stan
     ensures { result ≡ cond whole (asked_whole table.now board furnace l) (asked table.now board furnace l) }
 {
     match place_on(board, table, furnace, l) {
-        Placed::Refused(why) => Standing::Refused(why),
-        Placed::At(_) => {
+        Err(why) => Err(why),
+        Ok(_) => {
             let places = 2 * board.symbols;
             let held = premises(&board.first, &board.second, furnace);
             let mut ranks = [NONE; 400];
@@ -113,10 +113,10 @@ pub fn ask_whole(board: Board, table: &[i16], furnace: u8, l: i16) -> Standing
 }
 
 fn unexplained(why: Refusal) -> Reason
-    ensures { result ≡ record { outcome = Outcome.Refused why; rank = none; row = none; rule = 0 } }
+    ensures { result ≡ record { outcome = Err why; rank = none; row = none; rule = 0 } }
 {
     Reason {
-        outcome: Outcome::Refused(why),
+        outcome: Err(why),
         rank: NONE,
         row: NONE,
         rule: 0,
@@ -128,8 +128,8 @@ pub fn explain_numbers(board: Board, table: &[i16], furnace: u8, l: i16) -> Reas
     ensures { result ≡ explain_numbers table.now board furnace l }
 {
     match place_on(board, table, furnace, l) {
-        Placed::Refused(why) => unexplained(why),
-        Placed::At(p) => {
+        Err(why) => unexplained(why),
+        Ok(p) => {
             let places = 2 * board.symbols;
             let held = premises(&board.first, &board.second, furnace);
             let mut ranks = [NONE; 400];
@@ -150,7 +150,7 @@ pub fn explain_numbers(board: Board, table: &[i16], furnace: u8, l: i16) -> Reas
                 return unexplained(Refusal::NothingToShow);
             }
             Reason {
-                outcome: Outcome::Done,
+                outcome: Ok(()),
                 rank,
                 row: row[0],
                 rule: literals::rule_at(table, row[0] as usize) as u16,
@@ -166,8 +166,8 @@ pub fn explain(board: Board, table: &[i16], furnace: u8, l: i16) -> &[i16]
     let reason = explain_numbers(board, table, furnace, l);
     let outcome = reason.outcome;
     match outcome {
-        Outcome::Refused(_) => &table[0..0],
-        Outcome::Done => {
+        Err(_) => &table[0..0],
+        Ok(()) => {
             let start = WIDTH * (reason.row as usize);
             let stop = start + literals::literal_count(table, start);
             &table[start..stop]

@@ -23,10 +23,10 @@ fn empty(symbols: usize) -> Board
 }
 
 fn refused(board: Board, why: Refusal) -> Change
-    ensures { result ≡ record { outcome = Outcome.Refused why; board = board } }
+    ensures { result ≡ record { outcome = Err why; board = board } }
 {
     Change {
-        outcome: Outcome::Refused(why),
+        outcome: Err(why),
         board,
     }
 }
@@ -42,7 +42,7 @@ pub fn open(symbols: usize) -> Change
         return refused(empty(0), Refusal::BadLiteral);
     }
     Change {
-        outcome: Outcome::Done,
+        outcome: Ok(()),
         board: empty(symbols),
     }
 }
@@ -75,14 +75,14 @@ fn change_flag(
     ensures { result ≡ flag_changed table.now board furnace l flag already }
 {
     match place_on(board, table, furnace, l) {
-        Placed::Refused(why) => refused(board, why),
-        Placed::At(p) => {
+        Err(why) => refused(board, why),
+        Ok(p) => {
             let held = premises(&board.first, &board.second, furnace);
             if held[p] == flag {
                 return refused(board, already);
             }
             Change {
-                outcome: Outcome::Done,
+                outcome: Ok(()),
                 board: with_flag(board, furnace, p, flag),
             }
         }

@@ -28,11 +28,11 @@ pub fn ground(board: Board, table: &[i16], furnace: u8, l: i16, marks: &mut [u8]
     ensures marks_after { marks.new ≡ ground_marks table.now board furnace l marks.old }
 {
     match place_on(board, table, furnace, l) {
-        Placed::Refused(why) => Outcome::Refused(why),
-        Placed::At(p) => {
+        Err(why) => Err(why),
+        Ok(p) => {
             let places = 2 * board.symbols;
             if marks.len() < places {
-                return Outcome::Refused(Refusal::TableTooShort);
+                return Err(Refusal::TableTooShort);
             }
             let held = premises(&board.first, &board.second, furnace);
             let mut ranks = [NONE; 400];
@@ -46,10 +46,10 @@ pub fn ground(board: Board, table: &[i16], furnace: u8, l: i16, marks: &mut [u8]
                 &mut reached[..places],
             );
             if ranks[p] == NONE {
-                return Outcome::Refused(Refusal::NothingToShow);
+                return Err(Refusal::NothingToShow);
             }
             write_marks(&reached[..places], marks);
-            Outcome::Done
+            Ok(())
         }
     }
 }
@@ -60,14 +60,14 @@ pub fn blame(board: Board, table: &[i16], furnace: u8, marks: &mut [u8]) -> Outc
     ensures marks_after { marks.new ≡ blame_marks table.now board furnace marks.old }
 {
     if !good(board, table) {
-        return Outcome::Refused(Refusal::BadBoard);
+        return Err(Refusal::BadBoard);
     }
     if !is_furnace(furnace) {
-        return Outcome::Refused(Refusal::BadFurnace);
+        return Err(Refusal::BadFurnace);
     }
     let places = 2 * board.symbols;
     if marks.len() < places {
-        return Outcome::Refused(Refusal::TableTooShort);
+        return Err(Refusal::TableTooShort);
     }
     let held = premises(&board.first, &board.second, furnace);
     let mut ranks = [NONE; 400];
@@ -81,8 +81,8 @@ pub fn blame(board: Board, table: &[i16], furnace: u8, marks: &mut [u8]) -> Outc
         &mut reached[..places],
     );
     if findings::labels::first_clash(&ranks[..places]) == NONE as usize {
-        return Outcome::Refused(Refusal::NothingToShow);
+        return Err(Refusal::NothingToShow);
     }
     write_marks(&reached[..places], marks);
-    Outcome::Done
+    Ok(())
 }

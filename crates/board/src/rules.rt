@@ -30,10 +30,10 @@ pub struct Addition {
 
 // What a rule that is refused answers.
 pub fn refused(board: Board, why: Refusal, place: usize) -> Addition
-    ensures { result ≡ record { outcome = Outcome.Refused why; place = place; added = 0; board = board } }
+    ensures { result ≡ record { outcome = Err why; place = place; added = 0; board = board } }
 {
     Addition {
-        outcome: Outcome::Refused(why),
+        outcome: Err(why),
         place,
         added: 0,
         board,
@@ -84,14 +84,14 @@ fn add_formula(board: Board, table: &mut [i16], bytes: &[u8]) -> Addition
         board.symbols,
         &list[..count],
     ) {
-        Appended::Unsatisfiable => refused(board, Refusal::NoAssignment, NO_PLACE),
-        Appended::Full => refused(board, Refusal::TableFull, NO_PLACE),
-        Appended::Rows(added) => {
+        Err(Refusal::NoAssignment) => refused(board, Refusal::NoAssignment, NO_PLACE),
+        Err(Refusal::TableFull) => refused(board, Refusal::TableFull, NO_PLACE),
+        Ok(added) => {
             let mut next = board;
             next.rows = board.rows + added;
             next.rules = board.rules + 1;
             Addition {
-                outcome: Outcome::Done,
+                outcome: Ok(()),
                 place: NO_PLACE,
                 added,
                 board: next,
@@ -109,7 +109,7 @@ pub fn add_rule(board: Board, table: &mut [i16], bytes: &[u8]) -> Addition
         return refused(board, Refusal::BadBoard, NO_PLACE);
     }
     match formula::reading::read_whole(bytes, board.symbols) {
-        Answer::Refused(why, place) => refused(board, why, place),
-        Answer::Used(_) => add_formula(board, table, bytes),
+        Err(Break { why, place }) => refused(board, why, place),
+        Ok(_) => add_formula(board, table, bytes),
     }
 }

@@ -25,18 +25,18 @@ pub fn settle(
         settled_ranks table.now board furnace labels.old ranks.old supports.old }
     ensures supports_after { supports.new ≡
         settled_supports table.now board furnace labels.old ranks.old supports.old }
-    ensures ranks_bounded { result ≡ Outcome.Done → RanksBounded board.symbols ranks.new }
+    ensures ranks_bounded { result ≡ Ok tt → RanksBounded board.symbols ranks.new }
 {
     if !good(board, table) {
-        return Outcome::Refused(Refusal::BadBoard);
+        return Err(Refusal::BadBoard);
     }
     if !is_furnace(furnace) {
-        return Outcome::Refused(Refusal::BadFurnace);
+        return Err(Refusal::BadFurnace);
     }
     let symbols = board.symbols;
     let places = 2 * symbols;
     if labels.len() < symbols || ranks.len() < places || supports.len() < places {
-        return Outcome::Refused(Refusal::TableTooShort);
+        return Err(Refusal::TableTooShort);
     }
     let held = premises(&board.first, &board.second, furnace);
     rounds::propagation::propagate(
@@ -48,5 +48,5 @@ pub fn settle(
         &mut supports[..places],
     );
     findings::labels::write_labels(&ranks[..places], &mut labels[..symbols]);
-    Outcome::Done
+    Ok(())
 }

@@ -70,13 +70,13 @@ pub fn place_on(board: Board, table: &[i16], furnace: u8, l: i16) -> Placed
     ensures { result ≡ placed table.now board furnace l }
 {
     if !good(board, table) {
-        return Placed::Refused(Refusal::BadBoard);
+        return Err(Refusal::BadBoard);
     }
     if !is_furnace(furnace) {
-        return Placed::Refused(Refusal::BadFurnace);
+        return Err(Refusal::BadFurnace);
     }
     if !literals::in_range(l, board.symbols) {
-        return Placed::Refused(Refusal::BadLiteral);
+        return Err(Refusal::BadLiteral);
     }
-    Placed::At(literals::place(l))
+    Ok(literals::place(l))
 }

@@ -35,10 +35,10 @@ pub fn added(
     let outcome = told.outcome;
     let next = told.board;
     match outcome {
-        Outcome::Refused(why) => {
+        Err(why) => {
             printing::rule_refused(rt, why, told.place, places == 0 && same_board(before, next))
         }
-        Outcome::Done => {
+        Ok(()) => {
             printing::appended(rt, table, before.rows, told.added)?;
             counted(rt, b", changed", places)?;
             printing::board(rt, next)
@@ -83,8 +83,8 @@ fn change(rt: &impl Print, before: Board, told: Change) -> io::Result<()> {
     let outcome = told.outcome;
     let next = told.board;
     match outcome {
-        Outcome::Refused(why) => printing::refused_with(rt, why, same_board(before, next)),
-        Outcome::Done => printing::board(rt, next),
+        Err(why) => printing::refused_with(rt, why, same_board(before, next)),
+        Ok(()) => printing::board(rt, next),
     }
 }
 
@@ -161,14 +161,14 @@ fn settled(
 ) -> io::Result<()> {
     let n = written_bytes(labels);
     match told {
-        Outcome::Done => {
+        Ok(()) => {
             if n < 200 {
                 tables(rt, labels, ranks, supports)
             } else {
                 summary(rt, labels, ranks, supports)
             }
         }
-        Outcome::Refused(why) => {
+        Err(why) => {
             let m = written_words(ranks);
             printing::refused_with(rt, why, n == 0 && m == 0 && written_words(supports) == 0)
         }
@@ -238,7 +238,7 @@ fn standing(rt: &impl Print, s: Standing) -> io::Result<()> {
         Standing::Stands => text(rt, b" stands"),
         Standing::RuledOut => text(rt, b" out"),
         Standing::Open => text(rt, b" open"),
-        Standing::Refused(why) => printing::refused(rt, why),
+        Err(why) => printing::refused(rt, why),
     }
 }
 
@@ -280,14 +280,14 @@ pub fn explain(
 fn marked(rt: &impl Print, told: Outcome, marks: &[u8]) -> io::Result<()> {
     let n = written_bytes(marks);
     match told {
-        Outcome::Done => {
+        Ok(()) => {
             if n < 400 {
                 printing::bytes(rt, marks, n)
             } else {
                 counted(rt, b" marked", counting::bytes(marks, 1))
             }
         }
-        Outcome::Refused(why) => printing::refused_with(rt, why, n == 0),
+        Err(why) => printing::refused_with(rt, why, n == 0),
     }
 }
 

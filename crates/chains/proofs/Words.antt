@@ -6,7 +6,7 @@ pub use Rattle.formula.specs.declared.reading.Join.TheVariants.{And, Or, Implies
 pub use Rattle.formula.specs.declared.reading.Kind.{Kind}
 pub use Rattle.formula.specs.declared.reading.Kind.TheVariants.{Symbol, Not, Two, Unknown}
 pub use Rattle.formula.specs.declared.reading.Answer.{Answer}
-pub use Rattle.formula.specs.declared.reading.Answer.TheVariants.{Used, Refused}
+pub use Rattle.std.specs.Prelude.{Ok, Err}
 unfoldable pub use Rattle.formula.proofs.Words.{whole_of, parse, body_of, symbol_at, second_of, bytes_of}
 pub use Rattle.literals.specs.declared.refusal.Refusal.TheVariants.{BadText}
 pub use Rattle.chains.specs.Signs.{belongs, start_of, goes_on, joined_by}

@@ -83,8 +83,8 @@ fn mark(text: &[u8], brackets: usize) -> u8
     ensures { result ≡ mark_at brackets text.now }
 {
     match unit(text, brackets) {
-        Answer::Refused(_, _) => 0,
-        Answer::Used(count) => { if count < text.len() { text[count] } else { 0 } }
+        Err(_) => 0,
+        Ok(count) => { if count < text.len() { text[count] } else { 0 } }
     }
 }
 
@@ -97,10 +97,10 @@ fn joins(text: &[u8], brackets: usize) -> usize
     let mut n = 0;
     loop {
         match unit(&text[at..], brackets) {
-            Answer::Refused(_, _) => {
+            Err(_) => {
                 return n;
             }
-            Answer::Used(count) => {
+            Ok(count) => {
                 at += count;
             }
         }
@@ -166,10 +166,10 @@ fn write_units(text: &[u8], brackets: usize, out: &mut [u8], start: usize) -> us
     loop {
         to = write_unit(&text[at..], brackets, out, to);
         match unit(&text[at..], brackets) {
-            Answer::Refused(_, _) => {
+            Err(_) => {
                 return to;
             }
-            Answer::Used(count) => {
+            Ok(count) => {
                 at += count;
             }
         }

@@ -27,15 +27,15 @@ fn closed(inner: &[u8], answer: Answer) -> Answer
     ensures { result ≡ closed_answer inner.now answer }
 {
     match answer {
-        Answer::Refused(why, place) => Answer::Refused(why, place),
-        Answer::Used(count) => {
+        Err(Break { why, place }) => Err(Break { why: why, place: place }),
+        Ok(count) => {
             if count == inner.len() {
-                return Answer::Refused(Refusal::BadText, count);
+                return Err(Break { why: Refusal::BadText, place: count });
             }
             if inner[count] != b')' {
-                return Answer::Refused(Refusal::BadText, count);
+                return Err(Break { why: Refusal::BadText, place: count });
             }
-            Answer::Used(count + 1 + run(&inner[count + 1..], Class::Blank))
+            Ok(count + 1 + run(&inner[count + 1..], Class::Blank))
         }
     }
 }
@@ -48,15 +48,15 @@ pub fn unit(text: &[u8], brackets: usize) -> Answer
     let skipped = run(text, Class::Denial);
     let body = &text[skipped..];
     match start_of(body) {
-        Start::Digits => Answer::Used(skipped + number(body)),
+        Start::Digits => Ok(skipped + number(body)),
         Start::Bracket => {
             if brackets == 0 {
-                return Answer::Refused(Refusal::BadText, skipped);
+                return Err(Break { why: Refusal::BadText, place: skipped });
             }
             let inner = &body[1..];
             past_by(skipped + 1, closed(inner, chain(inner, brackets - 1)))
         }
-        Start::Neither => Answer::Refused(Refusal::BadText, skipped),
+        Start::Neither => Err(Break { why: Refusal::BadText, place: skipped }),
     }
 }
 
@@ -69,19 +69,19 @@ pub fn chain(text: &[u8], brackets: usize) -> Answer
     let mut join = 0u8;
     loop {
         match unit(&text[at..], brackets) {
-            Answer::Refused(why, place) => {
-                return Answer::Refused(why, at + place);
+            Err(Break { why, place }) => {
+                return Err(Break { why: why, place: at + place });
             }
-            Answer::Used(count) => {
+            Ok(count) => {
                 at += count;
             }
         }
         if at == text.len() {
-            return Answer::Used(at);
+            return Ok(at);
         }
         let next = text[at];
         if !goes_on(join, next) {
-            return Answer::Used(at);
+            return Ok(at);
         }
         join = next;
         at += 1;
@@ -93,13 +93,13 @@ pub fn read_text(text: &[u8]) -> Answer
     ensures { result ≡ read_of (whole_text text.now) }
 {
     match chain(text, MOST_OPEN) {
-        Answer::Used(count) => {
+        Ok(count) => {
             if count == text.len() {
-                Answer::Used(count)
+                Ok(count)
             } else {
-                Answer::Refused(Refusal::BadText, count)
+                Err(Break { why: Refusal::BadText, place: count })
             }
         }
-        Answer::Refused(why, place) => Answer::Refused(why, place),
+        Err(Break { why, place }) => Err(Break { why: why, place: place }),
     }
 }

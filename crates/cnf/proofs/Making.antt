@@ -5,7 +5,7 @@ use Rattle.literals.specs.declared.refusal.Refusal.TheVariants.{BadText}
 use Rattle.board.specs.Changes.{opened}
 use Rattle.board.specs.declared.Board.{Board}
 use Rattle.board.specs.declared.Change.{Change}
-use Rattle.board.specs.declared.Outcome.TheVariants.{Done, Refused}
+use Rattle.std.specs.Prelude.{Ok, Err}
 use Rattle.dimacs.specs.Form.{header_in, header_line}
 use Rattle.dimacs.specs.Reading.{read_answer, read_table}
 use Rattle.dimacs.specs.Writing.{write_answer, write_bytes}
@@ -13,25 +13,25 @@ use Rattle.dimacs.specs.declared.header.Counts.TheVariants.{Of, Broken}
 use Rattle.dimacs.specs.declared.reading.Reading.{Reading}
 use Rattle.dimacs.specs.declared.writing.Writing.{Writing}
 use Rattle.cnf.specs.Rewriting.{Made, made, read_made, rows_made}
-use Rattle.cnf.specs.declared.Rewritten.TheVariants.{Text, NoBoard, Refused as NotMade}
+use Rattle.cnf.specs.declared.Rewritten.TheVariants.{Text, NoBoard, Err as NotMade}
 
 module _ (table : List ℤ) (b : Board) (out : List ℕ) {w : Writing} {after : List ℕ}
     (w-is : w ≡ write_answer table b out) (after_is : after ≡ write_bytes table b out) where
-  pub rows_done : w.outcome ≡ Done → record { answer = Text w.bytes; out = after } ≡ rows_made table b out
+  pub rows_done : w.outcome ≡ Ok tt → record { answer = Text w.bytes; out = after } ≡ rows_made table b out
   unfolding rows_made
   rows_done e = rw (after_is, ← w-is, e)
 
-  pub rows_refused : {why : Refusal} → w.outcome ≡ Refused why → record { answer = NotMade why 0; out = after } ≡ rows_made table b out
+  pub rows_refused : {why : Refusal} → w.outcome ≡ Err why → record { answer = NotMade why 0; out = after } ≡ rows_made table b out
   unfolding rows_made
   rows_refused e = rw (after_is, ← w-is, e)
 
 module _ (table : List ℤ) (b : Board) (text out : List ℕ) {r : Reading} (r-is : r ≡ read_answer table b text) where
-  pub read_done : {m : Made} {after : List ℤ} → after ≡ read_table table b text → r.outcome ≡ Done → m ≡ rows_made after r.board out
+  pub read_done : {m : Made} {after : List ℤ} → after ≡ read_table table b text → r.outcome ≡ Ok tt → m ≡ rows_made after r.board out
       → m ≡ read_made table b text out
   unfolding read_made
   read_done after_is e m-is = m-is ∙ rw (after_is, ← r-is, e)
 
-  pub read_refused : {why : Refusal} → r.outcome ≡ Refused why → record { answer = NotMade why r.clauses; out = out } ≡ read_made table b text out
+  pub read_refused : {why : Refusal} → r.outcome ≡ Err why → record { answer = NotMade why r.clauses; out = out } ≡ read_made table b text out
   unfolding read_made
   read_refused e = rw (← r-is, e)
 
@@ -41,10 +41,10 @@ module _ (table : List ℤ) (text out : List ℕ) where
   made_broken e = rw (← e)
 
   module _ {v n : ℕ} {c : Change} (counts : Of v n ≡ header_in (header_line text)) (c-is : c ≡ opened v) where
-    pub made_on : {m : Made} → c.outcome ≡ Done → m ≡ read_made table c.board text out → m ≡ made table text out
+    pub made_on : {m : Made} → c.outcome ≡ Ok tt → m ≡ read_made table c.board text out → m ≡ made table text out
     unfolding made
     made_on e m-is = m-is ∙ rw (← counts, ← c-is, e)
 
-    pub made_none : {why : Refusal} → c.outcome ≡ Refused why → record { answer = NoBoard v; out = out } ≡ made table text out
+    pub made_none : {why : Refusal} → c.outcome ≡ Err why → record { answer = NoBoard v; out = out } ≡ made table text out
     unfolding made
     made_none e = rw (← counts, ← c-is, e)

@@ -5,8 +5,8 @@ use Rattle.board.specs.Faults.{if_done}
 use Rattle.board.specs.Changes.{opened}
 use Rattle.board.specs.Settling.{over}
 use Rattle.board.specs.declared.Board.{Board}
-use Rattle.board.specs.declared.Outcome.{Outcome}
-use Rattle.board.specs.declared.Outcome.TheVariants.{Done, Refused}
+use Rattle.board.specs.Faults.{Outcome}
+use Rattle.std.specs.Prelude.{Ok, Err}
 use Rattle.dimacs.specs.Words.{beyond}
 use Rattle.dimacs.specs.Form.{header_in, header_line}
 use Rattle.dimacs.specs.Reading.{read_answer, read_table}
@@ -16,7 +16,7 @@ use Rattle.dimacs.specs.declared.header.Counts.TheVariants.{Of, Broken}
 use Rattle.dimacs.proofs.ClauseCount.{told_few}
 use Rattle.cnf.specs.Rewriting.{Made, made, made_by, read_made, rows_made}
 use Rattle.cnf.specs.declared.Rewritten.{Rewritten}
-use Rattle.cnf.specs.declared.Rewritten.TheVariants.{Text, NoBoard, Refused as NotMade}
+use Rattle.cnf.specs.declared.Rewritten.TheVariants.{Text, NoBoard, Err as NotMade}
 
 -- a text has at most so many bytes; and few clauses are told
 abbrev pub Fits : ℕ → Rewritten → Type 0
@@ -33,13 +33,13 @@ rows_within table b out = go (write_outcome table b out)
   where
     go : (o : Outcome)
         → Fits (length (over o (text_on table b) out)) (if_done o (Text (if_done o (length (text_on table b)) (λ _. 0))) (λ why. NotMade why 0))
-    go Done = omega (arith, length-append (text_on table b) (drop (length (text_on table b)) out))
-    go (Refused why) = omega arith
+    go (Ok tt) = omega (arith, length-append (text_on table b) (drop (length (text_on table b)) out))
+    go (Err why) = omega arith
 
 -- of a call that is done and of one that is refused
 either_within : (o : Outcome) (m : Made) (other : Refusal → Made) → Within m → ((why : Refusal) → Within (other why)) → Within (if_done o m other)
-either_within Done m other done refused = done
-either_within (Refused why) m other done refused = refused why
+either_within (Ok tt) m other done refused = done
+either_within (Err why) m other done refused = refused why
 
 read_within : (table : List ℤ) (b : Board) (text out : List ℕ) → Within (read_made table b text out)
 unfolding read_made

@@ -31,8 +31,8 @@ fn write_rows(board: Board, table: &[i16], out: &mut [u8]) -> Rewritten
     let writing = dimacs::writing::write(board, table, out);
     let outcome = writing.outcome;
     match outcome {
-        Outcome::Done => Rewritten::Text(writing.bytes),
-        Outcome::Refused(why) => Rewritten::Refused(why, 0),
+        Ok(()) => Rewritten::Text(writing.bytes),
+        Err(why) => Rewritten::Refused(why, 0),
     }
 }
 
@@ -43,8 +43,8 @@ fn rewrite_on(board: Board, table: &mut [i16], text: &[u8], out: &mut [u8]) -> R
     let reading = dimacs::reading::read(board, table, text);
     let outcome = reading.outcome;
     match outcome {
-        Outcome::Done => write_rows(reading.board, table, out),
-        Outcome::Refused(why) => Rewritten::Refused(why, reading.clauses),
+        Ok(()) => write_rows(reading.board, table, out),
+        Err(why) => Rewritten::Refused(why, reading.clauses),
     }
 }
 
@@ -58,8 +58,8 @@ fn rewrite(table: &mut [i16], text: &[u8], out: &mut [u8]) -> Rewritten
             let change = board::changes::open(variables);
             let outcome = change.outcome;
             match outcome {
-                Outcome::Done => rewrite_on(change.board, table, text, out),
-                Outcome::Refused(_) => Rewritten::NoBoard(variables),
+                Ok(()) => rewrite_on(change.board, table, text, out),
+                Err(_) => Rewritten::NoBoard(variables),
             }
         }
     }

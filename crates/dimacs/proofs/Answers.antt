@@ -8,7 +8,7 @@ use Rattle.implicates.specs.Appending.{appended}
 use Rattle.board.specs.Faults.{good_board, first_fault}
 use Rattle.board.specs.Rules.{with_rules}
 use Rattle.board.specs.declared.Board.{Board}
-use Rattle.board.specs.declared.Outcome.TheVariants.{Done, Refused}
+use Rattle.std.specs.Prelude.{Ok, Err}
 use Rattle.dimacs.specs.Words.{ends, since}
 use Rattle.dimacs.specs.Form.{Parsed, good, broken, body, body_of, clauses_of, counted, header_in, header_line, is_good, parse_text, past_comments}
 use Rattle.dimacs.specs.Clauses.{clauses_faults, passed}
@@ -33,19 +33,19 @@ parsed_by text {s} {e} {counts} p q h =
 pub record Found (S used rules lent : ℕ) (p : Parsed) (found : Survey) : Type 0 where
   pub outcome : first_fault (text_faults S used rules lent p) ≡ found.outcome
   pub clauses : found.clauses ≡ passed S used rules lent (clauses_of p)
-  pub all_clauses : first_fault (text_faults S used rules lent p) ≡ Done → found.clauses ≡ length (clauses_of p)
-  pub added : first_fault (text_faults S used rules lent p) ≡ Done → found.added ≡ length (rows_of_text S p)
-  pub fits : first_fault (text_faults S used rules lent p) ≡ Done → used ≤ lent → used + found.added ≤ lent
-  pub few : first_fault (text_faults S used rules lent p) ≡ Done → rules ≤ most_rules → rules + found.clauses ≤ most_rules
+  pub all_clauses : first_fault (text_faults S used rules lent p) ≡ Ok tt → found.clauses ≡ length (clauses_of p)
+  pub added : first_fault (text_faults S used rules lent p) ≡ Ok tt → found.added ≡ length (rows_of_text S p)
+  pub fits : first_fault (text_faults S used rules lent p) ≡ Ok tt → used ≤ lent → used + found.added ≤ lent
+  pub few : first_fault (text_faults S used rules lent p) ≡ Ok tt → rules ≤ most_rules → rules + found.clauses ≤ most_rules
 
 pub found_is : (S used rules lent : ℕ) (p : Parsed) {found : Survey} → found ≡ surveyed S used rules lent p → Found S used rules lent p found
 unfolding surveyed
 found_is S used rules lent p {found} is =
-    let added_is : first_fault (text_faults S used rules lent p) ≡ Done → found.added ≡ length (rows_of_text S p) =
+    let added_is : first_fault (text_faults S used rules lent p) ≡ Ok tt → found.added ≡ length (rows_of_text S p) =
     λ done. ap (λ (f : Survey). f.added) is ∙ rw done in
-    let faultless : first_fault (text_faults S used rules lent p) ≡ Done → first_fault (clauses_faults S used rules lent (clauses_of p)) ≡ Done =
+    let faultless : first_fault (text_faults S used rules lent p) ≡ Ok tt → first_fault (clauses_faults S used rules lent (clauses_of p)) ≡ Ok tt =
     λ done. (text_done S used rules lent p done).1 in
-    let all_passed : first_fault (text_faults S used rules lent p) ≡ Done → found.clauses ≡ length (clauses_of p) =
+    let all_passed : first_fault (text_faults S used rules lent p) ≡ Ok tt → found.clauses ≡ length (clauses_of p) =
     λ done. ap (λ (f : Survey). f.clauses) is ∙ clauses_passed S used rules lent (clauses_of p) (faultless done) in
     record {
       outcome = sym (ap (λ (f : Survey). f.outcome) is);
@@ -57,7 +57,7 @@ found_is S used rules lent p {found} is =
     }
 
 -- a text without a fault has as many clauses as its header counts
-pub counted_done : (S used rules lent n : ℕ) (p : Parsed) → first_fault (text_faults S used rules lent (counted n p)) ≡ Done → counted n p ≡ p
+pub counted_done : (S used rules lent n : ℕ) (p : Parsed) → first_fault (text_faults S used rules lent (counted n p)) ≡ Ok tt → counted n p ≡ p
 counted_done S used rules lent n p e = go p (text_done S used rules lent (counted n p) e).0
   where
     by : (b : Bool) (q : Parsed) → is_good (cond b q broken) ≡ true → cond b q broken ≡ q
@@ -72,7 +72,7 @@ counted_done S used rules lent n p e = go p (text_done S used rules lent (counte
 
 module _ (table : List ℤ) (b : Board) (text : List ℕ) where
   pub read_spoilt : good_board table b ≡ false
-      → (record { outcome = Refused BadBoard; clauses = 0; added = 0; board = b } ≡ read_answer table b text) × (table ≡ read_table table b text)
+      → (record { outcome = Err BadBoard; clauses = 0; added = 0; board = b } ≡ read_answer table b text) × (table ≡ read_table table b text)
   unfolding read_answer read_table read_faults
   read_spoilt e = rw e (refl, refl)
 
@@ -81,15 +81,15 @@ module _ (table : List ℤ) (b : Board) (text : List ℕ) where
     unfolding read_faults
     faults = rw (fine, is)
 
-    pub read_refused : (why : Refusal) {clauses : ℕ} → first_fault (text_faults b.symbols b.rows b.rules (rows_lent table) p) ≡ Refused why
+    pub read_refused : (why : Refusal) {clauses : ℕ} → first_fault (text_faults b.symbols b.rows b.rules (rows_lent table) p) ≡ Err why
         → clauses ≡ passed b.symbols b.rows b.rules (rows_lent table) (clauses_of p)
-        → (record { outcome = Refused why; clauses = clauses; added = 0; board = b } ≡ read_answer table b text) × (table ≡ read_table table b text)
+        → (record { outcome = Err why; clauses = clauses; added = 0; board = b } ≡ read_answer table b text) × (table ≡ read_table table b text)
     unfolding read_answer read_table
     read_refused why e c = rw (faults, e, c, fine, is) (refl, refl)
 
-    pub read_done : {clauses added : ℕ} → first_fault (text_faults b.symbols b.rows b.rules (rows_lent table) p) ≡ Done
+    pub read_done : {clauses added : ℕ} → first_fault (text_faults b.symbols b.rows b.rules (rows_lent table) p) ≡ Ok tt
         → clauses ≡ length (clauses_of p) → added ≡ length (rows_of_text b.symbols p)
-        → (record { outcome = Done; clauses = clauses; added = added; board = with_rules b added clauses } ≡ read_answer table b text)
+        → (record { outcome = (Ok tt); clauses = clauses; added = added; board = with_rules b added clauses } ≡ read_answer table b text)
         × (appended table b.rows (numbered_rows b.symbols b.rules p) ≡ read_table table b text)
     unfolding read_answer read_table
     read_done e c a =
@@ -99,6 +99,6 @@ module _ (table : List ℤ) (b : Board) (text : List ℕ) where
 
   -- a text whose header breaks the form
   pub read_broken : good_board table b ≡ true → parse_text text ≡ broken
-      → (record { outcome = Refused BadText; clauses = 0; added = 0; board = b } ≡ read_answer table b text) × (table ≡ read_table table b text)
+      → (record { outcome = Err BadText; clauses = 0; added = 0; board = b } ≡ read_answer table b text) × (table ≡ read_table table b text)
   unfolding text_faults passed
   read_broken fine is = read_refused fine is BadText refl refl

@@ -5,8 +5,8 @@ use Rattle.meaning.proofs.Tests.{both_true}
 use Rattle.literals.specs.Row.{most_rules, rows_lent}
 use Rattle.board.specs.Faults.{good_board, first_fault, if_done}
 use Rattle.board.specs.declared.Board.{Board}
-use Rattle.board.specs.declared.Outcome.{Outcome}
-use Rattle.board.specs.declared.Outcome.TheVariants.{Done, Refused}
+use Rattle.board.specs.Faults.{Outcome}
+use Rattle.std.specs.Prelude.{Ok, Err}
 use Rattle.board.proofs.Answered.{none_given}
 use Rattle.board.proofs.Goodness.{good_is}
 use Rattle.dimacs.specs.Words.{beyond, number_of, words}
@@ -27,8 +27,8 @@ passed_most S used rules lent (c ∷ cs) =
     go (first_fault (clause_faults S used rules lent c)) (passed_most S (used + length (rows_of_clause S c)) (suc rules) lent cs)
   where
     go : (o : Outcome) {n : ℕ} → n ≤ length cs → if_done o (suc n) (λ _. 0) ≤ suc (length cs)
-    go Done h = omega arith
-    go (Refused why) h = omega arith
+    go (Ok tt) h = omega arith
+    go (Err why) h = omega arith
 
 -- ---- no header counts more than 32,767 clauses
 
@@ -72,8 +72,8 @@ module _ (table : List ℤ) (b : Board) (text : List ℕ) where
   clauses_told = go (first_fault (read_faults table b text)) refl
     where
       go : (o : Outcome) → first_fault (read_faults table b text) ≡ o → (read_answer table b text).clauses ≡ cond (good_board table b) before 0
-      go Done e = rw e
-      go (Refused why) e = rw e
+      go (Ok tt) e = rw e
+      go (Err why) e = rw e
 
   -- so none tells more than a header can count
   pub told_few : (read_answer table b text).clauses < beyond
@@ -84,12 +84,12 @@ module _ (table : List ℤ) (b : Board) (text : List ℕ) where
 
 -- ---- a reading that is done: the board is good, no clause is at fault, and there is room for their rows, and a number for each
 
-module _ (table : List ℤ) (b : Board) (text : List ℕ) (done : first_fault (read_faults table b text) ≡ Done) where
+module _ (table : List ℤ) (b : Board) (text : List ℕ) (done : first_fault (read_faults table b text) ≡ Ok tt) where
   pub read_good : good_board table b ≡ true
   unfolding read_faults
   read_good = not-false (good_board table b) (none_given (read_faults table b text) done 0)
 
-  pub read_clauses : first_fault (clauses_faults b.symbols b.rows b.rules (rows_lent table) (clauses_of (parse_text text))) ≡ Done
+  pub read_clauses : first_fault (clauses_faults b.symbols b.rows b.rules (rows_lent table) (clauses_of (parse_text text))) ≡ Ok tt
   unfolding read_faults text_faults
   read_clauses = let given = none_given (read_faults table b text) done in rw (given 0, given 1) at done
 

@@ -12,18 +12,18 @@ use Rattle.literals.specs.Row.{most_rules}
 use Rattle.implicates.specs.Appending.{fits}
 use Rattle.implicates.proofs.Rules.{fits_facts}
 use Rattle.board.specs.Faults.{Fault, first_fault, if_done}
-use Rattle.board.specs.declared.Outcome.{Outcome}
-use Rattle.board.specs.declared.Outcome.TheVariants.{Done, Refused}
+use Rattle.board.specs.Faults.{Outcome}
+use Rattle.std.specs.Prelude.{Ok, Err}
 use Rattle.board.proofs.Answered.{refused_not_done, first_append, none_given}
 use Rattle.dimacs.specs.Clauses.{claim, one_of, rows_of_clause, clause_faults, clauses_faults, passed}
 
 -- where none is given, none of either
-done_append : (fs gs : List Fault) → first_fault (fs ++ gs) ≡ Done → (first_fault fs ≡ Done) × (first_fault gs ≡ Done)
+done_append : (fs gs : List Fault) → first_fault (fs ++ gs) ≡ Ok tt → (first_fault fs ≡ Ok tt) × (first_fault gs ≡ Ok tt)
 done_append fs gs e = go (first_fault fs) (sym (first_append fs gs) ∙ e)
   where
-    go : (o : Outcome) → if_done o (first_fault gs) (λ why. Refused why) ≡ Done → (o ≡ Done) × (first_fault gs ≡ Done)
-    go Done h = (refl, h)
-    go (Refused why) h = refused_not_done h
+    go : (o : Outcome) → if_done o (first_fault gs) (λ why. Err why) ≡ Ok tt → (o ≡ Ok tt) × (first_fault gs ≡ Ok tt)
+    go (Ok tt) h = (refl, h)
+    go (Err why) h = refused_not_done h
 
 -- ---- one clause
 
@@ -51,7 +51,7 @@ empty_never S =
     never true = refl
     never false = refl
 
-module _ (S used rules lent : ℕ) (c : List ℤ) (done : first_fault (clause_faults S used rules lent c) ≡ Done) where
+module _ (S used rules lent : ℕ) (c : List ℤ) (done : first_fault (clause_faults S used rules lent c) ≡ Ok tt) where
   -- where a clause is not at fault, its literals are in range, and its rule has few symbols, an assignment, room for its rows, and a number
   done_tests : (all (in_range S) c ≡ true) × (leb (length (symbols_of S (one_of c))) 8 ≡ true) × (satisfiable (rule_of S (one_of c)) ≡ true)
       × (fits used rules lent (rows_of_clause S c) ≡ true)
@@ -64,7 +64,7 @@ module _ (S used rules lent : ℕ) (c : List ℤ) (done : first_fault (clause_fa
   done_fits = fits_facts used rules lent (rows_of_clause S c) done_tests.3
 
 -- so the board takes its rule
-pub clause_accepted : (S used rules lent : ℕ) (c : List ℤ) → first_fault (clause_faults S used rules lent c) ≡ Done → accepted S (one_of c) ≡ true
+pub clause_accepted : (S used rules lent : ℕ) (c : List ℤ) → first_fault (clause_faults S used rules lent c) ≡ Ok tt → accepted S (one_of c) ≡ true
 clause_accepted S used rules lent [] done = clash (done_tests S used rules lent [] done).2 (empty_never S)
 clause_accepted S used rules lent (l ∷ ls) done =
     let t = done_tests S used rules lent (l ∷ ls) done in
@@ -72,14 +72,14 @@ clause_accepted S used rules lent (l ∷ ls) done =
 
 -- ---- several clauses, none at fault: so neither is the first nor, with its rows in use and itself counted, any other
 
-pub both_done : (S used rules lent : ℕ) (c : List ℤ) (cs : List (List ℤ)) → first_fault (clauses_faults S used rules lent (c ∷ cs)) ≡ Done
-    → (first_fault (clause_faults S used rules lent c) ≡ Done)
-    × (first_fault (clauses_faults S (used + length (rows_of_clause S c)) (suc rules) lent cs) ≡ Done)
+pub both_done : (S used rules lent : ℕ) (c : List ℤ) (cs : List (List ℤ)) → first_fault (clauses_faults S used rules lent (c ∷ cs)) ≡ Ok tt
+    → (first_fault (clause_faults S used rules lent c) ≡ Ok tt)
+    × (first_fault (clauses_faults S (used + length (rows_of_clause S c)) (suc rules) lent cs) ≡ Ok tt)
 unfolding clauses_faults
 both_done S used rules lent c cs done =
     done_append (clause_faults S used rules lent c) (clauses_faults S (used + length (rows_of_clause S c)) (suc rules) lent cs) done
 
-pub clauses_accepted : (S used rules lent : ℕ) (cs : List (List ℤ)) → first_fault (clauses_faults S used rules lent cs) ≡ Done
+pub clauses_accepted : (S used rules lent : ℕ) (cs : List (List ℤ)) → first_fault (clauses_faults S used rules lent cs) ≡ Ok tt
     → all (accepted S) (map one_of cs) ≡ true
 clauses_accepted S used rules lent [] done = refl
 clauses_accepted S used rules lent (c ∷ cs) done =
@@ -87,7 +87,7 @@ clauses_accepted S used rules lent (c ∷ cs) done =
     and_intro (accepted S (one_of c)) (all (accepted S) (map one_of cs)) (clause_accepted S used rules lent c r.0)
     (clauses_accepted S (used + length (rows_of_clause S c)) (suc rules) lent cs r.1)
 
-pub clauses_fit : (S used rules lent : ℕ) (cs : List (List ℤ)) → first_fault (clauses_faults S used rules lent cs) ≡ Done → used ≤ lent
+pub clauses_fit : (S used rules lent : ℕ) (cs : List (List ℤ)) → first_fault (clauses_faults S used rules lent cs) ≡ Ok tt → used ≤ lent
     → used + length (all_rows (rules_of S (map one_of cs))) ≤ lent
 clauses_fit S used rules lent [] done within = omega arith
 clauses_fit S used rules lent (c ∷ cs) done within =
@@ -95,7 +95,7 @@ clauses_fit S used rules lent (c ∷ cs) done within =
     let rest = clauses_fit S (used + length (rows_of_clause S c)) (suc rules) lent cs r.1 (done_fits S used rules lent c r.0).0 in
     omega (arith, rest, length-append (rows_of_clause S c) (all_rows (rules_of S (map one_of cs))))
 
-pub clauses_numbered : (S used rules lent : ℕ) (cs : List (List ℤ)) → first_fault (clauses_faults S used rules lent cs) ≡ Done → rules ≤ most_rules
+pub clauses_numbered : (S used rules lent : ℕ) (cs : List (List ℤ)) → first_fault (clauses_faults S used rules lent cs) ≡ Ok tt → rules ≤ most_rules
     → rules + length cs ≤ most_rules
 clauses_numbered S used rules lent [] done few = omega arith
 clauses_numbered S used rules lent (c ∷ cs) done few =
@@ -103,7 +103,7 @@ clauses_numbered S used rules lent (c ∷ cs) done few =
     let next : suc rules ≤ most_rules = omega (arith, few, (done_fits S used rules lent c r.0).1) in
     omega (arith, clauses_numbered S (used + length (rows_of_clause S c)) (suc rules) lent cs r.1 next)
 
-pub clauses_passed : (S used rules lent : ℕ) (cs : List (List ℤ)) → first_fault (clauses_faults S used rules lent cs) ≡ Done
+pub clauses_passed : (S used rules lent : ℕ) (cs : List (List ℤ)) → first_fault (clauses_faults S used rules lent cs) ≡ Ok tt
     → passed S used rules lent cs ≡ length cs
 unfolding passed
 clauses_passed S used rules lent [] done = refl

@@ -10,8 +10,8 @@ use Rattle.literals.specs.declared.refusal.Refusal.{Refusal}
 use Rattle.literals.specs.declared.refusal.Refusal.TheVariants.{BadLiteral, TooManySymbols, NoAssignment, TableFull}
 use Rattle.implicates.specs.Appending.{fits}
 use Rattle.implicates.proofs.Rules.{fits_facts, fits_not, fits_so}
-use Rattle.board.specs.declared.Outcome.{Outcome}
-use Rattle.board.specs.declared.Outcome.TheVariants.{Done, Refused}
+use Rattle.board.specs.Faults.{Outcome}
+use Rattle.std.specs.Prelude.{Ok, Err}
 use Rattle.board.proofs.Answered.{refused_not_done}
 use Rattle.dimacs.specs.Surveying.{Judges, Surveys}
 use Rattle.dimacs.specs.declared.gathering.Kept.{Kept}
@@ -34,7 +34,7 @@ pub record Faultless (S used rules lent : ℕ) (c : List ℤ) : Type 0 where
   pub room : used + length (gathered_rows c) ≤ lent
   pub number : rules ≢ most_rules
 
-pub faultless : (S used rules lent : ℕ) (c : List ℤ) → found_fault S used rules lent c ≡ Done → Faultless S used rules lent c
+pub faultless : (S used rules lent : ℕ) (c : List ℤ) → found_fault S used rules lent c ≡ Ok tt → Faultless S used rules lent c
 faultless S used rules lent c e =
     let size = length (gathered [] c) in
     by_test (all (in_range S) c)
@@ -70,29 +70,29 @@ module _ {S : ℕ} {o : List ℤ} {row : List ℕ} {k : Kept} (h : KeptOf S o ro
 
     -- of some symbols, whether it fits decides
     by_room_lem : k.beyond ≡ false → (k.count ≡ 0 → ⊥) → (used rules lent : ℕ) {enough : Bool} → fits used rules lent (gathered_rows o) ≡ enough
-        → cond enough Done (Refused TableFull) ≡ found_fault S used rules lent o
+        → cond enough (Ok tt) (Err TableFull) ≡ found_fault S used rules lent o
     by_room_lem e n used rules lent f = rw (in_range_lem e, few_symbols, ne_eqb size 0 (λ z. n (h.is_count m ∙ z)), f)
 
 module _ {k : Kept} {used rules lent : ℕ} where
-  pub fault_beyond : k.beyond ≡ true → Judges k used rules lent (Refused BadLiteral)
+  pub fault_beyond : k.beyond ≡ true → Judges k used rules lent (Err BadLiteral)
   fault_beyond e = record { first_fault_lem = λ S o row h. let f : all (in_range S) o ≡ false = not-true _ (sym h.is_beyond ∙ e) in rw f }
 
   module _ (e : k.beyond ≡ false) where
-    pub fault_many : k.many ≡ true → Judges k used rules lent (Refused TooManySymbols)
+    pub fault_many : k.many ≡ true → Judges k used rules lent (Err TooManySymbols)
     fault_many m = record {
       first_fault_lem = λ S o row h. rw (in_range_lem h e, lt-leb (size h) most_literals (ltb-true most_literals (size h) (sym h.is_many ∙ m)));
     }
 
     module _ (m : k.many ≡ false) where
-      pub fault_empty : k.count ≡ 0 → Judges k used rules lent (Refused NoAssignment)
+      pub fault_empty : k.count ≡ 0 → Judges k used rules lent (Err NoAssignment)
       fault_empty z = record { first_fault_lem = λ S o row h. rw (in_range_lem h e, few_symbols h m, eq-eqb (size h) 0 (sym (h.is_count m) ∙ z)) }
 
       module _ (n : k.count ≡ 0 → ⊥) where
-        pub fault_counted : rules ≡ most_rules → Judges k used rules lent (Refused TableFull)
+        pub fault_counted : rules ≡ most_rules → Judges k used rules lent (Err TableFull)
         fault_counted last =
             record { first_fault_lem = λ S o row h. by_room_lem h m e n used rules lent (fits_not used rules lent (gathered_rows o) (inr last)) }
 
-        pub fault_full : used ≡ lent → k.always ≡ false → Judges k used rules lent (Refused TableFull)
+        pub fault_full : used ≡ lent → k.always ≡ false → Judges k used rules lent (Err TableFull)
         fault_full full a = record {
           first_fault_lem =
               λ S o row h.
@@ -100,7 +100,7 @@ module _ {k : Kept} {used rules lent : ℕ} where
         }
 
         -- it is not at fault
-        pub fault_none : rules ≢ most_rules → used + bool_byte (not k.always) ≤ lent → Judges k used rules lent Done
+        pub fault_none : rules ≢ most_rules → used + bool_byte (not k.always) ≤ lent → Judges k used rules lent (Ok tt)
         fault_none number room = record {
           first_fault_lem = λ S o row h. by_room_lem h m e n used rules lent (fits_so used rules lent (gathered_rows o) (omega (arith, row_kept h m)) number);
         }
@@ -112,17 +112,17 @@ abbrev Fault : Survey → Kept → (used rules lent : ℕ) → Outcome → Type 
 Fault found k used rules lent outcome = Judges k (used + found.added) (rules + found.clauses) lent outcome
 
 module _ {found : Survey} {k : Kept} {used rules lent : ℕ} where
-  pub with_refused : {why : Refusal} → found.outcome ≡ Refused why → Surveys found k used rules lent found
+  pub with_refused : {why : Refusal} → found.outcome ≡ Err why → Surveys found k used rules lent found
   with_refused e = record { with_clause = λ S o row h. rw e }
 
-  module _ (e : found.outcome ≡ Done) where
-    pub with_fault : {why : Refusal} → Fault found k used rules lent (Refused why)
-        → Surveys found k used rules lent (record { outcome = Refused why; clauses = found.clauses; added = 0 })
+  module _ (e : found.outcome ≡ Ok tt) where
+    pub with_fault : {why : Refusal} → Fault found k used rules lent (Err why)
+        → Surveys found k used rules lent (record { outcome = Err why; clauses = found.clauses; added = 0 })
     with_fault j = record { with_clause = λ S o row h. rw (e, ← j.first_fault_lem S o row h) }
 
-    pub with_done : Fault found k used rules lent Done
+    pub with_done : Fault found k used rules lent (Ok tt)
         → Surveys found k used rules lent
-        (record { outcome = Done; clauses = found.clauses + 1; added = found.added + bool_byte (not k.always) })
+        (record { outcome = (Ok tt); clauses = found.clauses + 1; added = found.added + bool_byte (not k.always) })
     with_done j = record {
       with_clause =
           λ S o row h.

@@ -9,7 +9,7 @@ use Rattle.literals.proofs.RuledRows.{length_of_rule}
 use Rattle.implicates.specs.Appending.{appended}
 use Rattle.implicates.proofs.Appending.{appended_more, appended_none, length_appended}
 use Rattle.board.specs.Faults.{first_fault}
-use Rattle.board.specs.declared.Outcome.TheVariants.{Done}
+use Rattle.std.specs.Prelude.{Ok}
 use Rattle.board.proofs.Answered.{refused_not_done}
 use Rattle.dimacs.specs.Words.{words}
 use Rattle.dimacs.specs.Form.{Parsed, good, broken, is_good, clauses_in, clauses_of, clause_then}
@@ -31,14 +31,14 @@ numbered_rows S rules p = of_rules (suc rules) (rules_of S (formulae_in p))
 -- ---- a text without a fault keeps the form, and its clauses are without one
 
 module _ (S used rules lent : ℕ) where
-  pub text_done : (p : Parsed) → first_fault (text_faults S used rules lent p) ≡ Done
-      → (is_good p ≡ true) × (first_fault (clauses_faults S used rules lent (clauses_of p)) ≡ Done)
+  pub text_done : (p : Parsed) → first_fault (text_faults S used rules lent p) ≡ Ok tt
+      → (is_good p ≡ true) × (first_fault (clauses_faults S used rules lent (clauses_of p)) ≡ Ok tt)
   unfolding text_faults
   text_done (good v cs) e = (refl, e)
   text_done broken e = refused_not_done e
 
-  done_text : (p : Parsed) → is_good p ≡ true → first_fault (clauses_faults S used rules lent (clauses_of p)) ≡ Done
-      → first_fault (text_faults S used rules lent p) ≡ Done
+  done_text : (p : Parsed) → is_good p ≡ true → first_fault (clauses_faults S used rules lent (clauses_of p)) ≡ Ok tt
+      → first_fault (text_faults S used rules lent p) ≡ Ok tt
   unfolding text_faults
   done_text p g e = rw g e
 
@@ -53,7 +53,7 @@ pub record Next (S lent v row rules : ℕ) (ws : List (List ℕ)) : Type 0 where
   pub number : rules ≢ most_rules
   pub rows : numbered_rows S rules (clauses_in v [] ws)
       ≡ of_rule (suc rules) (gathered_rows (next_clause ws)) ++ numbered_rows S (suc rules) (clauses_in v [] (past_clause ws))
-  pub rest : first_fault (text_faults S (row + length (gathered_rows (next_clause ws))) (suc rules) lent (clauses_in v [] (past_clause ws))) ≡ Done
+  pub rest : first_fault (text_faults S (row + length (gathered_rows (next_clause ws))) (suc rules) lent (clauses_in v [] (past_clause ws))) ≡ Ok tt
 
 -- the first clause and what follows it, where both keep the form
 first_good : (b : Bool) (c : List ℤ) (p : Parsed) → is_good (cond b (clause_then c p) broken) ≡ true
@@ -63,7 +63,7 @@ first_good true c broken e = clash e refl
 first_good false c p e = clash e refl
 
 pub next : (S lent v row rules : ℕ) (ws : List (List ℕ)) → 1 ≤ S → S ≤ 200 → 1 ≤ length ws
-    → first_fault (text_faults S row rules lent (clauses_in v [] ws)) ≡ Done → Next S lent v row rules ws
+    → first_fault (text_faults S row rules lent (clauses_in v [] ws)) ≡ Ok tt → Next S lent v row rules ws
 next S lent v row rules ws one most some e =
     let c = next_clause ws in
     let p = clauses_in v [] (past_clause ws) in
@@ -107,12 +107,12 @@ pub record Left (S lent v : ℕ) (text : List ℕ) (whole : List ℤ) (long i ro
   pub used : row ≤ lent
   pub few : rules ≤ most_rules
   pub same_length : length table ≡ long
-  pub done : first_fault (text_faults S row rules lent (clauses_in v [] (words (drop i text)))) ≡ Done
+  pub done : first_fault (text_faults S row rules lent (clauses_in v [] (words (drop i text)))) ≡ Ok tt
   pub same : appended table row (numbered_rows S rules (clauses_in v [] (words (drop i text)))) ≡ whole
 
 module _ {S lent v : ℕ} {text : List ℕ} where
   pub left_start : (at used rules : ℕ) (table : List ℤ) → at ≤ length text → used ≤ lent → rules ≤ most_rules
-      → first_fault (text_faults S used rules lent (clauses_in v [] (words (drop at text)))) ≡ Done
+      → first_fault (text_faults S used rules lent (clauses_in v [] (words (drop at text)))) ≡ Ok tt
       → Left S lent v text (appended table used (numbered_rows S rules (clauses_in v [] (words (drop at text))))) (length table) at used rules table
   left_start at used rules table h k f e = record { within = h; used = k; few = f; same_length = refl; done = e; same = refl }
 

@@ -9,7 +9,7 @@ use Rattle.literals.proofs.Arguments.{range_facts}
 use Rattle.literals.proofs.Decoding.{sound_rising}
 use Rattle.implicates.proofs.Rules.{fits_so}
 use Rattle.board.specs.Faults.{first_fault}
-use Rattle.board.specs.declared.Outcome.TheVariants.{Done}
+use Rattle.std.specs.Prelude.{Ok}
 use Rattle.dimacs.specs.Clauses.{clause_faults, rows_of_clause}
 use Rattle.dimacs.specs.Gathering.{always_true, clashes, gathered, inserted}
 use Rattle.dimacs.specs.Writing.{literals_of}
@@ -84,7 +84,7 @@ module _ (S : ℕ) (row : List ℤ) (sound : row_sound S row ≡ true) where
 
   -- it is not at fault where a row is free, and a number
   pub row_faultless : (used rules lent : ℕ) → 1 ≤ S → length (decode row) ≤ most_literals → used < lent → rules ≢ most_rules
-      → first_fault (clause_faults S used rules lent (literals_of row)) ≡ Done
+      → first_fault (clause_faults S used rules lent (literals_of row)) ≡ Ok tt
   row_faultless used rules lent one short free number =
       let n = length (decode row) in
       let some = ne_eqb n 0 (λ z. omega (arith, z, (sound_some S row sound).1)) in

@@ -12,7 +12,7 @@ use Rattle.board.specs.Faults.{good_board, first_fault}
 use Rattle.board.specs.Changes.{empty_board}
 use Rattle.board.specs.Rules.{with_rules}
 use Rattle.board.specs.declared.Board.{Board}
-use Rattle.board.specs.declared.Outcome.TheVariants.{Done}
+use Rattle.std.specs.Prelude.{Ok}
 use Rattle.board.proofs.Goodness.{Good, empty_good, good_is}
 use Rattle.board.proofs.Answered.{first_append}
 use Rattle.dimacs.specs.Form.{good, parse_text}
@@ -43,7 +43,7 @@ rows_again S (suc k) f number s more =
     (ap (λ (n : ℕ). of_rules n (rules_of S (map one_of (tabulate k (λ r. literals_of (f (suc r))))))) (sym (more 0)) ∙ later)
 
 rows_faultless : (S lent k used rules : ℕ) (f : ℕ → List ℤ) → 1 ≤ S → AllSound S k f → used + k ≤ lent → rules + k ≤ most_rules
-    → first_fault (clauses_faults S used rules lent (tabulate k (λ r. literals_of (f r)))) ≡ Done
+    → first_fault (clauses_faults S used rules lent (tabulate k (λ r. literals_of (f r)))) ≡ Ok tt
 unfolding clauses_faults
 rows_faultless S lent zero used rules f one s h n = refl
 rows_faultless S lent (suc k) used rules f one s h n =
@@ -92,14 +92,14 @@ module _ (table : List ℤ) (b : Board) (new : List ℤ) (fine : good_board tabl
   added_is = sym (length_of_rules 1 (rules_of S (formulae_in (good S clauses)))) ∙ ap length rows_are ∙ length_tabulate used _
 
   -- reading it is done, and passes all of its clauses
-  faultless : first_fault (clauses_faults S 0 0 (rows_lent new) clauses) ≡ Done
+  faultless : first_fault (clauses_faults S 0 0 (rows_lent new) clauses) ≡ Ok tt
   unfolding clauses_at
   faultless = rows_faultless S (rows_lent new) used 0 0 (numbers_at table) known.some all_sound (omega arith) (omega (arith, known.sound.rows))
 
   new_good : good_board new (empty_board S) ≡ true
   new_good = empty_good new S (and_intro (leb 1 S) (leb S 200) (le-leb 1 S known.some) (le-leb S 200 known.sound.symbols))
 
-  done : first_fault (read_faults new (empty_board S) text) ≡ Done
+  done : first_fault (read_faults new (empty_board S) text) ≡ Ok tt
   unfolding read_faults text_faults
   done = rw (new_good, text_is, faultless)
 
@@ -107,7 +107,7 @@ module _ (table : List ℤ) (b : Board) (new : List ℤ) (fine : good_board tabl
   passed_all = clauses_passed S 0 0 (rows_lent new) clauses faultless ∙ count_clauses table used
 
   -- so these are the answer and the table after it
-  answer : read_answer new (empty_board S) text ≡ record { outcome = Done; clauses = used; added = used; board = with_rules (empty_board S) used used }
+  answer : read_answer new (empty_board S) text ≡ record { outcome = (Ok tt); clauses = used; added = used; board = with_rules (empty_board S) used used }
   unfolding read_answer
   answer = rw (done, new_good, text_is, added_is, passed_all, count_clauses table used)
 

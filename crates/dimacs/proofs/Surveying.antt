@@ -6,8 +6,8 @@ use Rattle.meaning.specs.SecondWay.{rules_of}
 use Rattle.literals.specs.Row.{most_rules}
 use Rattle.literals.specs.declared.refusal.Refusal.{Refusal}
 use Rattle.board.specs.Faults.{first_fault, if_done}
-use Rattle.board.specs.declared.Outcome.{Outcome}
-use Rattle.board.specs.declared.Outcome.TheVariants.{Done, Refused}
+use Rattle.board.specs.Faults.{Outcome}
+use Rattle.std.specs.Prelude.{Ok, Err}
 use Rattle.board.proofs.Answered.{first_append}
 use Rattle.dimacs.specs.Form.{Parsed, good, broken, clause_then, counted}
 use Rattle.dimacs.specs.Clauses.{one_of, rows_of_clause, clause_faults, clauses_faults, passed}
@@ -22,7 +22,7 @@ use Rattle.dimacs.proofs.Tested.{by_test}
 
 -- before any clause
 abbrev pub nothing : Survey
-nothing = record { outcome = Done; clauses = 0; added = 0 }
+nothing = record { outcome = (Ok tt); clauses = 0; added = 0 }
 
 module _ (S used rules lent : ℕ) where
   -- with clauses more, one after the other
@@ -32,7 +32,7 @@ module _ (S used rules lent : ℕ) where
 
   -- after the first at fault no other counts
   abbrev stopped : (why : Refusal) (k : ℕ) → Survey
-  stopped why k = record { outcome = Refused why; clauses = k; added = 0 }
+  stopped why k = record { outcome = Err why; clauses = k; added = 0 }
 
   stays_stopped : (why : Refusal) (k : ℕ) (cs : List (List ℤ)) → with_clauses (stopped why k) cs ≡ stopped why k
   unfolding with_clauses
@@ -56,18 +56,18 @@ module _ (S used rules lent : ℕ) where
 
     first_of : first_fault (clauses_faults S u (rules + k) lent (c ∷ cs))
         ≡ if_done (first_fault (clause_faults S u (rules + k) lent c))
-        (first_fault (clauses_faults S (u + length (rows_of_clause S c)) (rules + (k + 1)) lent cs)) (λ why. Refused why)
+        (first_fault (clauses_faults S (u + length (rows_of_clause S c)) (rules + (k + 1)) lent cs)) (λ why. Err why)
     unfolding clauses_faults
     first_of =
         rw (← next) (first_append (clause_faults S u (rules + k) lent c) (clauses_faults S (u + length (rows_of_clause S c)) (suc (rules + k)) lent cs))
 
-    comes_refused : {why : Refusal} → first_fault (clause_faults S u (rules + k) lent c) ≡ Refused why → comes_to u k added (c ∷ cs) ≡ stopped why k
+    comes_refused : {why : Refusal} → first_fault (clause_faults S u (rules + k) lent c) ≡ Err why → comes_to u k added (c ∷ cs) ≡ stopped why k
     unfolding passed
     comes_refused {why} e =
-        let f : first_fault (clauses_faults S u (rules + k) lent (c ∷ cs)) ≡ Refused why = first_of ∙ rw e in
+        let f : first_fault (clauses_faults S u (rules + k) lent (c ∷ cs)) ≡ Err why = first_of ∙ rw e in
         rw (f, e, add-zero k)
 
-    comes_more : first_fault (clause_faults S u (rules + k) lent c) ≡ Done
+    comes_more : first_fault (clause_faults S u (rules + k) lent c) ≡ Ok tt
         → let n = length (rows_of_clause S c) in comes_to u k added (c ∷ cs) ≡ comes_to (u + n) (k + 1) (added + n) cs
     unfolding passed
     comes_more e =
@@ -83,19 +83,19 @@ module _ (S used rules lent : ℕ) where
   module _ (one : 1 ≤ S) where
     -- what is found clause by clause is what is meant
     found_by : (k added : ℕ) (cs : List (List ℤ))
-        → with_clauses (record { outcome = Done; clauses = k; added = added }) cs ≡ comes_to (used + added) k added cs
+        → with_clauses (record { outcome = (Ok tt); clauses = k; added = added }) cs ≡ comes_to (used + added) k added cs
     unfolding with_clauses clauses_faults passed
     found_by k added [] = rw (add-zero k, add-zero added)
     found_by k added (c ∷ cs) = go (found_fault S (used + added) (rules + k) lent c) refl (λ m a. found_by m a cs)
       where
         go : (o : Outcome) → found_fault S (used + added) (rules + k) lent c ≡ o
-            → ((m a : ℕ) → with_clauses (record { outcome = Done; clauses = m; added = a }) cs ≡ comes_to (used + a) m a cs)
+            → ((m a : ℕ) → with_clauses (record { outcome = (Ok tt); clauses = m; added = a }) cs ≡ comes_to (used + a) m a cs)
             → with_clauses
-            (if_done o (record { outcome = Done; clauses = k + 1; added = added + length (gathered_rows c) })
+            (if_done o (record { outcome = (Ok tt); clauses = k + 1; added = added + length (gathered_rows c) })
             (λ why. stopped why k))
             cs
             ≡ comes_to (used + added) k added (c ∷ cs)
-        go Done e ih =
+        go (Ok tt) e ih =
             let n = length (gathered_rows c) in
             let s = faultless S (used + added) (rules + k) lent c e in
             let rows = ap length (clause_rows S c s.range s.some) in
@@ -103,7 +103,7 @@ module _ (S used rules lent : ℕ) where
             ih (k + 1) (added + n)
             ∙ ap₂ (λ (u a : ℕ). comes_to u (k + 1) a cs) (sym there) (ap (λ (m : ℕ). added + m) (sym rows))
             ∙ sym (comes_more (used + added) k added c cs (clause_fault S (used + added) (rules + k) lent c one ∙ e))
-        go (Refused why) e ih =
+        go (Err why) e ih =
             stays_stopped why k cs ∙ sym (comes_refused (used + added) k added c cs (clause_fault S (used + added) (rules + k) lent c one ∙ e))
 
     surveyed_good : (v : ℕ) (cs : List (List ℤ)) → surveyed S used rules lent (good v cs) ≡ with_clauses nothing cs
@@ -141,15 +141,15 @@ module _ (S used rules lent : ℕ) where
   fits_more found c h = go found.outcome (found_fault S (used + found.added) (rules + found.clauses) lent c) refl
     where
       more : Survey
-      more = record { outcome = Done; clauses = found.clauses + 1; added = found.added + length (gathered_rows c) }
+      more = record { outcome = (Ok tt); clauses = found.clauses + 1; added = found.added + length (gathered_rows c) }
 
       go : (o p : Outcome) → found_fault S (used + found.added) (rules + found.clauses) lent c ≡ p
           → Fits (if_done o (if_done p more (λ why. stopped why found.clauses)) (λ why. found))
-      go Done Done e =
+      go (Ok tt) (Ok tt) e =
           let f = faultless S (used + found.added) (rules + found.clauses) lent c e in
           (omega (arith, f.room), omega (arith, h.1, f.number))
-      go Done (Refused why) e = (omega (arith, h.0), h.1)
-      go (Refused why) p e = h
+      go (Ok tt) (Err why) e = (omega (arith, h.0), h.1)
+      go (Err why) p e = h
 
 -- ---- so far
 

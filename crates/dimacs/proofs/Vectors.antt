@@ -13,8 +13,8 @@ use Rattle.spelling.specs.Text.{decimal}
 use Rattle.board.specs.Faults.{first_fault, good_board, premises_fit}
 use Rattle.board.specs.Changes.{empty_board}
 use Rattle.board.specs.Rules.{with_rules}
-use Rattle.board.specs.declared.Outcome.{Outcome}
-use Rattle.board.specs.declared.Outcome.TheVariants.{Done, Refused}
+use Rattle.board.specs.Faults.{Outcome}
+use Rattle.std.specs.Prelude.{Ok, Err}
 use Rattle.dimacs.specs.Words.{literal_of, number_of, since, up_to, words_in}
 use Rattle.dimacs.specs.Form.{Parsed, good, broken, clauses_in, counts_in, header_in, parse_text, past_comments, starts_with}
 use Rattle.dimacs.specs.Clauses.{clause_faults, clauses_faults, one_of, passed}
@@ -100,7 +100,7 @@ three_says = refl
 abbrev lent : List ℤ
 lent = replicate 18 (pos 0)
 
-counts : read_answer lent (empty_board 2) three ≡ record { outcome = Done; clauses = 3; added = 2; board = with_rules (empty_board 2) 2 3 }
+counts : read_answer lent (empty_board 2) three ≡ record { outcome = (Ok tt); clauses = 3; added = 2; board = with_rules (empty_board 2) 2 3 }
 unfolding read_answer read_faults text_faults clauses_faults clause_faults passed one_of good_board premises_fit rows_sound
     symbols_of occurs value hit implicate prime of_size
 counts = rw three_says refl
@@ -123,10 +123,10 @@ record Limit : Type 0 where
 
 abbrev limits : List Limit
 limits =
-    record { rules = 32765; second = pos 2 ∷ []; outcome = Done; before = 2 }
-    ∷ record { rules = 32766; second = pos 2 ∷ []; outcome = Refused TableFull; before = 1 }
-    ∷ record { rules = 32766; second = pos 1 ∷ negsuc 0 ∷ []; outcome = Refused TableFull; before = 1 }
-    ∷ record { rules = 32767; second = pos 2 ∷ []; outcome = Refused TableFull; before = 0 }
+    record { rules = 32765; second = pos 2 ∷ []; outcome = (Ok tt); before = 2 }
+    ∷ record { rules = 32766; second = pos 2 ∷ []; outcome = Err TableFull; before = 1 }
+    ∷ record { rules = 32766; second = pos 1 ∷ negsuc 0 ∷ []; outcome = Err TableFull; before = 1 }
+    ∷ record { rules = 32767; second = pos 2 ∷ []; outcome = Err TableFull; before = 0 }
     ∷ []
 
 abbrev clauses : Limit → List (List ℤ)

@@ -6,8 +6,8 @@ use Rattle.literals.specs.Literal.{in_range, place_of}
 use Rattle.literals.specs.Row.{most_literals}
 use Rattle.literals.specs.declared.refusal.Refusal.TheVariants.{BadLiteral, TooManySymbols, NoAssignment, TableFull}
 use Rattle.implicates.specs.Appending.{fits}
-use Rattle.board.specs.declared.Outcome.{Outcome}
-use Rattle.board.specs.declared.Outcome.TheVariants.{Done, Refused}
+use Rattle.board.specs.Faults.{Outcome}
+use Rattle.std.specs.Prelude.{Ok, Err}
 use Rattle.spelling.specs.Text.{is_digit}
 use Rattle.dimacs.specs.Words.{beyond, literal_of, words}
 use Rattle.dimacs.specs.Form.{Parsed, clauses_in}
@@ -71,10 +71,10 @@ abbrev pub found_fault : (S used rules lent : ℕ) → List ℤ → Outcome
 found_fault S used rules lent c =
     cond (all (in_range S) c)
     (cond (leb (length (gathered [] c)) most_literals)
-    (cond (eqb (length (gathered [] c)) 0) (Refused NoAssignment)
-    (cond (fits used rules lent (gathered_rows c)) Done (Refused TableFull)))
-    (Refused TooManySymbols))
-    (Refused BadLiteral)
+    (cond (eqb (length (gathered [] c)) 0) (Err NoAssignment)
+    (cond (fits used rules lent (gathered_rows c)) (Ok tt) (Err TableFull)))
+    (Err TooManySymbols))
+    (Err BadLiteral)
 
 -- the clauses of a text from a place on
 abbrev pub clauses_from : (variables at : ℕ) → (text : List ℕ) → Parsed

@@ -11,7 +11,7 @@ use Rattle.board.specs.Faults.{good_board}
 use Rattle.board.specs.Changes.{empty_board}
 use Rattle.board.specs.Rules.{with_rules}
 use Rattle.board.specs.declared.Board.{Board}
-use Rattle.board.specs.declared.Outcome.TheVariants.{Done}
+use Rattle.std.specs.Prelude.{Ok}
 use Rattle.dimacs.specs.Form.{good, parse_text}
 use Rattle.dimacs.specs.Clauses.{one_of, rows_of_clause}
 use Rattle.dimacs.specs.Reading.{read_answer, read_table}
@@ -47,7 +47,7 @@ abbrev pub SameRows : Type 0
 SameRows =
     (table : List ℤ) (b : Board) (new : List ℤ) → good_board table b ≡ true → b.rows ≤ rows_lent new
     → let S = b.symbols in let r = b.rows in
-    (read_answer new (empty_board S) (text_on table b) ≡ record { outcome = Done; clauses = r; added = r; board = with_rules (empty_board S) r r })
+    (read_answer new (empty_board S) (text_on table b) ≡ record { outcome = (Ok tt); clauses = r; added = r; board = with_rules (empty_board S) r r })
     × (read_table new (empty_board S) (text_on table b) ≡ appended new 0 (tabulate r (λ i. record { rule = suc i; row = decode (numbers_at table i) })))
 
 -- no text is longer: a header of 15 bytes, and 2,048 lines of eight literals of five bytes, 0 and a line feed

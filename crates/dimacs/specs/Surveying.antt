@@ -2,23 +2,23 @@
 use Rattle.std.specs.Prelude.{ℕ, ◌+◌, ◌≡◌, List, ℤ, length}
 use Rattle.literals.specs.declared.refusal.Refusal.TheVariants.{BadText}
 use Rattle.board.specs.Faults.{if_done}
-use Rattle.board.specs.declared.Outcome.{Outcome}
-use Rattle.board.specs.declared.Outcome.TheVariants.{Done, Refused}
+use Rattle.board.specs.Faults.{Outcome}
+use Rattle.std.specs.Prelude.{Ok, Err}
 use Rattle.dimacs.specs.Gathering.{KeptOf, gathered_rows, found_fault}
 use Rattle.dimacs.specs.declared.gathering.Kept.{Kept}
 use Rattle.dimacs.specs.declared.survey.Survey.{Survey}
 
 -- the survey of a text that breaks the form
 abbrev pub broken_form : Survey
-broken_form = record { outcome = Refused BadText; clauses = 0; added = 0 }
+broken_form = record { outcome = Err BadText; clauses = 0; added = 0 }
 
 -- with a clause more; after the first at fault no other counts
 abbrev pub with_clause : (S used rules lent : ℕ) → Survey → List ℤ → Survey
 with_clause S used rules lent found c =
     if_done found.outcome
     (if_done (found_fault S (used + found.added) (rules + found.clauses) lent c)
-    (record { outcome = Done; clauses = found.clauses + 1; added = found.added + length (gathered_rows c) })
-    (λ why. record { outcome = Refused why; clauses = found.clauses; added = 0 }))
+    (record { outcome = (Ok tt); clauses = found.clauses + 1; added = found.added + length (gathered_rows c) })
+    (λ why. record { outcome = Err why; clauses = found.clauses; added = 0 }))
     (λ why. found)
 
 -- ---- contracts, by what is kept of a clause's literals

@@ -8,7 +8,7 @@ use Rattle.spelling.specs.Text.{literal, natural}
 use Rattle.board.specs.Faults.{good_board, Fault, first_fault, if_done}
 use Rattle.board.specs.Settling.{over}
 use Rattle.board.specs.declared.Board.{Board}
-use Rattle.board.specs.declared.Outcome.{Outcome}
+use Rattle.board.specs.Faults.{Outcome}
 use Rattle.dimacs.specs.Form.{header_start}
 use Rattle.dimacs.specs.declared.writing.Writing.{Writing}
 

@@ -41,7 +41,7 @@ pub fn append(
     symbols: usize,
 )
     requires at_in_bounds { (at ≤ length text.now) × (1 ≤ symbols) × (symbols ≤ 200) × (used ≤ rows_lent table.old) × (rules ≤ most_rules) }
-    requires text_value { first_fault (text_faults symbols used rules (rows_lent table.old) (clauses_from variables at text.now)) ≡ Outcome.Done }
+    requires text_value { first_fault (text_faults symbols used rules (rows_lent table.old) (clauses_from variables at text.now)) ≡ Ok tt }
     ensures { table.new
         ≡ appended table.old used (of_rules (suc rules) (rules_of symbols (formulae_in (clauses_from variables at text.now)))) }
 {

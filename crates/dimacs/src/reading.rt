@@ -27,10 +27,10 @@ pub struct Reading {
 }
 
 fn refused(board: Board, why: Refusal, clauses: usize) -> Reading
-    ensures { result ≡ record { outcome = Outcome.Refused why; clauses = clauses; added = 0; board = board } }
+    ensures { result ≡ record { outcome = Err why; clauses = clauses; added = 0; board = board } }
 {
     Reading {
-        outcome: Outcome::Refused(why),
+        outcome: Err(why),
         clauses,
         added: 0,
         board,
@@ -40,13 +40,13 @@ fn refused(board: Board, why: Refusal, clauses: usize) -> Reading
 // The answer once so many clauses are added, with so many rows.
 fn done(board: Board, clauses: usize, added: usize) -> Reading
     requires { (board.rows + added ≤ 2048) × (board.rules + clauses ≤ most_rules) }
-    ensures { result ≡ record { outcome = Outcome.Done; clauses = clauses; added = added; board = with_rules board added clauses } }
+    ensures { result ≡ record { outcome = Ok tt; clauses = clauses; added = added; board = with_rules board added clauses } }
 {
     let mut next = board;
     next.rows = board.rows + added;
     next.rules = board.rules + clauses;
     Reading {
-        outcome: Outcome::Done,
+        outcome: Ok(()),
         clauses,
         added,
         board: next,
@@ -80,8 +80,8 @@ fn add_clauses(
     );
     let outcome = found.outcome;
     match outcome {
-        Outcome::Refused(why) => refused(board, why, found.clauses),
-        Outcome::Done => {
+        Err(why) => refused(board, why, found.clauses),
+        Ok(()) => {
             append(
                 table,
                 board.rows,

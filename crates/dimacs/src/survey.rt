@@ -26,7 +26,7 @@ fn broken() -> Survey
     ensures { result ≡ broken_form }
 {
     Survey {
-        outcome: Outcome::Refused(Refusal::BadText),
+        outcome: Err(Refusal::BadText),
         clauses: 0,
         added: 0,
     }
@@ -38,24 +38,24 @@ fn judge(k: Kept, used: usize, rules: usize, lent: usize) -> Outcome
     ensures { Judges k used rules lent result }
 {
     if k.beyond {
-        return Outcome::Refused(Refusal::BadLiteral);
+        return Err(Refusal::BadLiteral);
     }
     if k.many {
-        return Outcome::Refused(Refusal::TooManySymbols);
+        return Err(Refusal::TooManySymbols);
     }
     if k.count == 0 {
-        return Outcome::Refused(Refusal::NoAssignment);
+        return Err(Refusal::NoAssignment);
     }
     if rules == MOST_RULES {
-        return Outcome::Refused(Refusal::TableFull);
+        return Err(Refusal::TableFull);
     }
     if k.always {
-        return Outcome::Done;
+        return Ok(());
     }
     if used == lent {
-        return Outcome::Refused(Refusal::TableFull);
+        return Err(Refusal::TableFull);
     }
-    Outcome::Done
+    Ok(())
 }
 
 // What the clauses come to with one more; after the first at fault no other counts.
@@ -65,15 +65,15 @@ fn with_clause(found: Survey, k: Kept, used: usize, rules: usize, lent: usize) -
 {
     let outcome = found.outcome;
     match outcome {
-        Outcome::Refused(_) => found,
-        Outcome::Done => match judge(k, used + found.added, rules + found.clauses, lent) {
-            Outcome::Refused(why) => Survey {
-                outcome: Outcome::Refused(why),
+        Err(_) => found,
+        Ok(()) => match judge(k, used + found.added, rules + found.clauses, lent) {
+            Err(why) => Survey {
+                outcome: Err(why),
                 clauses: found.clauses,
                 added: 0,
             },
-            Outcome::Done => Survey {
-                outcome: Outcome::Done,
+            Ok(()) => Survey {
+                outcome: Ok(()),
                 clauses: found.clauses + 1,
                 added: found.added + (!k.always) as usize,
             },
@@ -97,7 +97,7 @@ pub fn survey_clauses(
 {
     let mut row = [0usize; 8];
     let mut found = Survey {
-        outcome: Outcome::Done,
+        outcome: Ok(()),
         clauses: 0,
         added: 0,
     };

@@ -19,10 +19,10 @@ pub struct Writing {
 }
 
 fn refused(why: Refusal) -> Writing
-    ensures { result ≡ record { outcome = Outcome.Refused why; bytes = 0 } }
+    ensures { result ≡ record { outcome = Err why; bytes = 0 } }
 {
     Writing {
-        outcome: Outcome::Refused(why),
+        outcome: Err(why),
         bytes: 0,
     }
 }
@@ -181,7 +181,7 @@ pub fn write(board: Board, table: &[i16], out: &mut [u8]) -> Writing
         return refused(Refusal::TableTooShort);
     }
     Writing {
-        outcome: Outcome::Done,
+        outcome: Ok(()),
         bytes: put_text(out, table, board.rows, board.symbols),
     }
 }

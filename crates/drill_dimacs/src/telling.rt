@@ -34,13 +34,13 @@ fn came_to(
     let outcome = told.outcome;
     let next = told.board;
     match outcome {
-        Outcome::Refused(why) => {
+        Err(why) => {
             printing::refused(rt, why)?;
             counted(rt, b" after", told.clauses)?;
             text(rt, b" clauses")?;
             printing::left(rt, as_given(before, told, places))
         }
-        Outcome::Done => {
+        Ok(()) => {
             printing::appended(rt, table, before.rows, told.added)?;
             counted(rt, b", clauses", told.clauses)?;
             counted(rt, b", changed", places)?;
@@ -84,12 +84,12 @@ pub fn read(
 fn wrote(rt: &impl Print, told: Writing, out: &[u8]) -> io::Result<()> {
     let outcome = told.outcome;
     match outcome {
-        Outcome::Refused(why) => printing::refused_with(
+        Err(why) => printing::refused_with(
             rt,
             why,
             told.bytes == 0 && written_bytes(out) == 0,
         ),
-        Outcome::Done => {
+        Ok(()) => {
             counted(rt, b" wrote", told.bytes)?;
             quoted(rt, out, told.bytes)?;
             counted(rt, b", unwritten", counting::bytes(out, BYTE))

@@ -15,8 +15,8 @@ fn came_to(rt: &impl Print, told: Listing, sets: &[u16]) -> io::Result<()> {
     let places = written_words(sets);
     let outcome = told.outcome;
     match outcome {
-        Outcome::Refused(why) => printing::refused_with(rt, why, told.count == 0 && places == 0),
-        Outcome::Done => {
+        Err(why) => printing::refused_with(rt, why, told.count == 0 && places == 0),
+        Ok(()) => {
             counted(rt, b" count", told.count)?;
             text(rt, b":")?;
             printing::words(rt, sets, told.count)?;
@@ -84,8 +84,8 @@ pub fn show(
 fn least_is(rt: &impl Print, told: Withdrawal) -> io::Result<()> {
     let outcome = told.outcome;
     match outcome {
-        Outcome::Refused(why) => printing::refused(rt, why)?,
-        Outcome::Done => (),
+        Err(why) => printing::refused(rt, why)?,
+        Ok(()) => (),
     }
     counted(rt, b" set", told.set as usize)
 }

@@ -17,11 +17,11 @@ fn step(rt: &impl Print, before: Desk, told: Step) -> io::Result<Desk> {
     let board = change.board;
     let stacks = told.stacks;
     match outcome {
-        Outcome::Refused(why) => {
+        Err(why) => {
             let same = same_board(before.board, board) && same_stacks(before.stacks, stacks);
             printing::refused_with(rt, why, same)?;
         }
-        Outcome::Done => {
+        Ok(()) => {
             printed::board(rt, board)?;
             printed::stacks(rt, stacks)?;
         }

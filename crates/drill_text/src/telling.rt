@@ -60,10 +60,10 @@ fn came_to(rt: &impl Print, told: Spelling, out: &[u8], quotes: bool) -> io::Res
     let places = out.len() - counting::bytes(out, FREE);
     let outcome = told.outcome;
     match outcome {
-        Outcome::Refused(why) => {
+        Err(why) => {
             printing::rule_refused(rt, why, told.place, told.bytes == 0 && places == 0)
         }
-        Outcome::Done => {
+        Ok(()) => {
             counted(rt, b" wrote", told.bytes)?;
             if quotes {
                 quoted(rt, out, told.bytes)?;

@@ -2,8 +2,9 @@
 use Rattle.meaning.proofs.Kit.{◌≡◌, ◌∙◌, sym, ap, refl, ap₂, List, [], ◌∷◌, ◌≤◌, ℕ, ◌<◌, ◌-◌, ◌+◌, suc, zero, sub-one, arith, length, get_or, drop}
 use Rattle.meaning.proofs.Kit.{ne_eqb, eq-eqb, le-leb, lt-leb}
 use Rattle.formula.proofs.Words.{Formula, symbol, neg, Refusal, BadLiteral, CutShort, UnknownKind, TooDeep, BytesLeftOver, kind_of, joined}
-use Rattle.formula.proofs.Words.{Parsed, good, bad, parse, body_of, symbol_at, after, second_of, levels, whole_of, read_of, past, Answer, Used}
-use Rattle.formula.proofs.Words.{Refused, Join, Kind, Symbol, Not, Two, Unknown}
+use Rattle.std.proofs.lemmas.List.{drop-drop}
+use Rattle.formula.proofs.Words.{Parsed, good, bad, parse, body_of, symbol_at, after, second_of, levels, whole_of, read_of, past, Result, Ok, Err, Break}
+use Rattle.formula.proofs.Words.{Join, Kind, Symbol, Not, Two, Unknown}
 use Rattle.formula.proofs.Parts.{onward, onward_drop}
 
 -- ---- a symbol's number
@@ -94,45 +95,60 @@ module _ (S : ℕ) {depth : ℕ} {bytes : List ℕ} where
 
 -- ---- a reader's answer from its operands' answers
 
-pub answer_good : (p : Parsed) {count : ℕ} → read_of p ≡ Used count → (f : Formula) × (p ≡ good f count)
+pub answer_good : (p : Parsed) {count : ℕ} → read_of p ≡ Ok count → (f : Formula) × (p ≡ good f count)
 answer_good (good f used) {count} e = let same : used ≡ count = cc in (f, ap (good f) same)
 answer_good (bad why at) e = let z : ◌≡◌ {A = ℕ} 0 1 = cc in absurd (omega arith)
 
-pub answer_bad : (p : Parsed) {why : Refusal} {at : ℕ} → read_of p ≡ Refused why at → p ≡ bad why at
+pub answer_bad : (p : Parsed) {at : Break} → read_of p ≡ Err at → p ≡ bad at.why at.place
 answer_bad (good f used) e = let z : ◌≡◌ {A = ℕ} 0 1 = cc in absurd (omega arith)
-answer_bad (bad why' at') {why} {at} e = let same : why' ≡ why = cc in let there : at' ≡ at = cc in ap₂ bad same there
+answer_bad (bad why place) {at} e =
+    let same : why ≡ at.why = cc in
+    let there : place ≡ at.place = cc in
+    ap₂ bad same there
 
 pub past_after : (skipped : ℕ) (wrap : Formula → Formula) (p : Parsed) → past skipped (read_of p) ≡ read_of (after skipped wrap p)
 past_after skipped wrap (good f used) = refl
 past_after skipped wrap (bad why at) = refl
 
 module _ (S : ℕ) {depth : ℕ} {bytes : List ℕ} where
-  pub reads_not : At depth bytes Not → {one : Answer} → one ≡ read_of (first S depth bytes) → past 1 one ≡ read_of (parse S depth bytes)
+  pub reads_not : At depth bytes Not → {one : Result ℕ Break} → one ≡ read_of (first S depth bytes) → past 1 one ≡ read_of (parse S depth bytes)
   reads_not at read = ap (past 1) read ∙ past_after 1 neg (first S depth bytes) ∙ sym (ap read_of (by_not S at))
 
-  module _ {join : Join} (at : At depth bytes (Two join)) {one : Answer} (read : one ≡ read_of (first S depth bytes)) where
-    pub reads_first : {why : Refusal} {place : ℕ} → one ≡ Refused why place → Refused why (1 + place) ≡ read_of (parse S depth bytes)
-    reads_first r = sym (ap read_of (by_first S at (answer_bad (first S depth bytes) (sym read ∙ r))))
+  module _ {join : Join} (at : At depth bytes (Two join)) {one : Result ℕ Break} (read : one ≡ read_of (first S depth bytes)) where
+    pub reads_first : {at : Break} → past 1 one ≡ Err at → Err at ≡ read_of (parse S depth bytes)
+    reads_first r = first_bad (first S depth bytes) refl (ap (past 1) (sym read) ∙ r)
+      where
+        first_bad : (p : Parsed) → first S depth bytes ≡ p → {at : Break} → past 1 (read_of p) ≡ Err at → Err at ≡ read_of (parse S depth bytes)
+        first_bad (good f used) e r = let z : ◌≡◌ {A = ℕ} 0 1 = cc in absurd (omega arith)
+        first_bad (bad why place) e r = sym r ∙ sym (ap read_of (by_first S at e))
 
-    pub reads_second : {count : ℕ} → one ≡ Used count → {two : Answer} → two ≡ read_of (second S depth bytes count)
-        → past (1 + count) two ≡ read_of (parse S depth bytes)
-    reads_second {count} r q =
-        let one_good = answer_good (first S depth bytes) (sym read ∙ r) in
-        ap (past (1 + count)) q
-        ∙ past_after (1 + count) (joined join one_good.0) (second S depth bytes count)
-        ∙ sym (ap read_of (by_second S at one_good.1))
+    pub reads_second : {count : ℕ} → past 1 one ≡ Ok count → {two : Result ℕ Break} → two ≡ read_of (parse S (depth - 1) (onward count bytes))
+        → past count two ≡ read_of (parse S depth bytes)
+    reads_second {count} r {two} q = first_good (first S depth bytes) refl (ap (past 1) (sym read) ∙ r)
+      where
+        first_good : (p : Parsed) → first S depth bytes ≡ p → past 1 (read_of p) ≡ Ok count → past count two ≡ read_of (parse S depth bytes)
+        first_good (good f used) e r =
+            let is : 1 + used ≡ count = cc in
+            let same : onward count bytes ≡ onward used (onward 1 bytes) =
+            rw (← is) (onward_drop (1 + used) bytes ∙ sym (onward_drop used (onward 1 bytes) ∙ ap (drop used) (onward_drop 1 bytes) ∙ drop-drop used 1 bytes)) in
+            ap₂ past (sym is) (q ∙ ap (λ (l : List ℕ). read_of (parse S (depth - 1) l)) same)
+            ∙ past_after (1 + used) (joined join f) (second S depth bytes used)
+            ∙ sym (ap read_of (by_second S at e))
+        first_good (bad why place) e r = let z : ◌≡◌ {A = ℕ} 0 1 = cc in absurd (omega arith)
 
 -- ---- nothing may follow the whole
 
-module _ (S : ℕ) (bytes : List ℕ) {answer : Answer} (read : answer ≡ read_of (parse S levels bytes)) where
-  pub whole_used : {count : ℕ} → answer ≡ Used count → count ≡ length bytes → Used count ≡ read_of (whole_of S bytes)
+module _ (S : ℕ) (bytes : List ℕ) {answer : Result ℕ Break} (read : answer ≡ read_of (parse S levels bytes)) where
+  pub whole_used : {count : ℕ} → answer ≡ Ok count → count ≡ length bytes → Ok count ≡ read_of (whole_of S bytes)
   unfolding whole_of
   whole_used {count} r h = rw ((answer_good (parse S levels bytes) (sym read ∙ r)).1, eq-eqb count (length bytes) h)
 
-  pub whole_more : {count : ℕ} → answer ≡ Used count → (count ≡ length bytes → ⊥) → Refused BytesLeftOver count ≡ read_of (whole_of S bytes)
+  pub whole_more : {count : ℕ} → answer ≡ Ok count → count < length bytes
+      → Err (record { why = BytesLeftOver; place = count }) ≡ read_of (whole_of S bytes)
   unfolding whole_of
-  whole_more {count} r h = rw ((answer_good (parse S levels bytes) (sym read ∙ r)).1, ne_eqb count (length bytes) h)
+  whole_more {count} r h =
+      rw ((answer_good (parse S levels bytes) (sym read ∙ r)).1, ne_eqb count (length bytes) (λ e. omega arith))
 
-  pub whole_bad : {why : Refusal} {at : ℕ} → answer ≡ Refused why at → Refused why at ≡ read_of (whole_of S bytes)
+  pub whole_bad : {at : Break} → answer ≡ Err at → Err at ≡ read_of (whole_of S bytes)
   unfolding whole_of
   whole_bad r = rw (answer_bad (parse S levels bytes) (sym read ∙ r))

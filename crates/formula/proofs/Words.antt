@@ -15,6 +15,6 @@ pub use Rattle.formula.specs.declared.reading.Join.{Join}
 pub use Rattle.formula.specs.declared.reading.Join.TheVariants.{And, Or, Implies, Same}
 pub use Rattle.formula.specs.declared.reading.Kind.{Kind}
 pub use Rattle.formula.specs.declared.reading.Kind.TheVariants.{Symbol, Not, Two, Unknown}
-pub use Rattle.formula.specs.declared.reading.Answer.{Answer}
-pub use Rattle.formula.specs.declared.reading.Answer.TheVariants.{Used, Refused}
+pub use Rattle.formula.specs.declared.reading.Break.{Break}
+pub use Rattle.std.specs.Prelude.{Result, Ok, Err}
 pub use Rattle.formula.specs.declared.truth.Valued.{Valued}

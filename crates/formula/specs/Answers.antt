@@ -3,26 +3,26 @@ use Rattle.std.specs.Prelude.{ℕ, zero, suc, ◌+◌, ◌-◌, ◌/◌, ◌%◌
 use Rattle.meaning.specs.Formulae.{Formula, symbol, neg, and, or, imp, same, value, symbols_of, look}
 use Rattle.meaning.specs.Clauses.{assignments}
 use Rattle.formula.specs.Parse.{Parsed, good, bad}
-use Rattle.formula.specs.declared.reading.Answer.{Answer}
-use Rattle.formula.specs.declared.reading.Answer.TheVariants.{Used, Refused}
+use Rattle.formula.specs.declared.reading.Break.{Break}
+use Rattle.std.specs.Prelude.{Result, Ok, Err}
 use Rattle.formula.specs.declared.naming.Names.{Names}
 use Rattle.formula.specs.declared.truth.Valued.{Valued}
 
 -- ---- reading
 
-abbrev pub read_of : Parsed → Answer
-read_of (good f used) = Used used
-read_of (bad why at) = Refused why at
+abbrev pub read_of : Parsed → Result ℕ Break
+read_of (good f used) = Ok used
+read_of (bad why at) = Err (record { why = why; place = at })
 
 -- an answer whose part starts `skipped` bytes into the whole
-abbrev pub past : ℕ → Answer → Answer
-past skipped (Used count) = Used (skipped + count)
-past skipped (Refused why at) = Refused why (skipped + at)
+abbrev pub past : ℕ → Result ℕ Break → Result ℕ Break
+past skipped (Ok count) = Ok (skipped + count)
+past skipped (Err b) = Err (record { why = b.why; place = skipped + b.place })
 
 -- how many bytes an answer looks back on
-abbrev pub extent : Answer → ℕ
-extent (Used count) = count
-extent (Refused why at) = at
+abbrev pub extent : Result ℕ Break → ℕ
+extent (Ok count) = count
+extent (Err b) = b.place
 
 abbrev pub is_good : Parsed → Bool
 is_good (good f used) = true

@@ -28,12 +28,11 @@ pub enum Kind {
     Unknown,
 }
 
-// What reading finds: how many bytes the formula takes, or why it is refused and the place of the byte at fault. Places count
-// from the front of the part that is read.
-#[derive(Drop)]
-pub enum Answer {
-    Used(usize),
-    Refused(Refusal, usize),
+// Where a formula breaks: why it is refused, and the place of the byte at fault. Places count from the front of the part that is read.
+#[derive(Clone, Copy)]
+pub struct Break {
+    pub why: Refusal,
+    pub place: usize,
 }
 
 pub fn kind_of(byte: u8) -> Kind
@@ -51,64 +50,80 @@ pub fn kind_of(byte: u8) -> Kind
 }
 
 // The answer of a part, where the part starts `skipped` bytes into the whole. Both lie in one slice, so that the sum fits.
-pub fn past_by(skipped: usize, answer: Answer) -> Answer
+pub fn past_by(skipped: usize, answer: Result<usize, Break>) -> Result<usize, Break>
     requires { skipped + extent answer ≤ 0x7fff_ffff_ffff_ffff }
     ensures { result ≡ past skipped answer }
 {
     match answer {
-        Answer::Used(count) => Answer::Used(skipped + count),
-        Answer::Refused(why, place) => Answer::Refused(why, skipped + place),
+        Ok(count) => Ok(skipped + count),
+        Err(at) => Err(Break {
+            why: at.why,
+            place: skipped + at.place,
+        }),
     }
 }
 
 // A symbol's own bytes: its kind and its number.
-fn read_symbol(body: &[u8], symbols: usize) -> Answer
+fn read_symbol(body: &[u8], symbols: usize) -> Result<usize, Break>
     ensures { result ≡ read_of (symbol_at symbols body.now) }
 {
     if body.len() == 0 {
-        return Answer::Refused(Refusal::CutShort, 1);
+        return Err(Break {
+            why: Refusal::CutShort,
+            place: 1,
+        });
     }
     let number = body[0] as usize;
     if number == 0 || symbols < number {
-        return Answer::Refused(Refusal::BadLiteral, 1);
+        return Err(Break {
+            why: Refusal::BadLiteral,
+            place: 1,
+        });
     }
-    Answer::Used(2)
+    Ok(2)
 }
 
 // Reads one formula from the front of `bytes`, with `depth` levels left for it and its operands.
-pub fn read(bytes: &[u8], symbols: usize, depth: usize) -> Answer
+pub fn read(bytes: &[u8], symbols: usize, depth: usize) -> Result<usize, Break>
     ensures { result ≡ read_of (parse symbols depth bytes.now) }
 {
     if depth == 0 {
-        return Answer::Refused(Refusal::TooDeep, 0);
+        return Err(Break {
+            why: Refusal::TooDeep,
+            place: 0,
+        });
     }
     if bytes.len() == 0 {
-        return Answer::Refused(Refusal::CutShort, 0);
+        return Err(Break {
+            why: Refusal::CutShort,
+            place: 0,
+        });
     }
     let body = &bytes[1..];
     match kind_of(bytes[0]) {
         Kind::Symbol => read_symbol(body, symbols),
         Kind::Not => past_by(1, read(body, symbols, depth - 1)),
-        Kind::Two(_) => match read(body, symbols, depth - 1) {
-            Answer::Used(count) => past_by(1 + count, read(&body[count..], symbols, depth - 1)),
-            Answer::Refused(why, place) => past_by(1, Answer::Refused(why, place)),
-        },
-        Kind::Unknown => Answer::Refused(Refusal::UnknownKind, 0),
+        Kind::Two(_) => {
+            let count = past_by(1, read(body, symbols, depth - 1))?;
+            past_by(count, read(&bytes[count..], symbols, depth - 1))
+        }
+        Kind::Unknown => Err(Break {
+            why: Refusal::UnknownKind,
+            place: 0,
+        }),
     }
 }
 
 // Reads the whole bytes as one formula: nothing may follow it.
-pub fn read_whole(bytes: &[u8], symbols: usize) -> Answer
+pub fn read_whole(bytes: &[u8], symbols: usize) -> Result<usize, Break>
     ensures { result ≡ read_of (whole_of symbols bytes.now) }
 {
-    match read(bytes, symbols, LEVELS) {
-        Answer::Used(count) => {
-            if count == bytes.len() {
-                Answer::Used(count)
-            } else {
-                Answer::Refused(Refusal::BytesLeftOver, count)
-            }
-        }
-        Answer::Refused(why, place) => Answer::Refused(why, place),
+    let count = read(bytes, symbols, LEVELS)?;
+    if count < bytes.len() {
+        return Err(Break {
+            why: Refusal::BytesLeftOver,
+            place: count,
+        });
     }
+    Ok(count)
 }

@@ -13,7 +13,7 @@ use Rattle.meaning.proofs.Order.{in_order_same, primes_same}
 use Rattle.literals.specs.Row.{most_rules, of_rule}
 use Rattle.implicates.specs.Hits.{index, sat_of, hit_table, marked, prime_in, prime_table}
 use Rattle.implicates.specs.Appending.{rule_by, appended, fits, answer_of, table_of}
-use Rattle.implicates.specs.declared.Appended.TheVariants.{Rows, Unsatisfiable, Full}
+use Rattle.std.specs.Prelude.{Ok, Err}
 use Rattle.implicates.proofs.Numbers.{clauses_some, number_empty, table_marks}
 use Rattle.implicates.proofs.Table.{index_below}
 use Rattle.implicates.proofs.Lone.{prime_in_prime}
@@ -62,17 +62,17 @@ hits_last n truth whole {r} f e =
 -- ---- what is told, and the table after it, on each way out
 
 module _ (rule : Rule) (used rules lent : ℕ) (table : List ℤ) where
-  pub told_unsatisfiable : satisfiable rule ≡ false → (Unsatisfiable ≡ answer_of rule used rules lent) × (table ≡ table_of rule used rules lent table)
+  pub told_unsatisfiable : satisfiable rule ≡ false → ((Err NoAssignment) ≡ answer_of rule used rules lent) × (table ≡ table_of rule used rules lent table)
   unfolding answer_of table_of
   told_unsatisfiable s = rw s (refl, refl)
 
   pub told_full : satisfiable rule ≡ true → fits used rules lent (rows_of rule) ≡ false
-      → (Full ≡ answer_of rule used rules lent) × (table ≡ table_of rule used rules lent table)
+      → ((Err TableFull) ≡ answer_of rule used rules lent) × (table ≡ table_of rule used rules lent table)
   unfolding answer_of table_of
   told_full s h = rw (s, h) (refl, refl)
 
   pub told_rows : satisfiable rule ≡ true → fits used rules lent (rows_of rule) ≡ true
-      → (Rows (length (rows_of rule)) ≡ answer_of rule used rules lent)
+      → (Ok (length (rows_of rule)) ≡ answer_of rule used rules lent)
       × (appended table used (of_rule (suc rules) (rows_of rule)) ≡ table_of rule used rules lent table)
   unfolding answer_of table_of
   told_rows s h = rw (s, h) (refl, refl)
@@ -93,12 +93,12 @@ module _ (used rules lent : ℕ) (rows : List (List ℕ)) where
       (leb-true _ _ b.0, eqb-false rules most_rules (not-true (eqb rules most_rules) b.1))
 
 -- an answer of n rows says that they fit
-pub told_fit : (rule : Rule) (used rules lent n : ℕ) → answer_of rule used rules lent ≡ Rows n → (n ≡ length (rows_of rule)) × (used + n ≤ lent)
+pub told_fit : (rule : Rule) (used rules lent n : ℕ) → answer_of rule used rules lent ≡ Ok n → (n ≡ length (rows_of rule)) × (used + n ≤ lent)
 unfolding answer_of
 told_fit rule used rules lent n e = go (satisfiable rule) (fits used rules lent (rows_of rule)) refl e
   where
     go : (s enough : Bool) → fits used rules lent (rows_of rule) ≡ enough
-        → cond s (cond enough (Rows (length (rows_of rule))) Full) Unsatisfiable ≡ Rows n → (n ≡ length (rows_of rule)) × (used + n ≤ lent)
+        → cond s (cond enough (Ok (length (rows_of rule))) (Err TableFull)) (Err NoAssignment) ≡ Ok n → (n ≡ length (rows_of rule)) × (used + n ≤ lent)
     go true true f q = let r : n ≡ length (rows_of rule) = cc in (r, omega (arith, (fits_facts used rules lent (rows_of rule) f).0))
     go true false f q = let z : ◌≡◌ {A = ℕ} 0 1 = cc in absurd (omega arith)
     go false enough f q = let z : ◌≡◌ {A = ℕ} 0 1 = cc in absurd (omega arith)

@@ -5,7 +5,7 @@ use Rattle.meaning.specs.Clauses.{rows_of, satisfiable}
 use Rattle.literals.specs.Row.{width, most_rules, Ruled, of_rule, numbered}
 use Rattle.implicates.specs.Hits.{sat_of}
 use Rattle.implicates.specs.declared.Appended.{Appended}
-use Rattle.implicates.specs.declared.Appended.TheVariants.{Rows, Unsatisfiable, Full}
+use Rattle.std.specs.Prelude.{Ok, Err}
 
 -- the rule that a truth table tells
 abbrev pub rule_by : List ℕ → List Bool → Rule
@@ -31,7 +31,7 @@ fits used rules lent rows = leb (used + length rows) lent && not (eqb rules most
 
 -- how many rows the rule appended, where `rules` were accepted before it; or 8, "no assignment satisfies the rule"; or 9
 unfoldable pub answer_of : Rule → (used rules lent : ℕ) → Appended
-answer_of rule used rules lent = cond (satisfiable rule) (cond (fits used rules lent (rows_of rule)) (Rows (length (rows_of rule))) Full) Unsatisfiable
+answer_of rule used rules lent = cond (satisfiable rule) (cond (fits used rules lent (rows_of rule)) (Ok (length (rows_of rule))) (Err TableFull)) (Err NoAssignment)
 
 -- and the table after it: a refusal writes nothing
 unfoldable pub table_of : Rule → (used rules lent : ℕ) → List ℤ → List ℤ

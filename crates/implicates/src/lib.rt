@@ -40,13 +40,13 @@ pub fn append_rule(
     let count = hits::clause_count(n);
     hits::fill_hits(truth, n, &mut clauses[..count]);
     if !clauses[count - 1] {
-        return Appended::Unsatisfiable;
+        return Err(Refusal::NoAssignment);
     }
     hits::mark_primes(&mut clauses[..count], n);
     let rows = rows::row_count(&clauses[..count], n);
     if lent - used < rows || rules == MOST_RULES {
-        return Appended::Full;
+        return Err(Refusal::TableFull);
     }
     rows::append_primes(table, used, rules + 1, symbols, &clauses[..count], n);
-    Appended::Rows(rows)
+    Ok(rows)
 }

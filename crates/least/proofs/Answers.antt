@@ -13,7 +13,7 @@ use Rattle.board.specs.Furnaces.{is_furnace, held_by}
 use Rattle.board.specs.Faults.{good_board}
 use Rattle.board.specs.Ranking.{rows_on}
 use Rattle.board.specs.declared.Board.{Board}
-use Rattle.board.specs.declared.Outcome.TheVariants.{Done, Refused}
+use Rattle.std.specs.Prelude.{Ok, Err}
 use Rattle.candidates.specs.Given.{most_candidates, places_of, repeats}
 use Rattle.least.specs.Withdrawing.{leaves_conflict, least_at, least_faults, least_answer}
 use Rattle.least.specs.Search.{Searched, stay_answer, given_answer}
@@ -22,22 +22,22 @@ use Rattle.least.specs.Search.{Searched, stay_answer, given_answer}
 
 module _ (table : List ℤ) (b : Board) (furnace : ℕ) (places : List ℕ) where
   pub stays : leaves_conflict table b furnace places ≡ true
-      → record { outcome = Refused ConflictStays; set = none } ≡ stay_answer table b furnace places
+      → record { outcome = Err ConflictStays; set = none } ≡ stay_answer table b furnace places
   stays e = rw e
 
   pub ended : leaves_conflict table b furnace places ≡ false → {set : ℕ} → set ≡ least_at table b furnace places
-      → record { outcome = Done; set = set } ≡ stay_answer table b furnace places
+      → record { outcome = (Ok tt); set = set } ≡ stay_answer table b furnace places
   ended e {set} is = rw (e, is)
 
 -- ---- 17, 11, or those
 
 module _ (table : List ℤ) (b : Board) (furnace : ℕ) (cands : List ℤ) where
-  pub repeated_told : repeats (places_of cands) ≡ true → record { outcome = Refused BadCandidates; set = none } ≡ given_answer table b furnace cands
+  pub repeated_told : repeats (places_of cands) ≡ true → record { outcome = Err BadCandidates; set = none } ≡ given_answer table b furnace cands
   repeated_told e = rw e
 
   module _ (different : repeats (places_of cands) ≡ false) where
     pub not_held_told : all (has (held_by b furnace)) (places_of cands) ≡ false
-        → record { outcome = Refused NotHeld; set = none } ≡ given_answer table b furnace cands
+        → record { outcome = Err NotHeld; set = none } ≡ given_answer table b furnace cands
     not_held_told e = rw (different, e)
 
     pub held_told : all (has (held_by b furnace)) (places_of cands) ≡ true
@@ -47,23 +47,23 @@ module _ (table : List ℤ) (b : Board) (furnace : ℕ) (cands : List ℤ) where
 -- ---- 1, 16, 2, 17 of too many, or those
 
 module _ (table : List ℤ) (b : Board) (furnace : ℕ) (cands : List ℤ) where
-  pub bad_board : good_board table b ≡ false → record { outcome = Refused BadBoard; set = none } ≡ least_answer table b furnace cands
+  pub bad_board : good_board table b ≡ false → record { outcome = Err BadBoard; set = none } ≡ least_answer table b furnace cands
   unfolding least_answer least_faults
   bad_board e = rw e
 
   module _ (good : good_board table b ≡ true) where
-    pub bad_furnace : is_furnace furnace ≡ false → record { outcome = Refused BadFurnace; set = none } ≡ least_answer table b furnace cands
+    pub bad_furnace : is_furnace furnace ≡ false → record { outcome = Err BadFurnace; set = none } ≡ least_answer table b furnace cands
     unfolding least_answer least_faults
     bad_furnace e = rw (good, e)
 
     module _ (named : is_furnace furnace ≡ true) where
       pub bad_literal : all (in_range b.symbols) cands ≡ false
-          → record { outcome = Refused BadLiteral; set = none } ≡ least_answer table b furnace cands
+          → record { outcome = Err BadLiteral; set = none } ≡ least_answer table b furnace cands
       unfolding least_answer least_faults
       bad_literal e = rw (good, named, e)
 
       module _ (range : all (in_range b.symbols) cands ≡ true) where
-        pub too_many_lem : most_candidates < length cands → record { outcome = Refused BadCandidates; set = none } ≡ least_answer table b furnace cands
+        pub too_many_lem : most_candidates < length cands → record { outcome = Err BadCandidates; set = none } ≡ least_answer table b furnace cands
         unfolding least_answer least_faults
         too_many_lem h = rw (good, named, range, lt-leb (length cands) most_candidates h)
 

@@ -21,8 +21,8 @@ use Rattle.board.specs.Ranking.{rows_on, derived_on}
 use Rattle.board.specs.Settling.{over}
 use Rattle.board.specs.Grounds.{byte_of, blame_faults, blame_outcome, blame_marks}
 use Rattle.board.specs.declared.Board.{Board}
-use Rattle.board.specs.declared.Outcome.{Outcome}
-use Rattle.board.specs.declared.Outcome.TheVariants.{Done, Refused}
+use Rattle.board.specs.Faults.{Outcome}
+use Rattle.std.specs.Prelude.{Ok, Err}
 use Rattle.board.proofs.Goodness.{good_is}
 use Rattle.board.proofs.Grounded.{mark_at_lem}
 use Rattle.board.proofs.Answered.{refused_not_done}
@@ -38,11 +38,11 @@ one_byte true = refl
 one_byte false = refl
 
 -- blame is done just where a conflict is left
-done_leaves : (c : Bool) → cond c Done (Refused NothingToShow) ≡ Done → c ≡ true
+done_leaves : (c : Bool) → cond c (Ok tt) (Err NothingToShow) ≡ Ok tt → c ≡ true
 done_leaves true e = refl
 done_leaves false e = refused_not_done e
 
-refused_ends : (c : Bool) {why : Refusal} → cond c Done (Refused NothingToShow) ≡ Refused why → c ≡ false
+refused_ends : (c : Bool) {why : Refusal} → cond c (Ok tt) (Err NothingToShow) ≡ Err why → c ≡ false
 refused_ends true e = refused_not_done (sym e)
 refused_ends false e = refl
 
@@ -73,12 +73,12 @@ module _ (table : List ℤ) (b : Board) (furnace : ℕ) (places : List ℕ) (m :
 
       -- blame is refused just where no conflict is left
       pub blamed_left : blame_outcome table (struck_on b furnace places m) furnace marks
-          ≡ cond (leaves_conflict table b furnace (chosen places m)) Done (Refused NothingToShow)
+          ≡ cond (leaves_conflict table b furnace (chosen places m)) (Ok tt) (Err NothingToShow)
       unfolding blame_outcome blame_faults
       blamed_left =
           rw (struck_good table b furnace places m low, good, named, room, same) (go (leaves_conflict table b furnace (chosen places m)))
         where
-          go : (c : Bool) → cond (not c) (Refused NothingToShow) Done ≡ cond c Done (Refused NothingToShow)
+          go : (c : Bool) → cond (not c) (Err NothingToShow) (Ok tt) ≡ cond c (Ok tt) (Err NothingToShow)
           go true = refl
           go false = refl
 
@@ -90,8 +90,8 @@ module _ (table : List ℤ) (b : Board) (furnace : ℕ) (places : List ℕ) (m :
       unfolding blame_marks struck_on with_held
       written c =
           ap (λ (o : Outcome). over o (map byte_of (blame b.symbols (rows_on table b) (held_by (struck_on b furnace places m) furnace))) marks)
-          (blamed_left ∙ ap (λ (t : Bool). cond t Done (Refused NothingToShow)) c)
-          ∙ ap (λ (h : List Bool). over Done (map byte_of (blame b.symbols (rows_on table b) h)) marks) (struck_held table b furnace places m named)
+          (blamed_left ∙ ap (λ (t : Bool). cond t (Ok tt) (Err NothingToShow)) c)
+          ∙ ap (λ (h : List Bool). over (Ok tt) (map byte_of (blame b.symbols (rows_on table b) h)) marks) (struck_held table b furnace places m named)
 
       -- and the candidates that it marks are the core
       pub core_is : leaves_conflict table b furnace (chosen places m) ≡ true
@@ -108,10 +108,10 @@ module _ (table : List ℤ) (b : Board) (furnace : ℕ) (places : List ℕ) (m :
       -- so what blame answers on the board with the set struck off tells the effect
       module _ {struck : Board} (is : struck ≡ struck_on b furnace places m) {o : Outcome}
           (answered : o ≡ blame_outcome table struck furnace marks) where
-        told : o ≡ cond (leaves_conflict table b furnace (chosen places m)) Done (Refused NothingToShow)
+        told : o ≡ cond (leaves_conflict table b furnace (chosen places m)) (Ok tt) (Err NothingToShow)
         told = answered ∙ ap (λ (c : Board). blame_outcome table c furnace marks) is ∙ blamed_left
 
-        pub leaves_told : o ≡ Done → {now : List ℕ} → now ≡ blame_marks table struck furnace marks → {core : ℕ} → core ≡ marked_set now places
+        pub leaves_told : o ≡ Ok tt → {now : List ℕ} → now ≡ blame_marks table struck furnace marks → {core : ℕ} → core ≡ marked_set now places
             → Leaves core ≡ effect_of table b furnace places m
         unfolding effect_of
         leaves_told e {now} w {core} k =
@@ -119,7 +119,7 @@ module _ (table : List ℤ) (b : Board) (furnace : ℕ) (places : List ℕ) (m :
             let over-struck = w ∙ ap (λ (c : Board). blame_marks table c furnace marks) is in
             rw (c, k ∙ ap (λ (ms : List ℕ). marked_set ms places) over-struck ∙ core_is c)
 
-        pub ends_told : {why : Refusal} → o ≡ Refused why → Ends ≡ effect_of table b furnace places m
+        pub ends_told : {why : Refusal} → o ≡ Err why → Ends ≡ effect_of table b furnace places m
         unfolding effect_of
         ends_told e = rw (refused_ends (leaves_conflict table b furnace (chosen places m)) (sym told ∙ e))
 

@@ -13,7 +13,7 @@ use Rattle.board.specs.Furnaces.{is_furnace, held_by}
 use Rattle.board.specs.Faults.{good_board, Fault, first_fault, if_done}
 use Rattle.board.specs.Ranking.{rows_on}
 use Rattle.board.specs.declared.Board.{Board}
-use Rattle.board.specs.declared.Outcome.{Outcome}
+use Rattle.board.specs.Faults.{Outcome}
 use Rattle.candidates.specs.Given.{too_many, places_of, repeats}
 use Rattle.least.specs.declared.Withdrawal.{Withdrawal}
 

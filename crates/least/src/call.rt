@@ -21,10 +21,10 @@ use candidates::sets::power;
 use literals::refusal::Refusal;
 
 fn refused(why: Refusal) -> Withdrawal
-    ensures { result ≡ record { outcome = Outcome.Refused why; set = none } }
+    ensures { result ≡ record { outcome = Err why; set = none } }
 {
     Withdrawal {
-        outcome: Outcome::Refused(why),
+        outcome: Err(why),
         set: NO_SET,
     }
 }
@@ -41,7 +41,7 @@ fn least_held(board: Board, table: &[i16], furnace: u8, places: &[usize]) -> Wit
         Effect::Ends => {
             let mut cores = [0u16; 256];
             Withdrawal {
-                outcome: Outcome::Done,
+                outcome: Ok(()),
                 set: search(board, table, furnace, places, &mut cores) as u16,
             }
         }

@@ -83,7 +83,7 @@ pub fn effect_of(board: Board, table: &[i16], furnace: u8, places: &[usize], set
         furnace,
         &mut marks,
     ) {
-        Outcome::Done => Effect::Leaves(marked(&marks, places)),
-        Outcome::Refused(_) => Effect::Ends,
+        Ok(()) => Effect::Leaves(marked(&marks, places)),
+        Err(_) => Effect::Ends,
     }
 }

@@ -9,10 +9,10 @@ use Rattle.board.specs.Rules.{ruled}
 use Rattle.board.specs.Asking.{asked, explain_part, explain_numbers}
 use Rattle.board.specs.declared.Board.{Board}
 use Rattle.board.specs.declared.Change.{Change}
-use Rattle.board.specs.declared.Outcome.{Outcome}
-use Rattle.board.specs.declared.Outcome.TheVariants.{Done, Refused}
+use Rattle.board.specs.Faults.{Outcome}
+use Rattle.std.specs.Prelude.{Ok, Err}
 use Rattle.board.specs.declared.asking.Standing.{Standing}
-use Rattle.board.specs.declared.asking.Standing.TheVariants.{Conflict, Stands, RuledOut, Open as Unsettled, Refused as Unasked}
+use Rattle.board.specs.declared.asking.Standing.TheVariants.{Conflict, Stands, RuledOut, Open as Unsettled}
 use Rattle.lines.specs.Words.{ok_word}
 use Rattle.lines.specs.Commands.{accepted, ask_said, body_length, body_said, change_said, command_at, command_said, command_table, formula_bytes}
 use Rattle.lines.specs.Commands.{formula_length, journal_furnace, literal_in, of_bytes, of_call, reason_text, refused, refused_at, rows_text, Said}
@@ -57,8 +57,8 @@ module _ (b : Board) (table : List ℤ) (body : List ℕ) where
 -- however a call ends, its command takes as many bytes
 ending_used : (o : Outcome) (b : Board) (used : ℕ) (text : List ℕ) (other : Refusal → Said) → ((why : Refusal) → (other why).used ≡ used)
     → (if_done o (accepted b used text) other).used ≡ used
-ending_used Done b used text other h = refl
-ending_used (Refused why) b used text other h = h why
+ending_used (Ok tt) b used text other h = refl
+ending_used (Err why) b used text other h = h why
 
 change_used : (used : ℕ) (c : Change) → (change_said used c).used ≡ used
 change_used used c = ending_used c.outcome c.board used ok_word (refused c.board used of_call) (λ why. refl)
@@ -68,7 +68,7 @@ standing_used b Conflict = refl
 standing_used b Stands = refl
 standing_used b RuledOut = refl
 standing_used b Unsettled = refl
-standing_used b (Unasked why) = refl
+standing_used b (Err why) = refl
 
 abbrev Within : ℕ → ℕ → Type 0
 Within most n = (1 ≤ n) × (n ≤ 1 + most)

@@ -7,8 +7,8 @@ use Rattle.board.specs.Ranking.{support_on}
 use Rattle.board.specs.Asking.{explain_faults, explain_part, Span}
 use Rattle.literals.proofs.Counting.{count_few}
 use Rattle.board.specs.declared.Board.{Board}
-use Rattle.board.specs.declared.Outcome.{Outcome}
-use Rattle.board.specs.declared.Outcome.TheVariants.{Done, Refused}
+use Rattle.board.specs.Faults.{Outcome}
+use Rattle.std.specs.Prelude.{Ok, Err}
 
 -- the part that explain hands back
 pub part_most : (table : List ℤ) (b : Board) (furnace : ℕ) (l : ℤ) → (explain_part table b furnace l).stop - (explain_part table b furnace l).start ≤ 8
@@ -20,5 +20,5 @@ part_most table b furnace l =
     go : (o : Outcome) (start count : ℕ) → count ≤ 8
         → (if_done {A = Span} o (record { start = start; stop = start + count }) (λ _. record { start = 0; stop = 0 })).stop
         - (if_done {A = Span} o (record { start = start; stop = start + count }) (λ _. record { start = 0; stop = 0 })).start ≤ 8
-    go Done start count h = omega arith
-    go (Refused why) start count h = omega arith
+    go (Ok tt) start count h = omega arith
+    go (Err why) start count h = omega arith

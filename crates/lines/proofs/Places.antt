@@ -7,7 +7,7 @@ use Rattle.formula.proofs.Faults.{parse_faults}
 use Rattle.board.specs.Faults.{first_fault, good_board}
 use Rattle.board.specs.Rules.{rule_faults, ruled}
 use Rattle.board.specs.declared.Board.{Board}
-use Rattle.board.specs.declared.Outcome.TheVariants.{Refused}
+use Rattle.std.specs.Prelude.{Err}
 use Rattle.board.specs.declared.rules.Addition.{Addition}
 use Rattle.board.proofs.Adding.{place_told_lem, rule_refused}
 use Rattle.lines.specs.Commands.{command_said, formula_bytes, formula_length, said}
@@ -15,12 +15,12 @@ use Rattle.lines.specs.Promises.{BreakSaid}
 
 module _ (table : List ℤ) (b : Board) (body : List ℕ) (why : Refusal) (at : ℕ) (sound : good_board table b ≡ true)
     (e : parse b.symbols levels body ≡ bad why at) where
-  refused_there : ((ruled table b (formula_bytes b body)).outcome ≡ Refused why) × ((ruled table b (formula_bytes b body)).place ≡ at)
+  refused_there : ((ruled table b (formula_bytes b body)).outcome ≡ Err why) × ((ruled table b (formula_bytes b body)).place ≡ at)
   unfolding formula_length whole_of rule_faults
   refused_there =
       let bytes = formula_bytes b body in
       let read : whole_of b.symbols bytes ≡ bad why at = rw (e, take-length body, e) in
-      let first : first_fault (rule_faults table b bytes) ≡ Refused why = rw (sound, read) in
+      let first : first_fault (rule_faults table b bytes) ≡ Err why = rw (sound, read) in
       let a = (rule_refused table b bytes why first (place_told_lem b.symbols bytes read)).0 in
       (sym (ap (λ (x : Addition). x.outcome) a), sym (ap (λ (x : Addition). x.place) a))
 

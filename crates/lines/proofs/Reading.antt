@@ -7,19 +7,19 @@ use mir.Val.{hbits}
 use Rattle.literals.specs.declared.refusal.Refusal.{Refusal}
 use Rattle.formula.specs.Parse.{Parsed, good, bad, levels, parse}
 use Rattle.formula.specs.Answers.{read_of, used_of}
-use Rattle.formula.specs.declared.reading.Answer.TheVariants.{Used, Refused}
+use Rattle.std.specs.Prelude.{Ok, Err}
 use Rattle.formula.proofs.Extents.{parse_used}
 use Rattle.lines.specs.Commands.{formula_length, length_of, literal_in}
 
 -- ---- the formula
 
 -- a good formula is as long as reading it says
-pub length_good : (p : Parsed) (rest n : ℕ) → read_of p ≡ Used n → length_of rest p ≡ n
+pub length_good : (p : Parsed) (rest n : ℕ) → read_of p ≡ Ok n → length_of rest p ≡ n
 length_good (good f used) rest n e = cc
 length_good (bad why at) rest n e = cc
 
 -- of a faulty one all bytes are tried
-pub length_bad : (p : Parsed) (rest at : ℕ) (why : Refusal) → read_of p ≡ Refused why at → length_of rest p ≡ rest
+pub length_bad : (p : Parsed) (rest at : ℕ) (why : Refusal) → read_of p ≡ Err why at → length_of rest p ≡ rest
 length_bad (good f used) rest at why e = cc
 length_bad (bad because place) rest at why e = cc
 

@@ -12,7 +12,8 @@ use Rattle.board.specs.declared.Board.{Board}
 use Rattle.board.specs.declared.Change.{Change}
 use Rattle.board.specs.declared.rules.Addition.{Addition}
 use Rattle.board.specs.declared.asking.Standing.{Standing}
-use Rattle.board.specs.declared.asking.Standing.TheVariants.{Conflict, Stands, RuledOut, Open as Unsettled, Refused}
+use Rattle.board.specs.declared.asking.Standing.TheVariants.{Conflict, Stands, RuledOut, Open as Unsettled}
+use Rattle.std.specs.Prelude.{Err}
 use Rattle.lines.specs.declared.commands.Command.{Command}
 use Rattle.lines.specs.declared.commands.Command.TheVariants.{Open, Rule, Hold, Drop, Ask, Why, Other}
 use Rattle.lines.specs.declared.saying.Progress.{Progress}
@@ -97,7 +98,7 @@ ask_said b Conflict = accepted b 3 conflict_word
 ask_said b Stands = accepted b 3 stands_word
 ask_said b RuledOut = accepted b 3 out_word
 ask_said b Unsettled = accepted b 3 open_word
-ask_said b (Refused why) = refused b 3 of_call why
+ask_said b (Err why) = refused b 3 of_call why
 
 -- "for explain `rank R row N:` and the row's literals"
 abbrev pub reason_text : (rank row : ℕ) → List ℤ → List ℕ

@@ -64,7 +64,7 @@ pub fn formula_length(body: &[u8], symbols: usize) -> usize
     ensures { result ≡ formula_length symbols body.now }
 {
     match formula::reading::read(body, symbols, LEVELS) {
-        Answer::Used(count) => count,
-        Answer::Refused(_, _) => body.len(),
+        Ok(count) => count,
+        Err(_) => body.len(),
     }
 }

@@ -107,8 +107,8 @@ fn say_change(change: Change, used: usize, out: &mut [u8], at: usize) -> Progres
 {
     let outcome = change.outcome;
     match outcome {
-        Outcome::Done => accept(change.board, used, b" ok", out, at),
-        Outcome::Refused(why) => refuse(change.board, used, OF_CALL, why, out, at),
+        Ok(()) => accept(change.board, used, b" ok", out, at),
+        Err(why) => refuse(change.board, used, OF_CALL, why, out, at),
     }
 }
 
@@ -123,7 +123,7 @@ fn say_standing(board: Board, standing: Standing, out: &mut [u8], at: usize) -> 
         Standing::Stands => accept(board, 3, b" stands", out, at),
         Standing::RuledOut => accept(board, 3, b" out", out, at),
         Standing::Open => accept(board, 3, b" open", out, at),
-        Standing::Refused(why) => refuse(board, 3, OF_CALL, why, out, at),
+        Err(why) => refuse(board, 3, OF_CALL, why, out, at),
     }
 }
 
@@ -136,8 +136,8 @@ fn say_why(board: Board, table: &[i16], l: i16, out: &mut [u8], at: usize) -> Pr
     let reason = asking::explain_numbers(board, table, FURNACE, l);
     let outcome = reason.outcome;
     match outcome {
-        Outcome::Refused(why) => refuse(board, 3, OF_CALL, why, out, at),
-        Outcome::Done => {
+        Err(why) => refuse(board, 3, OF_CALL, why, out, at),
+        Ok(()) => {
             let literals = asking::explain(board, table, FURNACE, l);
             let written = put_reason(out, at, reason.rank, reason.row, literals);
             Progress {
@@ -199,8 +199,8 @@ fn say_addition(
     let outcome = addition.outcome;
     let board = addition.board;
     match outcome {
-        Outcome::Refused(why) => refuse_at(board, used, addition.place, why, out, at),
-        Outcome::Done => {
+        Err(why) => refuse_at(board, used, addition.place, why, out, at),
+        Ok(()) => {
             let written = put_rows(out, at, before, addition.added);
             Progress {
                 board,

@@ -2,8 +2,8 @@
 use Rattle.meaning.proofs.Kit.{◌≡◌, ◌∙◌, sym, ap, refl, ⊎_elim, List, [], ◌∷◌, ◌++◌}
 use Rattle.meaning.proofs.Tests.{true_or_false}
 use Rattle.board.specs.Faults.{if_done}
-use Rattle.board.specs.declared.Outcome.{Outcome}
-use Rattle.board.specs.declared.Outcome.TheVariants.{Done, Refused}
+use Rattle.board.specs.Faults.{Outcome}
+use Rattle.std.specs.Prelude.{Ok, Err}
 use Rattle.promises.specs.Calls.{Call, opens, World, outcome, after, run}
 use Rattle.orders.specs.Lines.{Line, opening, naming, working, calling, asking, slipping, resting}
 use Rattle.orders.specs.States.{State, ordered, did, calls_of, tells, is_made}
@@ -20,8 +20,8 @@ did_run s (opening S) = go (outcome s.world (opens S)) _ refl
   where
     go : (o : Outcome) (next : State) → next.world ≡ after s.world (opens S)
         → (if_done o next (λ _. s)).world ≡ run s.world (if_done o (opens S ∷ []) (λ _. []))
-    go Done next e = e
-    go (Refused why) next e = refl
+    go (Ok tt) next e = e
+    go (Err why) next e = refl
 did_run s (naming n word) = ⊎_elim (λ e. rw e) (λ e. rw e) (true_or_false (is_made (tells s (naming n word)).reply))
 did_run s (working f) = refl
 did_run s (calling c) = refl

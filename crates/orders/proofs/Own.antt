@@ -1,6 +1,6 @@
 -- The desk's own lines: a new board, a name, a furnace.
 use Rattle.meaning.proofs.Kit.{◌≡◌, ap, refl, true, false, Bool, cond, List, [], ◌∷◌, ℕ, suc, zero, ℤ, replicate}
-use Rattle.board.specs.declared.Outcome.TheVariants.{Done, Refused}
+use Rattle.std.specs.Prelude.{Ok, Err}
 use Rattle.literals.specs.declared.refusal.Refusal.{Refusal}
 use Rattle.stack.specs.Steps.{opened_with}
 use Rattle.names.specs.Slots.{padded}
@@ -10,7 +10,7 @@ use Rattle.orders.specs.Lines.{opening, naming, working}
 use Rattle.orders.specs.States.{State, state_of, did, tells, simply, is_made, named_reply, with_name, worked, work_reply, Does}
 use Rattle.orders.specs.declared.Desk.{Desk}
 use Rattle.orders.specs.declared.Told.{Told}
-use Rattle.orders.specs.declared.Reply.TheVariants.{Done as Made, Refused as Denied}
+use Rattle.orders.specs.declared.Reply.TheVariants.{(Ok tt) as Made, Err as Denied}
 
 -- a slot of an empty word is all zeros
 pub zeros : (n : ℕ) → padded n [] ≡ replicate n 0
@@ -22,7 +22,7 @@ module _ (d : Desk) (table : List ℤ) (names : List ℕ) where
   abbrev now_there : State
   now_there = state_of d table names
 
-  pub opened_does : (S : ℕ) → (opened_with S d.stacks).change.outcome ≡ Done
+  pub opened_does : (S : ℕ) → (opened_with S d.stacks).change.outcome ≡ Ok tt
       → let step = opened_with S d.stacks in
       Does now_there
       (state_of (record { board = step.change.board; stacks = step.stacks; furnace = 1 }) table (replicate table_length 0))
@@ -30,7 +30,7 @@ module _ (d : Desk) (table : List ℤ) (names : List ℕ) where
   unfolding did tells after answer outcome
   opened_does S e = record { moved = rw e; says = rw e }
 
-  pub unopened_does : (S : ℕ) (why : Refusal) → (opened_with S d.stacks).change.outcome ≡ Refused why
+  pub unopened_does : (S : ℕ) (why : Refusal) → (opened_with S d.stacks).change.outcome ≡ Err why
       → Does now_there now_there (opening S) (simply (Denied why))
   unfolding did tells after answer outcome
   unopened_does S why e = record { moved = rw e; says = rw e }

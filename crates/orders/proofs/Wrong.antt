@@ -2,8 +2,8 @@
 use Rattle.meaning.proofs.Kit.{◌≡◌, ◌∙◌, sym, ap, refl, true, false, Bool, cond, true≢false, List, ℕ, ltb, ℤ, length}
 use Rattle.board.specs.Faults.{if_done}
 use Rattle.board.specs.Furnaces.{is_furnace}
-use Rattle.board.specs.declared.Outcome.{Outcome}
-use Rattle.board.specs.declared.Outcome.TheVariants.{Done, Refused}
+use Rattle.board.specs.Faults.{Outcome}
+use Rattle.std.specs.Prelude.{Ok, Err}
 use Rattle.names.specs.Names.{is_name}
 use Rattle.promises.specs.Calls.{Call, World, Answer, of_change, of_addition, of_reading, of_writing, of_spelling, of_settle, of_ask, of_explain, of_marks}
 use Rattle.promises.specs.Calls.{of_listing, of_withdrawal, opens, answer, outcome, outcome_of, after, not_open}
@@ -109,13 +109,13 @@ same_reply (of_listing a sets) = refl
 same_reply (of_withdrawal a) = refl
 
 call_leaves : (w : World) (c : Call) → not_open c ≡ true → (o : Outcome) → outcome w c ≡ o → is_made (reply_of o) ≡ false → after w c ≡ w
-call_leaves w c own Done e h = absurd (true≢false h)
-call_leaves w c own (Refused why) e h = refused_untouched w c why e ∙ rw own
+call_leaves w c own (Ok tt) e h = absurd (true≢false h)
+call_leaves w c own (Err why) e h = refused_untouched w c why e ∙ rw own
 
 module _ (s : State) where
   open_leaves : (S : ℕ) (next : State) (o : Outcome) → is_made (reply_of o) ≡ false → if_done o next (λ _. s) ≡ s
-  open_leaves S next Done h = absurd (true≢false h)
-  open_leaves S next (Refused why) h = refl
+  open_leaves S next (Ok tt) h = absurd (true≢false h)
+  open_leaves S next (Err why) h = refl
 
   work_leaves : (f : ℕ) (b : Bool) → is_furnace f ≡ b → is_made (work_reply f) ≡ false → worked s.furnace f ≡ s.furnace
   work_leaves f true e h = absurd (true≢false (rw e at h))

@@ -5,8 +5,8 @@ use Rattle.literals.specs.declared.refusal.Refusal.TheVariants.{BadBoard, BadLit
 use Rattle.board.specs.Faults.{if_done}
 use Rattle.board.specs.Furnaces.{is_furnace}
 use Rattle.board.specs.Rules.{no_place}
-use Rattle.board.specs.declared.Outcome.{Outcome}
-use Rattle.board.specs.declared.Outcome.TheVariants.{Done, Refused}
+use Rattle.board.specs.Faults.{Outcome}
+use Rattle.std.specs.Prelude.{Ok, Err}
 use Rattle.names.specs.Slots.{padded}
 use Rattle.names.specs.Names.{is_known, most_named, symbol_named, table_length}
 use Rattle.promises.specs.Calls.{Call, opens, World, Answer, of_change, of_addition, of_reading, of_writing, of_spelling, of_settle, of_ask, of_explain}
@@ -15,7 +15,7 @@ use Rattle.orders.specs.Lines.{Line, opening, naming, working, calling, asking, 
 use Rattle.orders.specs.declared.Desk.{Desk}
 use Rattle.orders.specs.declared.Told.{Told}
 use Rattle.orders.specs.declared.Reply.{Reply}
-use Rattle.orders.specs.declared.Reply.TheVariants.{Done as Made, Refused as Denied, Not, Asks, Nothing}
+use Rattle.orders.specs.declared.Reply.TheVariants.{(Ok tt) as Made, Err as Denied, Not, Asks, Nothing}
 use Rattle.orders.specs.declared.Slip.TheVariants.{NameTaken}
 
 -- the board, the table and the record; the furnace that lines work; and the table of names
@@ -35,8 +35,8 @@ ordered s line = line_of (length s.world.table) s.furnace s.names line
 -- ---- what a line comes to
 
 abbrev pub reply_of : Outcome → Reply
-reply_of Done = Made
-reply_of (Refused why) = Denied why
+reply_of (Ok tt) = Made
+reply_of (Err why) = Denied why
 
 abbrev pub simply : Reply → Told
 simply reply = record { reply = reply; place = no_place; added = 0 }

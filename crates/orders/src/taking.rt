@@ -37,8 +37,8 @@ fn reply_of(outcome: Outcome) -> Reply
     ensures { result ≡ reply_of outcome }
 {
     match outcome {
-        Outcome::Done => Reply::Done,
-        Outcome::Refused(why) => Reply::Refused(why),
+        Ok(()) => Reply::Done,
+        Err(why) => Reply::Refused(why),
     }
 }
 
@@ -128,8 +128,8 @@ fn open(desk: Desk, names: &mut [u8], symbols: usize, table: &[i16]) -> Taken
     let change = step.change;
     let outcome = change.outcome;
     match outcome {
-        Outcome::Refused(why) => simple(desk, Reply::Refused(why)),
-        Outcome::Done => {
+        Err(why) => simple(desk, Reply::Refused(why)),
+        Ok(()) => {
             put(names, b"");
             let board = change.board;
             let stacks = step.stacks;

@@ -11,8 +11,8 @@ use Rattle.board.specs.Changes.{changed, open_faults, opened, with_flag, hold_fa
 use Rattle.board.specs.Rules.{breaks_at, rule_faults, rows_of_bytes, ruled}
 use Rattle.board.specs.declared.Board.{Board}
 use Rattle.board.specs.declared.rules.Addition.{Addition}
-use Rattle.board.specs.declared.Outcome.{Outcome}
-use Rattle.board.specs.declared.Outcome.TheVariants.{Done, Refused}
+use Rattle.board.specs.Faults.{Outcome}
+use Rattle.std.specs.Prelude.{Ok, Err}
 use Rattle.board.proofs.Answered.{none_given}
 use Rattle.board.proofs.Goodness.{good_is}
 use Rattle.stack.specs.Stacking.{top, stack_of}
@@ -28,8 +28,8 @@ use Rattle.text.specs.Adding.{text_refused, ruled_text}
 use Rattle.panel.specs.Crossing.{Narrow}
 
 narrow_changed : (o : Outcome) (given next : Board) → Narrow given → Narrow next → Narrow (changed o given next).board
-narrow_changed Done given next n m = m
-narrow_changed (Refused why) given next n m = n
+narrow_changed (Ok tt) given next n m = m
+narrow_changed (Err why) given next n m = n
 
 pub narrow_opened : (S : ℕ) (s : Stacks) → S < 65536 → Narrow (opened_with S s).change.board
 unfolding opened_with opened
@@ -65,7 +65,7 @@ module _ (table : List ℤ) (b : Board) (n : Narrow b) where
     narrow_popped = narrow_flagged (first_fault (pop_faults table b s furnace)) furnace (top (stack_of s furnace)) false
 
   -- "rows in use plus its prime implicates" are at most the rows lent, and the rules counted at most 32,767
-  few_rows : (bytes : List ℕ) → first_fault (rule_faults table b bytes) ≡ Done
+  few_rows : (bytes : List ℕ) → first_fault (rule_faults table b bytes) ≡ Ok tt
       → (b.rows + length (rows_of_bytes b.symbols bytes) ≤ 2048) × (b.rules ≤ most_rules)
   unfolding rule_faults
   few_rows bytes e =
@@ -79,10 +79,10 @@ module _ (table : List ℤ) (b : Board) (n : Narrow b) where
   narrow_ruled bytes = go (first_fault (rule_faults table b bytes)) refl
     where
       go : (o : Outcome) → first_fault (rule_faults table b bytes) ≡ o → Few (ruled table b bytes)
-      go Done e =
+      go (Ok tt) e =
           let few = few_rows bytes e in
           rw e (record { symbols = n.symbols; rows = omega (arith, few.0); rules = omega (arith, few.1) }, omega (arith, few.0))
-      go (Refused why) e = rw e (n, omega arith)
+      go (Err why) e = rw e (n, omega arith)
 
   -- a rule from text is one from its bytes, or adds nothing
   pub narrow_ruled_text : (text : List ℕ) → Few (ruled_text table b text)
@@ -91,7 +91,7 @@ module _ (table : List ℤ) (b : Board) (n : Narrow b) where
     where
       go : (refused : Bool)
           → Few
-          (cond refused (record { outcome = Refused BadText; place = breaks_at (whole_text text); added = 0; board = b })
+          (cond refused (record { outcome = Err BadText; place = breaks_at (whole_text text); added = 0; board = b })
           (ruled table b (bytes_in text)))
       go true = (n, omega arith)
       go false = narrow_ruled (bytes_in text)
@@ -103,10 +103,10 @@ module _ (table : List ℤ) (b : Board) (n : Narrow b) where
     where
       go : (o : Outcome) → first_fault (read_faults table b text) ≡ o
           → Narrow (read_answer table b text).board × ((read_answer table b text).added < 65536)
-      go Done e =
+      go (Ok tt) e =
           let fits = read_fits table b text e in
           rw e (record { symbols = n.symbols; rows = omega arith; rules = omega (arith, read_rules table b text e) }, omega arith)
-      go (Refused why) e = rw e (n, omega arith)
+      go (Err why) e = rw e (n, omega arith)
 
   -- its clauses are not more than a header can count
   pub narrow_read : (text : List ℕ) → let r = read_answer table b text in Narrow r.board × (r.clauses < 65536) × (r.added < 65536)
@@ -118,7 +118,7 @@ module _ (table : List ℤ) (b : Board) (n : Narrow b) where
   narrow_entered e = go (first_fault (entry_faults table b e)) refl
     where
       go : (o : Outcome) → first_fault (entry_faults table b e) ≡ o → Few (entered table b e)
-      go Done d =
+      go (Ok tt) d =
           let p = entry_passed table b e d in
           rw d (record { symbols = n.symbols; rows = omega (arith, p.rows); rules = omega (arith, p.rules) }, omega (arith, p.rows))
-      go (Refused why) d = rw d (n, omega arith)
+      go (Err why) d = rw d (n, omega arith)

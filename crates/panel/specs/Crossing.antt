@@ -5,11 +5,12 @@ use Rattle.board.specs.Faults.{if_done, number_in}
 use Rattle.board.specs.Grounds.{byte_of}
 use Rattle.board.specs.declared.Board.{Board}
 use Rattle.board.specs.declared.Change.{Change}
-use Rattle.board.specs.declared.Outcome.{Outcome}
+use Rattle.board.specs.Faults.{Outcome}
 use Rattle.board.specs.declared.rules.Addition.{Addition}
 use Rattle.board.specs.declared.asking.Reason.{Reason}
 use Rattle.board.specs.declared.asking.Standing.{Standing}
-use Rattle.board.specs.declared.asking.Standing.TheVariants.{Conflict, Stands, RuledOut, Open, Refused}
+use Rattle.board.specs.declared.asking.Standing.TheVariants.{Conflict, Stands, RuledOut, Open}
+use Rattle.std.specs.Prelude.{Err}
 use Rattle.stack.specs.declared.Step.{Step}
 use Rattle.dimacs.specs.declared.reading.Reading.{Reading}
 use Rattle.dimacs.specs.declared.writing.Writing.{Writing}
@@ -86,7 +87,7 @@ answer_out Open = record { refusal = 0; standing = 0 }
 answer_out Stands = record { refusal = 0; standing = 1 }
 answer_out RuledOut = record { refusal = 0; standing = 2 }
 answer_out Conflict = record { refusal = 0; standing = 3 }
-answer_out (Refused why) = record { refusal = number_of why; standing = 0 }
+answer_out (Err why) = record { refusal = number_of why; standing = 0 }
 
 -- explain's numbers, and how many literals the part has
 abbrev pub reason_out : Reason → (literals : ℕ) → PanelReason

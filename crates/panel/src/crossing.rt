@@ -118,8 +118,8 @@ pub fn number_of(outcome: Outcome) -> u8
     ensures { result ≡ number_in outcome }
 {
     match outcome {
-        Outcome::Done => 0,
-        Outcome::Refused(why) => number(why),
+        Ok(()) => 0,
+        Err(why) => number(why),
     }
 }
 
@@ -129,8 +129,8 @@ fn next_board(given: PanelBoard, outcome: Outcome, next: Board) -> PanelBoard
     ensures { result ≡ next_out given outcome next }
 {
     match outcome {
-        Outcome::Done => board_out(next),
-        Outcome::Refused(_) => given,
+        Ok(()) => board_out(next),
+        Err(_) => given,
     }
 }
 
@@ -241,7 +241,7 @@ pub fn answer_out(answer: Standing) -> PanelAnswer
         Standing::Stands => standing(1),
         Standing::RuledOut => standing(2),
         Standing::Conflict => standing(3),
-        Standing::Refused(why) => PanelAnswer {
+        Err(why) => PanelAnswer {
             refusal: number(why),
             standing: 0,
         },

@@ -361,8 +361,8 @@ pub extern "C" fn tup_explain(given: PanelBoard, table: &[i16], furnace: u8, l: 
     let reason = board::asking::explain_numbers(board_in(given), table, furnace, l);
     let outcome = reason.outcome;
     let literals = match outcome {
-        Outcome::Done => literals::literal_count(table, WIDTH * (reason.row as usize)) as u8,
-        Outcome::Refused(_) => 0,
+        Ok(()) => literals::literal_count(table, WIDTH * (reason.row as usize)) as u8,
+        Err(_) => 0,
     };
     PanelReason {
         refusal: number_of(outcome),

@@ -9,13 +9,13 @@ use board::{Board, Outcome};
 
 pub fn done(board: Board, added: usize, rules: usize) -> Addition
     requires { (board.rows + added ≤ 2048) × (board.rules + rules ≤ most_rules) }
-    ensures { result ≡ record { outcome = Outcome.Done; place = no_place; added = added; board = with_rules board added rules } }
+    ensures { result ≡ record { outcome = Ok tt; place = no_place; added = added; board = with_rules board added rules } }
 {
     let mut next = board;
     next.rows = board.rows + added;
     next.rules = board.rules + rules;
     Addition {
-        outcome: Outcome::Done,
+        outcome: Ok(()),
         place: NO_PLACE,
         added,
         board: next,

@@ -31,24 +31,24 @@ fn judge(
     ensures { result ≡ first_fault (own_faults symbols (pairs_of first count other others pairs)) }
 {
     if !on_board(first, count, symbols) {
-        return Outcome::Refused(Refusal::BadLiteral);
+        return Err(Refusal::BadLiteral);
     }
     if !on_board(other, others, symbols) {
-        return Outcome::Refused(Refusal::BadLiteral);
+        return Err(Refusal::BadLiteral);
     }
     if !has_count(count) {
-        return Outcome::Refused(Refusal::BadPositions);
+        return Err(Refusal::BadPositions);
     }
     if !has_count(others) {
-        return Outcome::Refused(Refusal::BadPositions);
+        return Err(Refusal::BadPositions);
     }
     if overlap(first, count, other, others) {
-        return Outcome::Refused(Refusal::BadPositions);
+        return Err(Refusal::BadPositions);
     }
     if !allows_some(seen_from(first, count, other, others, pairs, false)) {
-        return Outcome::Refused(Refusal::NoAssignment);
+        return Err(Refusal::NoAssignment);
     }
-    Outcome::Done
+    Ok(())
 }
 
 // Appends the clauses of the first variable's positions and then of the second's, from row `rows` on; `rules` come before them.
@@ -132,7 +132,7 @@ pub fn add_pairs(
         return refused(board, Refusal::BadBoard, NO_PLACE);
     }
     match judge(board.symbols, first, count, other, others, pairs) {
-        Outcome::Refused(why) => refused(board, why, NO_PLACE),
-        Outcome::Done => enter(board, table, first, count, other, others, pairs),
+        Err(why) => refused(board, why, NO_PLACE),
+        Ok(()) => enter(board, table, first, count, other, others, pairs),
     }
 }

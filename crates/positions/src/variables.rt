@@ -74,9 +74,9 @@ fn enter(board: Board, table: &mut [i16], first: usize, count: usize) -> Additio
     ensures table_after { table.new ≡ entered_table table.old board (variable_of first count) }
 {
     match append(table, board.rows, board.rules, first, count) {
-        Appended::Unsatisfiable => refused(board, Refusal::NoAssignment, NO_PLACE),
-        Appended::Full => refused(board, Refusal::TableFull, NO_PLACE),
-        Appended::Rows(added) => done(board, added, 1),
+        Err(Refusal::NoAssignment) => refused(board, Refusal::NoAssignment, NO_PLACE),
+        Err(Refusal::TableFull) => refused(board, Refusal::TableFull, NO_PLACE),
+        Ok(added) => done(board, added, 1),
     }
 }
 

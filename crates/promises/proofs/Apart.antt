@@ -9,7 +9,7 @@ use Rattle.literals.specs.Literal.{in_range, place_of}
 use Rattle.literals.specs.Row.{rows_lent}
 use Rattle.formula.specs.Parse.{whole_of}
 use Rattle.board.specs.Rules.{bytes_faults, place_told, rows_of_bytes}
-use Rattle.board.specs.declared.Outcome.{Outcome}
+use Rattle.board.specs.Faults.{Outcome}
 use Rattle.literals.specs.declared.refusal.Refusal.TheVariants.{BadBoard}
 use Rattle.board.specs.Furnaces.{held_by, with_held}
 use Rattle.board.specs.Faults.{premises_fit, good_board, Fault, first_fault}
@@ -19,7 +19,7 @@ use Rattle.board.specs.Settling.{settle_faults, settle_outcome, settled_labels, 
 use Rattle.board.specs.Asking.{ask_faults, asked, asked_whole, explain_faults, explain_numbers, explain_part}
 use Rattle.board.specs.Grounds.{ground_faults, ground_outcome, ground_marks, blame_faults, blame_outcome, blame_marks}
 use Rattle.board.specs.declared.Board.{Board}
-use Rattle.board.specs.declared.Outcome.TheVariants.{Done, Refused}
+use Rattle.std.specs.Prelude.{Ok, Err}
 use Rattle.board.proofs.Goodness.{good_is, flag_fits}
 use Rattle.board.proofs.TwoSets.{held_other}
 use Rattle.stack.specs.Stacking.{stack_of, stacked, good_stacks}
@@ -55,7 +55,7 @@ record Same (furnace : ℕ) (v u : World) : Type 0 where
 -- the record is tested before the board; 1 is for both
 first_two : (board stacks : Bool) (rest : List Fault)
     → first_fault (record { given = not stacks; refusal = BadBoard } ∷ record { given = not board; refusal = BadBoard } ∷ rest)
-    ≡ cond (board && stacks) (first_fault rest) (Refused BadBoard)
+    ≡ cond (board && stacks) (first_fault rest) (Err BadBoard)
 first_two true true rest = refl
 first_two true false rest = refl
 first_two false true rest = refl
@@ -108,9 +108,9 @@ module _ {f : ℕ} {v u : World} (s : Same f v u) (sound-v : Sound v) (sound-u :
   unfolding ruled
   rule_same lent bytes =
       ⊎_elim
-      (λ (e : first_fault (rule_faults (front u lent) u.board bytes) ≡ Done).
-      rw (rule_fault lent bytes, e) (ap (λ (S : ℕ). of_addition Done (place_told Done (whole_of S bytes)) (length (rows_of_bytes S bytes))) a.symbols))
-      (λ r. rw (rule_fault lent bytes, r.1) (ap (λ (S : ℕ). of_addition (Refused r.0) (place_told (Refused r.0) (whole_of S bytes)) 0) a.symbols))
+      (λ (e : first_fault (rule_faults (front u lent) u.board bytes) ≡ Ok tt).
+      rw (rule_fault lent bytes, e) (ap (λ (S : ℕ). of_addition (Ok tt) (place_told (Ok tt) (whole_of S bytes)) (length (rows_of_bytes S bytes))) a.symbols))
+      (λ r. rw (rule_fault lent bytes, r.1) (ap (λ (S : ℕ). of_addition (Err r.0) (place_told (Err r.0) (whole_of S bytes)) 0) a.symbols))
       (done_or_refused (first_fault (rule_faults (front u lent) u.board bytes)))
 
   same_range : (ls : List ℤ) → all (in_range v.board.symbols) ls ≡ all (in_range u.board.symbols) ls
@@ -128,7 +128,7 @@ module _ {f : ℕ} {v u : World} (s : Same f v u) (sound-v : Sound v) (sound-u :
   same_answer (adds lent bytes) n = rule_same lent bytes
   same_answer (enters lent e) n =
       ⊎_elim
-      (λ (d : first_fault (entry_faults (front u lent) u.board e) ≡ Done). rw (good lent, a.symbols, a.rows, a.rules, a.table, d))
+      (λ (d : first_fault (entry_faults (front u lent) u.board e) ≡ Ok tt). rw (good lent, a.symbols, a.rows, a.rules, a.table, d))
       (λ r. rw (good lent, a.symbols, a.rows, a.rules, a.table) (rw r.1))
       (done_or_refused (first_fault (entry_faults (front u lent) u.board e)))
   same_answer (holds lent g l) n = rw (good lent, a.premises g (eqb-false g f n), a.symbols)
@@ -152,7 +152,7 @@ module _ {f : ℕ} {v u : World} (s : Same f v u) (sound-v : Sound v) (sound-u :
   same_answer (asks_least lent g cands) n = rw (good lent, a.premises g (eqb-false g f n), same_range cands, a.symbols, a.rows, a.table)
   same_answer (reads lent text) n =
       ⊎_elim
-      (λ (d : first_fault (read_faults (front u lent) u.board text) ≡ Done). rw (good lent, a.symbols, a.rows, a.rules, a.table, d))
+      (λ (d : first_fault (read_faults (front u lent) u.board text) ≡ Ok tt). rw (good lent, a.symbols, a.rows, a.rules, a.table, d))
       (λ r. rw (good lent, a.symbols, a.rows, a.rules, a.table) (rw r.1))
       (done_or_refused (first_fault (read_faults (front u lent) u.board text)))
   same_answer (writes lent out) n = rw (good lent, a.symbols, a.rows, a.table)
@@ -205,7 +205,7 @@ module _ {f : ℕ} {v u : World} (s : Same f v u) (sound-v : Sound v) (sound-u :
       (flag_fits v.board g l flag x.low ∙ s.fit ∙ sym (flag_fits u.board g l flag y.low)))
 
   -- a call other than open that is refused changes neither world
-  so_both : (c : Call) → not_open c ≡ true → names_furnace f c ≡ false → (outcome v c ≡ Done → outcome u c ≡ Done → Same f (after v c) (after u c))
+  so_both : (c : Call) → not_open c ≡ true → names_furnace f c ≡ false → (outcome v c ≡ Ok tt → outcome u c ≡ Ok tt → Same f (after v c) (after u c))
       → Same f (after v c) (after u c)
   so_both c o n good =
       ⊎_elim (λ e. good e (sym (same_outcome c n) ∙ e))

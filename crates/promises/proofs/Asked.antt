@@ -11,9 +11,9 @@ use Rattle.literals.specs.Literal.{in_range, place_of}
 use Rattle.board.specs.Furnaces.{held_by}
 use Rattle.board.specs.Faults.{good_board}
 use Rattle.board.specs.Asking.{ask_faults, standing_if, standing, asked, asked_whole}
-use Rattle.board.specs.declared.Outcome.TheVariants.{Done}
+use Rattle.std.specs.Prelude.{Ok, Err}
 use Rattle.board.specs.declared.asking.Standing.{Standing}
-use Rattle.board.specs.declared.asking.Standing.TheVariants.{Conflict, Stands, RuledOut, Open, Refused}
+use Rattle.board.specs.declared.asking.Standing.TheVariants.{Conflict, Stands, RuledOut, Open}
 use Rattle.literals.proofs.Arguments.{range_facts}
 use Rattle.board.proofs.Answered.{none_given}
 use Rattle.promises.specs.Calls.{asks, asks_whole, World, ask_outcome, of_ask, front, faults, answer, outcome, run}
@@ -33,7 +33,7 @@ labelled this other Conflict = 3
 labelled this other Stands = this
 labelled this other RuledOut = other
 labelled this other Open = 0
-labelled this other (Refused why) = 0
+labelled this other (Err why) = 0
 
 exactly : (this other : ℕ) {how : Standing} {label : ℕ} → (how ≡ said this other label) × (label ≡ labelled this other how)
     → (x : Standing) (n : ℕ) → said this other n ≡ x → labelled this other x ≡ n → (how ≡ x) ↔ (label ≡ n)
@@ -92,7 +92,7 @@ derived_if false true e = let z = ap (labelled 1 2) e in absurd (omega arith)
 derived_if false false e = let z = ap (labelled 1 2) e in absurd (omega arith)
 
 module _ (w : World) (lent furnace : ℕ) (l : ℤ) (e : asked (front w lent) w.board furnace l ≡ Stands) where
-  done : outcome w (asks lent furnace l) ≡ Done
+  done : outcome w (asks lent furnace l) ≡ Ok tt
   unfolding answer outcome
   done = ap ask_outcome e
 
@@ -131,7 +131,7 @@ module _ (w : World) (lent furnace : ℕ) (l : ℤ) where
       rw (rows_read w lent (ap not g), quiet, none_here (derived_set w furnace) (place_of l) quiet))
       (λ g. rw g) (true_or_false (good_board (front w lent) w.board))
 
-  hidden : conflict (derived_set w furnace) ≡ true → outcome w (asks_whole lent furnace l) ≡ Done → answer w (asks_whole lent furnace l) ≡ of_ask Conflict
+  hidden : conflict (derived_set w furnace) ≡ true → outcome w (asks_whole lent furnace l) ≡ Ok tt → answer w (asks_whole lent furnace l) ≡ of_ask Conflict
   unfolding answer
   hidden c e = ap of_ask (ask_whole_tells w lent furnace l e ∙ rw c)
 

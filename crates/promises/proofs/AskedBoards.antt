@@ -3,9 +3,9 @@
 use Rattle.meaning.proofs.Kit.{refl, List, [], ◌∷◌, ◌++◌, map, ℕ, ℤ, pos, negsuc}
 use Rattle.meaning.specs.Tests.{none}
 use Rattle.literals.specs.declared.refusal.Refusal.TheVariants.{BadBoard, BadLiteral, BadFurnace}
-use Rattle.board.specs.declared.Outcome.TheVariants.{Done}
+use Rattle.std.specs.Prelude.{Ok, Err}
 use Rattle.board.specs.declared.asking.Standing.{Standing}
-use Rattle.board.specs.declared.asking.Standing.TheVariants.{Conflict, Stands, RuledOut, Open, Refused}
+use Rattle.board.specs.declared.asking.Standing.TheVariants.{Conflict, Stands, RuledOut, Open}
 use Rattle.spelling.proofs.Ascii.{ascii}
 use Rattle.promises.specs.Calls.{Call, opens, holds, withdraws, asks, asks_whole, settles, reads, Answer, answer, of_ask, of_settle}
 use Rattle.promises.proofs.Boards.{lent, blank, FreshHold}
@@ -54,15 +54,15 @@ alike how = map (λ q. (q.0, how)) (standings how how)
 -- settle's labels, which ask agrees with, its ranks and its supports
 abbrev settled : Answer
 settled =
-    of_settle Done (1 ∷ 1 ∷ 3 ∷ 2 ∷ 0 ∷ [])
+    of_settle (Ok tt) (1 ∷ 1 ∷ 3 ∷ 2 ∷ 0 ∷ [])
     (0 ∷ none ∷ 1 ∷ none ∷ 0 ∷ 0 ∷ none ∷ 2 ∷ none ∷ none ∷ [])
     (none ∷ none ∷ 0 ∷ none ∷ none ∷ none ∷ none ∷ 1 ∷ none ∷ none ∷ [])
 
 -- literals that are none, and a number of no furnace, for either call
 abbrev refusals : (ℤ → Call) → (ℤ → Call) → List (Call × Answer)
 refusals good misnamed =
-    told good ((pos 0, Refused BadLiteral) ∷ (pos 6, Refused BadLiteral) ∷ (negsuc 5, Refused BadLiteral) ∷ [])
-    ++ told misnamed ((pos 1, Refused BadFurnace) ∷ (pos 6, Refused BadFurnace) ∷ [])
+    told good ((pos 0, Err BadLiteral) ∷ (pos 6, Err BadLiteral) ∷ (negsuc 5, Err BadLiteral) ∷ [])
+    ++ told misnamed ((pos 1, Err BadFurnace) ∷ (pos 6, Err BadFurnace) ∷ [])
 
 abbrev boards : List (List Call × List (Call × Answer))
 boards =
@@ -79,7 +79,7 @@ boards =
     )
     -- both are refused alike, in a conflict too: 16 ahead of 2, and 1 ahead of both
     ∷ (clashing, refusals (ask 1) (ask 3) ++ refusals (ask_whole 1) (ask_whole 3))
-    ∷ ([], told (ask 3) ((pos 6, Refused BadBoard) ∷ []) ++ told (ask_whole 3) ((pos 6, Refused BadBoard) ∷ []))
+    ∷ ([], told (ask 3) ((pos 6, Err BadBoard) ∷ []) ++ told (ask_whole 3) ((pos 6, Err BadBoard) ∷ []))
     ∷ []
 
 asked_boards_hold : FreshHold answer boards

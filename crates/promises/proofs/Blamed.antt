@@ -9,7 +9,7 @@ use Rattle.board.specs.Furnaces.{held_by}
 use Rattle.board.specs.Faults.{Fault}
 use Rattle.board.specs.Ranking.{derived_on}
 use Rattle.board.specs.Grounds.{byte_of, blame_faults, blame_outcome, blame_marks}
-use Rattle.board.specs.declared.Outcome.TheVariants.{Done}
+use Rattle.std.specs.Prelude.{Ok}
 use Rattle.board.proofs.Answered.{none_given}
 use Rattle.promises.specs.Calls.{blames, World, front, answer, outcome, run}
 use Rattle.promises.specs.Demands.{rows_of_world, premises_of, derived_set, BlameTakes, Marked, BlameMarksHeld, BlameAlone, ConflictLasts}
@@ -18,7 +18,7 @@ use Rattle.promises.proofs.Spared.{Kept, spared}
 
 -- ---- a board on which blame is done
 
-module _ (w : World) (lent furnace : ℕ) (marks : List ℕ) (e : outcome w (blames lent furnace marks) ≡ Done) where
+module _ (w : World) (lent furnace : ℕ) (marks : List ℕ) (e : outcome w (blames lent furnace marks) ≡ Ok tt) where
   abbrev S : ℕ
   S = w.board.symbols
 

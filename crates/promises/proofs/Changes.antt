@@ -9,7 +9,7 @@ use Rattle.literals.proofs.Arguments.{place_fits}
 use Rattle.board.specs.Furnaces.{is_furnace, held_by}
 use Rattle.board.specs.Faults.{Fault, good_board}
 use Rattle.board.specs.Changes.{opened, with_flag, flag_faults, flag_changed, hold_faults}
-use Rattle.board.specs.declared.Outcome.TheVariants.{Done}
+use Rattle.std.specs.Prelude.{Ok}
 use Rattle.board.specs.declared.Board.{Board}
 use Rattle.board.proofs.TwoSets.{held_own, held_other}
 use Rattle.board.proofs.Answered.{none_given}
@@ -91,7 +91,7 @@ module _ (w : World) (lent furnace : ℕ) where
   in_place l range = place_fits w.board.symbols l (not-false (in_range w.board.symbols l) range)
 
   module _ (l : ℤ) where
-    pub hold_flagged : outcome w (holds lent furnace l) ≡ Done
+    pub hold_flagged : outcome w (holds lent furnace l) ≡ Ok tt
         → Flagged w (after w (holds lent furnace l)) furnace l true (stack_of w.stacks furnace)
     unfolding faults flag_faults
     hold_flagged e =
@@ -99,7 +99,7 @@ module _ (w : World) (lent furnace : ℕ) where
         flagged (given 0) (given 1) (in_place l (given 2)) (rw (with_same w.stacks furnace) (hold_puts w lent furnace l e))
         (λ high o. own_more o (place_of l))
 
-    module _ (e : outcome w (withdraws lent furnace l) ≡ Done) where
+    module _ (e : outcome w (withdraws lent furnace l) ≡ Ok tt) where
       -- the literal was not stacked
       pub withdraw_free : stacked w.stacks furnace l ≡ false
       unfolding faults withdraw_faults_with flag_faults
@@ -112,7 +112,7 @@ module _ (w : World) (lent furnace : ℕ) where
           flagged (given 1) (given 2) (in_place l (given 3)) (rw (with_same w.stacks furnace) (withdraw_takes w lent furnace l e))
           (λ high o. own_less o (place_of l) withdraw_free)
 
-    module _ (e : outcome w (pushes lent furnace l) ≡ Done) where
+    module _ (e : outcome w (pushes lent furnace l) ≡ Ok tt) where
       -- or not held
       pub push_free : (in_range w.board.symbols l ≡ true) × (has (held_by w.board furnace) (place_of l) ≡ false)
       unfolding faults push_faults flag_faults
@@ -131,7 +131,7 @@ module _ (w : World) (lent furnace : ℕ) where
           flagged (given 1) (given 2) (in_place l (given 3)) (push_puts w lent furnace l e)
           (λ high o. own_pushed _ _ _ o high l push_free.0 push_free.1)
 
-  module _ (e : outcome w (pops lent furnace) ≡ Done) where
+  module _ (e : outcome w (pops lent furnace) ≡ Ok tt) where
     -- what a pop has tested
     given : (i : ℕ) → get_or (map (λ (f : Fault). f.given) (pop_faults (front w lent) w.board w.stacks furnace)) i false ≡ false
     unfolding faults

@@ -7,7 +7,7 @@ use Rattle.literals.proofs.Decoding.{rows_at}
 use Rattle.board.specs.Faults.{first_fault}
 use Rattle.board.specs.Ranking.{rows_on}
 use Rattle.board.specs.Asking.{explain_faults, explain_numbers, explain_part}
-use Rattle.board.specs.declared.Outcome.TheVariants.{Done}
+use Rattle.std.specs.Prelude.{Ok}
 use Rattle.board.proofs.Answered.{none_given}
 use Rattle.board.proofs.Explaining.{row_used}
 use Rattle.promises.specs.Calls.{explains, World, front, faults, outcome}
@@ -37,8 +37,8 @@ decode_span table r =
     let long : width * r + count - width * r ≡ count = omega arith in
     rw long (decode_part most_literals (drop (width * r) table))
 
-module _ (w : World) (lent furnace : ℕ) (l : ℤ) (e : outcome w (explains lent furnace l) ≡ Done) where
-  done : first_fault (faults w (explains lent furnace l)) ≡ Done
+module _ (w : World) (lent furnace : ℕ) (l : ℤ) (e : outcome w (explains lent furnace l) ≡ Ok tt) where
+  done : first_fault (faults w (explains lent furnace l)) ≡ Ok tt
   done = cases w (explains lent furnace l) e
 
   rows : rows_on (front w lent) w.board ≡ rows_of_world w

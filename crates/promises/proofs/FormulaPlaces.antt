@@ -13,8 +13,8 @@ use Rattle.formula.proofs.Faults.{whole_faults}
 use Rattle.board.specs.Faults.{Fault, first_fault, good_board, number_in}
 use Rattle.board.specs.Rules.{why_of, breaks_at, no_place, place_told, rule_faults}
 use Rattle.board.specs.declared.Board.{Board}
-use Rattle.board.specs.declared.Outcome.{Outcome}
-use Rattle.board.specs.declared.Outcome.TheVariants.{Refused}
+use Rattle.board.specs.Faults.{Outcome}
+use Rattle.std.specs.Prelude.{Err}
 use Rattle.board.proofs.Goodness.{good_is}
 use Rattle.board.proofs.Answered.{fault_not, Without, never_answered, rule_told, rule_place}
 use Rattle.chains.specs.Form.{whole_text}
@@ -60,19 +60,19 @@ module _ (table : List ℤ) (b : Board) (text : List ℕ) (others : List Fault)
   PlacedBy o = TextPlaced S text (number_in o) (text_place o S text)
 
   -- test by test, what its refusal tells
-  of_board : PlacedBy (Refused BadBoard)
+  of_board : PlacedBy (Err BadBoard)
   of_board =
       record {
         text_breaks = λ e. absurd (omega arith);
         bytes_break = λ low high. absurd (omega arith);
-        nowhere = no_text_place (Refused BadBoard) S text;
+        nowhere = no_text_place (Err BadBoard) S text;
       }
 
-  of_form : is_good (whole_text text) ≡ false → PlacedBy (Refused BadText)
+  of_form : is_good (whole_text text) ≡ false → PlacedBy (Err BadText)
   of_form out =
-      record { text_breaks = λ e. offends text out; bytes_break = λ low high. absurd (omega arith); nowhere = no_text_place (Refused BadText) S text }
+      record { text_breaks = λ e. offends text out; bytes_break = λ low high. absurd (omega arith); nowhere = no_text_place (Err BadText) S text }
 
-  of_bytes_lem : 1 ≤ S → (why : Refusal) (at : ℕ) → read_in S text ≡ bad why at → PlacedBy (Refused why)
+  of_bytes_lem : 1 ≤ S → (why : Refusal) (at : ℕ) → read_in S text ≡ bad why at → PlacedBy (Err why)
   of_bytes_lem some why at read =
       let which = two_or_five S text why at read in
       let form : number_of why ≢ 15 = λ e. ⊎_elim (λ two. omega arith) (λ five. omega arith) which in
@@ -80,7 +80,7 @@ module _ (table : List ℤ) (b : Board) (text : List ℕ) (others : List Fault)
       record {
         text_breaks = λ e. absurd (form e);
         bytes_break = λ low high. (which, why, refl, rw place (first_fault_lem S (bytes_in text) why at some read));
-        nowhere = no_text_place (Refused why) S text;
+        nowhere = no_text_place (Err why) S text;
       }
 
   of_others : PlacedBy (first_fault others)
@@ -99,9 +99,9 @@ module _ (table : List ℤ) (b : Board) (text : List ℕ) (others : List Fault)
   placed = go (good_board table b) (is_good (whole_text text)) (read_in S text) refl refl refl
     where
       go : (g k : Bool) (p : Parsed) → good_board table b ≡ g → is_good (whole_text text) ≡ k → read_in S text ≡ p → PlacedBy (first_fault tests)
-      go false k p is kept read = came (Refused BadBoard) (rw is) of_board
-      go true false p is kept read = came (Refused BadText) (rw (is, kept)) (of_form kept)
-      go true true (bad why at) is kept read = came (Refused why) (rw (is, kept, read)) (of_bytes_lem (good_is table b is).some why at read)
+      go false k p is kept read = came (Err BadBoard) (rw is) of_board
+      go true false p is kept read = came (Err BadText) (rw (is, kept)) (of_form kept)
+      go true true (bad why at) is kept read = came (Err why) (rw (is, kept, read)) (of_bytes_lem (good_is table b is).some why at read)
       go true true (good f used) is kept read = came (first_fault others) (rw (is, kept, read)) of_others
 
 -- ---- the two calls

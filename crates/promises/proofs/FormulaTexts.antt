@@ -3,7 +3,7 @@ use Rattle.meaning.proofs.Kit.{◌≡◌, sym, refl, subst, true, List, ℕ, len
 use Rattle.formula.specs.Parse.{whole_of}
 use Rattle.formula.specs.Answers.{is_good}
 use Rattle.board.specs.Faults.{good_board}
-use Rattle.board.specs.declared.Outcome.TheVariants.{Done}
+use Rattle.std.specs.Prelude.{Ok}
 use Rattle.board.proofs.Goodness.{good_is}
 use Rattle.board.proofs.Answered.{none_given}
 use Rattle.text.specs.Reading.{read_text_faults, read_text_outcome, read_text_answer, read_text_bytes}
@@ -35,7 +35,7 @@ module _ (S : ℕ) (text bytes : List ℕ) (r : ReadsAs text bytes) (fine : is_g
       }
 
 -- the bytes told are the text
-written : (w : World) (lent : ℕ) (bytes out : List ℕ) → outcome w (writes_text lent bytes out) ≡ Done
+written : (w : World) (lent : ℕ) (bytes out : List ℕ) → outcome w (writes_text lent bytes out) ≡ Ok tt
     → text_written w lent bytes out ≡ text_in w.board.symbols bytes
 written w lent bytes out e =
     let text = text_in w.board.symbols bytes in

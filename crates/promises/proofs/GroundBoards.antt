@@ -4,7 +4,7 @@ use Rattle.meaning.proofs.Kit.{refl, List, [], ◌∷◌, ℕ, ◌+◌, ◌*◌,
 use Rattle.meaning.specs.Tests.{none}
 use Rattle.literals.specs.Row.{width}
 use Rattle.literals.specs.declared.refusal.Refusal.TheVariants.{NothingToShow}
-use Rattle.board.specs.declared.Outcome.TheVariants.{Done, Refused}
+use Rattle.std.specs.Prelude.{Ok, Err}
 use Rattle.board.specs.declared.asking.Standing.TheVariants.{Conflict, Stands, Open}
 use Rattle.spelling.proofs.Ascii.{ascii}
 use Rattle.promises.specs.Calls.{Call, opens, holds, withdraws, asks, explains, grounds, reads, Answer, of_ask, of_explain, of_marks, answer}
@@ -36,17 +36,17 @@ its_ground = grounds lent 2 (pos 3) (blank 8)
 
 -- it stands at this rank by this row, which has two literals, of this rule
 abbrev by : (rank row rule : ℕ) → Answer
-by rank row rule = of_explain (record { outcome = Done; rank = rank; row = row; rule = rule }) (record { start = width * row; stop = width * row + 2 })
+by rank row rule = of_explain (record { outcome = (Ok tt); rank = rank; row = row; rule = rule }) (record { start = width * row; stop = width * row + 2 })
 
 abbrev nothing : Answer
-nothing = of_explain (record { outcome = Refused NothingToShow; rank = none; row = none; rule = 0 }) (record { start = 0; stop = 0 })
+nothing = of_explain (record { outcome = Err NothingToShow; rank = none; row = none; rule = 0 }) (record { start = 0; stop = 0 })
 
 -- on 1 alone, or on 2 alone
 abbrev on_1 : Answer
-on_1 = of_marks Done (1 ∷ 0 ∷ 0 ∷ 0 ∷ 0 ∷ 0 ∷ 0 ∷ 0 ∷ [])
+on_1 = of_marks (Ok tt) (1 ∷ 0 ∷ 0 ∷ 0 ∷ 0 ∷ 0 ∷ 0 ∷ 0 ∷ [])
 
 abbrev on_2 : Answer
-on_2 = of_marks Done (0 ∷ 0 ∷ 1 ∷ 0 ∷ 0 ∷ 0 ∷ 0 ∷ 0 ∷ [])
+on_2 = of_marks (Ok tt) (0 ∷ 0 ∷ 1 ∷ 0 ∷ 0 ∷ 0 ∷ 0 ∷ 0 ∷ [])
 
 abbrev conflict : Answer
 conflict = of_ask Conflict

@@ -16,7 +16,7 @@ use Rattle.smallest.proofs.Smallest.{alone_is, smallest_are, smallest_in_order, 
 use Rattle.literals.specs.Literal.{in_range, place_of}
 use Rattle.board.specs.Furnaces.{held_by}
 use Rattle.board.specs.Ranking.{rows_on}
-use Rattle.board.specs.declared.Outcome.TheVariants.{Done}
+use Rattle.std.specs.Prelude.{Ok}
 use Rattle.literals.proofs.Arguments.{place_fits}
 use Rattle.board.proofs.Answered.{none_given}
 use Rattle.candidates.specs.Given.{most_candidates, places_of, repeats}
@@ -36,7 +36,7 @@ smallest_tells w lent cands l sets e =
     let read = rows_read w lent (none_given (smallest_faults (front w lent) w.board cands l (length sets)) e 0) in
     (rw (e, read), rw (e, read))
 
-module _ (w : World) (lent : ℕ) (cands : List ℤ) (l : ℤ) (sets : List ℕ) (e : outcome w (lists lent cands l sets) ≡ Done) where
+module _ (w : World) (lent : ℕ) (cands : List ℤ) (l : ℤ) (sets : List ℕ) (e : outcome w (lists lent cands l sets) ≡ Ok tt) where
   written : list_written w lent cands l sets ≡ smallest_on w.table w.board cands l
   written =
       let list = smallest_on w.table w.board cands l in

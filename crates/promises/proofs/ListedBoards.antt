@@ -3,7 +3,7 @@
 use Rattle.meaning.proofs.Kit.{refl, List, [], ◌∷◌, ◌++◌, ℕ, ℤ, pos, negsuc, length}
 use Rattle.literals.specs.declared.refusal.Refusal.{Refusal}
 use Rattle.literals.specs.declared.refusal.Refusal.TheVariants.{BadBoard, BadLiteral, BadCandidates, TableTooShort}
-use Rattle.board.specs.declared.Outcome.TheVariants.{Done, Refused}
+use Rattle.std.specs.Prelude.{Ok, Err}
 use Rattle.spelling.proofs.Ascii.{ascii}
 use Rattle.promises.specs.Calls.{Call, opens, holds, lists, reads, Answer, answer, of_listing}
 use Rattle.promises.proofs.Boards.{lent, blank, FreshHold}
@@ -25,11 +25,11 @@ twelve = pos 1 ∷ pos 2 ∷ pos 3 ∷ pos 4 ∷ pos 5 ∷ pos 6 ∷ negsuc 0 �
 
 -- these are written, and so many places beyond them stay
 abbrev listed : List ℕ → (beyond : ℕ) → Answer
-listed list beyond = of_listing (record { outcome = Done; count = length list }) (list ++ blank beyond)
+listed list beyond = of_listing (record { outcome = (Ok tt); count = length list }) (list ++ blank beyond)
 
 -- it is refused, and so many places stay
 abbrev refused : Refusal → (places : ℕ) → Answer
-refused why places = of_listing (record { outcome = Refused why; count = 0 }) (blank places)
+refused why places = of_listing (record { outcome = Err why; count = 0 }) (blank places)
 
 -- ---- calls that are made, and what others then answer
 

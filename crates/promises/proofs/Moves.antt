@@ -7,7 +7,7 @@ use Rattle.literals.specs.Literal.{place_of}
 use Rattle.literals.specs.declared.refusal.Refusal.{Refusal}
 use Rattle.formula.specs.Answers.{formula_of}
 use Rattle.board.specs.Faults.{if_done}
-use Rattle.board.specs.declared.Outcome.TheVariants.{Done, Refused}
+use Rattle.std.specs.Prelude.{Ok, Err}
 use Rattle.positions.specs.Positions.{formulae_of, suits}
 use Rattle.stack.specs.Stacking.{top, on_top, less_top, stack_of}
 use Rattle.stack.specs.declared.Stack.{Stack}
@@ -30,7 +30,7 @@ pub record Flags (c : Call) (furnace : ℕ) (literal : Stack → ℤ) (flag : Bo
   pub taking : (w : World) (f h : ℕ) → takes w f h c ≡ not flag && (eqb furnace f && eqb (place_of (literal (stack_of w.stacks furnace))) h)
   pub rules : (w : World) (fs : List Formula) → rules_after w fs c ≡ fs
   pub entry : entry_of c ≡ []
-  pub done : (w : World) → outcome w c ≡ Done → let s = stack_of w.stacks furnace in Flagged w (after w c) furnace (literal s) flag (left s)
+  pub done : (w : World) → outcome w c ≡ Ok tt → let s = stack_of w.stacks furnace in Flagged w (after w c) furnace (literal s) flag (left s)
 
 -- it adds the rules of formulae, which may be read with the board's symbols, and tells a count
 pub record Adds (c : Call) (lent : ℕ) (new : ℕ → List Formula) (count : World → ℕ) : Type 0 where
@@ -38,8 +38,8 @@ pub record Adds (c : Call) (lent : ℕ) (new : ℕ → List Formula) (count : Wo
   pub naming : (f : ℕ) → names_furnace f c ≡ false
   pub bringing : (f : ℕ) → brings f c ≡ true
   pub rules : (w : World) (fs : List Formula) → rules_after w fs c ≡ if_done (outcome w c) (fs ++ new w.board.symbols) (λ _. fs)
-  pub suiting : (w : World) → outcome w c ≡ Done → all (suits w.board.symbols) (entry_of c) ≡ true
-  pub done : (w : World) → outcome w c ≡ Done → Added w (after w c) lent (new w.board.symbols) (count w)
+  pub suiting : (w : World) → outcome w c ≡ Ok tt → all (suits w.board.symbols) (entry_of c) ≡ true
+  pub done : (w : World) → outcome w c ≡ Ok tt → Added w (after w c) lent (new w.board.symbols) (count w)
 
 -- the four kinds; an idle call leaves the world as it was, and adds to neither the rules nor what was entered
 pub data Kind : Call → Type 0 where
@@ -51,7 +51,7 @@ pub data Kind : Call → Type 0 where
 
 -- these two by their facts, in one order
 flags : {c : Call} {furnace : ℕ} {flag : Bool} (literal : Stack → ℤ) (left : Stack → Stack)
-    → ((w : World) → outcome w c ≡ Done → let s = stack_of w.stacks furnace in Flagged w (after w c) furnace (literal s) flag (left s))
+    → ((w : World) → outcome w c ≡ Ok tt → let s = stack_of w.stacks furnace in Flagged w (after w c) furnace (literal s) flag (left s))
     → not_open c ≡ true → changes_premises c ≡ true → ((f : ℕ) → names_furnace f c ≡ eqb furnace f) → ((f : ℕ) → brings f c ≡ flag && eqb furnace f)
     → ((w : World) (f h : ℕ) → takes w f h c ≡ not flag && (eqb furnace f && eqb (place_of (literal (stack_of w.stacks furnace))) h))
     → ((w : World) (fs : List Formula) → rules_after w fs c ≡ fs) → entry_of c ≡ [] → Kind c
@@ -60,8 +60,8 @@ flags literal left done n ch na br ta ru en =
     (record { done = done; not_open = n; changing = ch; naming = na; bringing = br; taking = ta; rules = ru; entry = en })
 
 more : {c : Call} {lent : ℕ} {count : World → ℕ} (new : ℕ → List Formula)
-    → ((w : World) → outcome w c ≡ Done → Added w (after w c) lent (new w.board.symbols) (count w))
-    → ((w : World) → outcome w c ≡ Done → all (suits w.board.symbols) (entry_of c) ≡ true)
+    → ((w : World) → outcome w c ≡ Ok tt → Added w (after w c) lent (new w.board.symbols) (count w))
+    → ((w : World) → outcome w c ≡ Ok tt → all (suits w.board.symbols) (entry_of c) ≡ true)
     → not_open c ≡ true → ((f : ℕ) → names_furnace f c ≡ false) → ((f : ℕ) → brings f c ≡ true)
     → ((w : World) (fs : List Formula) → rules_after w fs c ≡ if_done (outcome w c) (fs ++ new w.board.symbols) (λ _. fs)) → Kind c
 more new done su n na br ru = adder {new = new} (record { done = done; suiting = su; not_open = n; naming = na; bringing = br; rules = ru })
@@ -99,14 +99,14 @@ kind (writes_text lent bytes out) = idle refl (λ w. refl) (λ w fs. refl) refl
 pub data Moves (w : World) : Call → Type 0 where
   opening : (S : ℕ) → Moves w (opens S)
   unmoved : {c : Call} → after w c ≡ w → ((fs : List Formula) → rules_after w fs c ≡ fs) → Moves w c
-  one_flag : {c : Call} {furnace : ℕ} {literal : Stack → ℤ} {flag : Bool} {left : Stack → Stack} → outcome w c ≡ Done
+  one_flag : {c : Call} {furnace : ℕ} {literal : Stack → ℤ} {flag : Bool} {left : Stack → Stack} → outcome w c ≡ Ok tt
       → Flags c furnace literal flag left → Moves w c
-  more_rules : {c : Call} {lent : ℕ} {new : ℕ → List Formula} {count : World → ℕ} → outcome w c ≡ Done → Adds c lent new count → Moves w c
+  more_rules : {c : Call} {lent : ℕ} {new : ℕ → List Formula} {count : World → ℕ} → outcome w c ≡ Ok tt → Adds c lent new count → Moves w c
 
 pub moves : (w : World) (c : Call) → Moves w c
 moves w c = go (kind c) (done_or_refused (outcome w c))
   where
-    go : {c : Call} → Kind c → (outcome w c ≡ Done) ⊎ ((why : Refusal) × (outcome w c ≡ Refused why)) → Moves w c
+    go : {c : Call} → Kind c → (outcome w c ≡ Ok tt) ⊎ ((why : Refusal) × (outcome w c ≡ Err why)) → Moves w c
     go (opener S) o = opening S
     go (idle n same rules entry) o = unmoved (same w) (rules w)
     go (flagger x) (inl d) = one_flag d x

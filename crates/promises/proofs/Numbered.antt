@@ -17,7 +17,7 @@ use Rattle.board.specs.Ranking.{rows_on}
 use Rattle.board.specs.Settling.{settle_faults, settle_outcome, settled_labels, settled_ranks, settled_supports}
 use Rattle.board.specs.Asking.{ask_faults, asked, asked_whole, explain_faults, explain_numbers, explain_part}
 use Rattle.board.specs.Grounds.{ground_faults, ground_outcome, ground_marks, blame_faults, blame_outcome, blame_marks}
-use Rattle.board.specs.declared.Outcome.TheVariants.{Done}
+use Rattle.std.specs.Prelude.{Ok}
 use Rattle.board.proofs.Goodness.{good_is}
 use Rattle.board.proofs.Explaining.{row_used}
 use Rattle.least.specs.Withdrawing.{least_at, least_faults, least_answer}
@@ -136,7 +136,7 @@ module _ (v w : World) (lent furnace : ℕ) (s : SameLiterals v w) (good-v : goo
   unfolding explain_numbers explain_part
   same_reason l =
       ⊎_elim
-      (λ (e : first_fault (explain_faults (front w lent) w.board furnace l) ≡ Done).
+      (λ (e : first_fault (explain_faults (front w lent) w.board furnace l) ≡ Ok tt).
       (let row = (row_used (front w lent) w.board furnace l (rw e)).0 in
       rw (same_faults l, e, s.premises furnace, same_rows, s.symbols) (refl, refl, refl, rw (same_numbers _ (rw e at row)))))
       (λ r. rw (same_faults l) (rw r.1 (refl, refl, refl, refl)))

@@ -6,8 +6,8 @@ use Rattle.formula.specs.Parse.{Parsed, good, bad, whole_of}
 use Rattle.formula.proofs.Breaking.{first_fault_lem}
 use Rattle.board.specs.Faults.{Fault, first_fault, good_board, number_in}
 use Rattle.board.specs.Rules.{no_place, place_told, rule_faults}
-use Rattle.board.specs.declared.Outcome.{Outcome}
-use Rattle.board.specs.declared.Outcome.TheVariants.{Refused}
+use Rattle.board.specs.Faults.{Outcome}
+use Rattle.std.specs.Prelude.{Err}
 use Rattle.board.proofs.Goodness.{good_is}
 use Rattle.board.proofs.Adding.{place_told_lem}
 use Rattle.board.proofs.Answered.{Without, never_answered, rule_place}
@@ -16,7 +16,7 @@ use Rattle.promises.specs.Demands.{RuleBreaks, NoPlaceElse}
 use Rattle.promises.proofs.Refusals.{cases}
 
 -- a refusal of the numbers 2 to 6 is the formula's, on a good board: the tests after the formula's are of other numbers
-module _ (w : World) (lent : ℕ) (bytes : List ℕ) (why : Refusal) (e : outcome w (adds lent bytes) ≡ Refused why)
+module _ (w : World) (lent : ℕ) (bytes : List ℕ) (why : Refusal) (e : outcome w (adds lent bytes) ≡ Err why)
     (low : 2 ≤ number_of why) (high : number_of why ≤ 6) where
   abbrev tests : List Fault
   tests = rule_faults (front w lent) w.board bytes
@@ -24,7 +24,7 @@ module _ (w : World) (lent : ℕ) (bytes : List ℕ) (why : Refusal) (e : outcom
   abbrev Broken : Type 0
   Broken = (good_board (front w lent) w.board ≡ true) × (at : ℕ) × (whole_of w.board.symbols bytes ≡ bad why at)
 
-  first : first_fault tests ≡ Refused why
+  first : first_fault tests ≡ Err why
   unfolding faults
   first = cases w (adds lent bytes) e
 

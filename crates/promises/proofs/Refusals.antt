@@ -15,10 +15,10 @@ use Rattle.board.specs.Settling.{settle_outcome, settled_labels, settled_ranks, 
 use Rattle.board.specs.Ranking.{derived_on}
 use Rattle.board.specs.Asking.{ask_faults, standing_if, asked, asked_whole, explain_faults, explain_numbers, explain_part}
 use Rattle.board.specs.Grounds.{ground_outcome, ground_marks, blame_outcome, blame_marks}
-use Rattle.board.specs.declared.Outcome.{Outcome}
+use Rattle.board.specs.Faults.{Outcome}
 use Rattle.board.specs.declared.asking.Reason.{Reason}
 use Rattle.board.specs.declared.rules.Addition.{Addition}
-use Rattle.board.specs.declared.Outcome.TheVariants.{Done, Refused}
+use Rattle.std.specs.Prelude.{Ok, Err}
 use Rattle.board.proofs.Answered.{refused_not_done, told_by_lem, rule_told}
 use Rattle.stack.specs.Steps.{opened_with, withdrawn_with, pushed, popped}
 use Rattle.positions.specs.Entering.{entry_faults, entered, entered_table}
@@ -39,7 +39,7 @@ use Rattle.promises.proofs.RuleTexts.{rule_text_told}
 -- ---- what a call answers
 
 -- how a literal stands is of a call that is done
-stands_done : (clash derived opposed : Bool) → ask_outcome (standing_if clash derived opposed) ≡ Done
+stands_done : (clash derived opposed : Bool) → ask_outcome (standing_if clash derived opposed) ≡ Ok tt
 stands_done true derived opposed = refl
 stands_done false true opposed = refl
 stands_done false false true = refl
@@ -104,7 +104,7 @@ refused_exactly w c number some = (
   λ g. ap number_in (first_case w c) ∙ given_first number g,
 )
 
-none_of_lem : (fs : List Fault) → first_fault fs ≡ Done → (f : Fault) → In f fs → f.given ≡ false
+none_of_lem : (fs : List Fault) → first_fault fs ≡ Ok tt → (f : Fault) → In f fs → f.given ≡ false
 none_of_lem [] e f m = absurd (in_nil m)
 none_of_lem (x ∷ fs) e f m =
     ⊎_elim
@@ -112,7 +112,7 @@ none_of_lem (x ∷ fs) e f m =
     (λ (g : x.given ≡ false). ⊎_elim (λ q. rw q g) (λ i. none_of_lem fs (rw g at e) f i) (in_cons m))
     (true_or_false x.given)
 
-of_none : (fs : List Fault) → ((f : Fault) → In f fs → f.given ≡ false) → first_fault fs ≡ Done
+of_none : (fs : List Fault) → ((f : Fault) → In f fs → f.given ≡ false) → first_fault fs ≡ Ok tt
 of_none [] h = refl
 of_none (f ∷ fs) h = rw (h f (head refl)) (of_none fs (λ g m. h g (tail m)))
 
@@ -122,19 +122,19 @@ done_exactly w c = (λ e. none_of_lem (faults w c) (cases w c e), λ h. first_ca
 -- ---- what it leaves
 
 -- a refused rule adds no row and leaves all as it was,
-rule_refused : (w : World) (lent : ℕ) (bytes : List ℕ) (why : Refusal) → outcome w (adds lent bytes) ≡ Refused why
+rule_refused : (w : World) (lent : ℕ) (bytes : List ℕ) (why : Refusal) → outcome w (adds lent bytes) ≡ Err why
     → ((ruled (front w lent) w.board bytes).added ≡ 0) × (after w (adds lent bytes) ≡ w)
 unfolding after faults ruled ruled_table
 rule_refused w lent bytes why e = rw (cases w (adds lent bytes) e, take-append-drop) (refl, refl)
 
 -- so does a refused entry,
-entry_refused : (w : World) (lent : ℕ) (e : Entry) (why : Refusal) → outcome w (enters lent e) ≡ Refused why
+entry_refused : (w : World) (lent : ℕ) (e : Entry) (why : Refusal) → outcome w (enters lent e) ≡ Err why
     → ((entered (front w lent) w.board e).added ≡ 0) × (after w (enters lent e) ≡ w)
 unfolding after faults entered entered_table
 entry_refused w lent e why r = rw (cases w (enters lent e) r, take-append-drop) (refl, refl)
 
 -- and so does a rule from text, be it for the text or for its bytes
-rule_text_refused : (w : World) (lent : ℕ) (text : List ℕ) (why : Refusal) → outcome w (adds_text lent text) ≡ Refused why
+rule_text_refused : (w : World) (lent : ℕ) (text : List ℕ) (why : Refusal) → outcome w (adds_text lent text) ≡ Err why
     → ((ruled_text (front w lent) w.board text).added ≡ 0) × (after w (adds_text lent text) ≡ w)
 unfolding answer outcome after ruled_text ruled_text_table
 rule_text_refused w lent text why e =
@@ -167,12 +167,12 @@ refused_untouched w (adds_text lent text) why e = (rule_text_refused w lent text
 refused_untouched w (writes_text lent bytes out) why e = refl
 
 -- a call is done or refused
-pub done_or_refused : (o : Outcome) → (o ≡ Done) ⊎ ((why : Refusal) × (o ≡ Refused why))
-done_or_refused Done = inl refl
-done_or_refused (Refused why) = inr (why, refl)
+pub done_or_refused : (o : Outcome) → (o ≡ Ok tt) ⊎ ((why : Refusal) × (o ≡ Err why))
+done_or_refused (Ok tt) = inl refl
+done_or_refused (Err why) = inr (why, refl)
 
 -- a refused call but an open leaves all as it was
-pub refused_same : (w : World) (c : Call) → not_open c ≡ true → (why : Refusal) × (outcome w c ≡ Refused why) → after w c ≡ w
+pub refused_same : (w : World) (c : Call) → not_open c ≡ true → (why : Refusal) × (outcome w c ≡ Err why) → after w c ≡ w
 refused_same w c n r = refused_untouched w c r.0 r.1 ∙ rw n
 
 pub refused_unwritten : RefusedUnwritten

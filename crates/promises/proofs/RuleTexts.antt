@@ -6,7 +6,7 @@ use Rattle.formula.proofs.OwnBytes.{whole_bytes}
 use Rattle.board.specs.Faults.{first_fault, good_board}
 use Rattle.board.specs.Rules.{rule_faults, ruled}
 use Rattle.board.specs.declared.Board.{Board}
-use Rattle.board.specs.declared.Outcome.TheVariants.{Done}
+use Rattle.std.specs.Prelude.{Ok}
 use Rattle.board.proofs.Answered.{refused_not_done, rule_told}
 use Rattle.meaning.proofs.Tests.{true_or_false}
 use Rattle.board.proofs.Goodness.{good_is}
@@ -40,7 +40,7 @@ module _ (w : World) (lent : ℕ) (text : List ℕ) where
   same_rule e = (rw e, rw e)
 
   -- so where it is done,
-  pub done_same : outcome w (adds_text lent text) ≡ Done → Same
+  pub done_same : outcome w (adds_text lent text) ≡ Ok tt → Same
   unfolding answer outcome ruled_text
   done_same e =
       ⊎_elim

@@ -5,7 +5,7 @@ use Rattle.meaning.specs.Literals.{has, Within}
 use Rattle.meaning.proofs.Tests.{clash}
 use Rattle.literals.specs.Literal.{place_of}
 use Rattle.board.specs.Furnaces.{with_held}
-use Rattle.board.specs.declared.Outcome.TheVariants.{Done}
+use Rattle.std.specs.Prelude.{Ok}
 use Rattle.stack.proofs.Own.{set_true}
 use Rattle.stack.specs.Stacking.{stack_of}
 use Rattle.promises.specs.Calls.{Call, World, outcome, after, run, Each, not_open, takes}
@@ -33,7 +33,7 @@ module _ (w : World) (furnace : ℕ) (marked : List Bool) (premises : ℕ → Ty
     still_held l false true out p h =
         get_or-set_other (premises_of v furnace) (place_of l) p false false (λ s. eqb-false (place_of l) p (out p (spare p h)) (sym s)) ∙ k.premises p h
 
-    step : {c : Call} → Moves v c → not_open c ≡ true → ((h : ℕ) → premises h → outcome v c ≡ Done → takes v furnace h c ≡ false) → Stays (after v c)
+    step : {c : Call} → Moves v c → not_open c ≡ true → ((h : ℕ) → premises h → outcome v c ≡ Ok tt → takes v furnace h c ≡ false) → Stays (after v c)
     unfolding with_held
     step (opening S) n out = clash n refl
     step (unmoved same rules) n out = rw same k

@@ -4,7 +4,7 @@ use Rattle.meaning.proofs.Kit.{◌≡◌, refl, true, List, [], ◌∷◌, ◌++
 use Rattle.literals.specs.declared.refusal.Refusal.{Refusal}
 use Rattle.literals.specs.declared.refusal.Refusal.TheVariants.{BadBoard, BadLiteral, AlreadyHeld, NotHeld, BadFurnace, EmptyStack, StackedPremise}
 use Rattle.board.specs.Changes.{empty_board, with_flag}
-use Rattle.board.specs.declared.Outcome.TheVariants.{Done, Refused}
+use Rattle.std.specs.Prelude.{Ok, Err}
 use Rattle.board.specs.declared.asking.Standing.{Standing}
 use Rattle.board.specs.declared.asking.Standing.TheVariants.{Conflict, Stands, RuledOut, Open}
 use Rattle.spelling.proofs.Ascii.{ascii}
@@ -37,10 +37,10 @@ abbrev stand : (furnace : ℕ) → ℤ → Standing → Call × Answer
 stand furnace l how = (asks lent furnace l, of_ask how)
 
 abbrev good : Call → Call × Answer
-good c = (c, of_change Done)
+good c = (c, of_change (Ok tt))
 
 abbrev refused : Call → Refusal → Call × Answer
-refused c why = (c, of_change (Refused why))
+refused c why = (c, of_change (Err why))
 
 -- furnace 1 holds 1, and tries 2 and then −3
 abbrev tried : List Call
@@ -148,7 +148,7 @@ as_it_was = (refl, refl)
 
 -- a refused open leaves the stacks, but no board that they fit
 no_board : map (answer (run fresh (tried ++ (opens 0 ∷ [])))) (pop 1 ∷ push 1 (pos 1) ∷ withdraw 1 (pos 1) ∷ [])
-    ≡ of_change (Refused BadBoard) ∷ of_change (Refused BadBoard) ∷ of_change (Refused BadBoard) ∷ []
+    ≡ of_change (Err BadBoard) ∷ of_change (Err BadBoard) ∷ of_change (Err BadBoard) ∷ []
 unfolding the_definitions
 no_board = refl
 
@@ -171,7 +171,7 @@ abbrev told : World → List Answer
 told w = map (answer w) (push 1 (pos 2) ∷ push 2 (pos 1) ∷ pop 1 ∷ withdraw 1 (pos 1) ∷ [])
 
 abbrev bad : List Answer
-bad = let no = of_change (Refused BadBoard) in no ∷ no ∷ no ∷ no ∷ []
+bad = let no = of_change (Err BadBoard) in no ∷ no ∷ no ∷ no ∷ []
 
 spoilt_told : map told
     ( -- more than 2S literals, a repeated one, 0, one beyond S, one that is not held, and one that only the other furnace holds
@@ -186,13 +186,13 @@ spoilt_told : map told
     ∷ spoilt (stack 1 (negsuc 1 ∷ pos 9 ∷ negsuc 1 ∷ [])) empty_stack
     ∷ [])
     ≡ bad ∷ bad ∷ bad ∷ bad ∷ bad ∷ bad ∷ bad
-    ∷ (of_change Done ∷ of_change Done ∷ of_change Done ∷ of_change Done ∷ [])
+    ∷ (of_change (Ok tt) ∷ of_change (Ok tt) ∷ of_change (Ok tt) ∷ of_change (Ok tt) ∷ [])
     ∷ []
 unfolding the_definitions
 spoilt_told = refl
 
 -- "1 also, but not at open"
-opened_anew : (answer (spoilt (stack 65535 []) empty_stack) (opens 2) ≡ of_change Done)
+opened_anew : (answer (spoilt (stack 65535 []) empty_stack) (opens 2) ≡ of_change (Ok tt))
     × ((after (spoilt (stack 65535 []) empty_stack) (opens 2)).stacks ≡ empty_stacks)
 unfolding the_definitions
 opened_anew = (refl, refl)

@@ -8,7 +8,7 @@ use Rattle.literals.specs.Row.{rows_lent}
 use Rattle.literals.specs.Refusals.{number_of}
 use Rattle.literals.specs.declared.refusal.Refusal.{Refusal}
 use Rattle.board.specs.Faults.{Fault, first_fault, number_in, good_board}
-use Rattle.board.specs.declared.Outcome.TheVariants.{Done, Refused}
+use Rattle.std.specs.Prelude.{Ok, Err}
 use Rattle.dimacs.specs.Form.{Parsed, good, broken, is_good, clauses_of, parse_text}
 use Rattle.dimacs.specs.Clauses.{one_of, rows_of_clause, clause_faults, clauses_faults, passed}
 use Rattle.dimacs.specs.Reading.{text_faults, read_faults, read_answer}
@@ -32,13 +32,13 @@ module _ (S lent : ℕ) (why : Refusal) where
 
   module _ (used rules : ℕ) (c : List ℤ) (cs : List (List ℤ)) where
     -- the first clause is at fault
-    stops_here : first_fault (clause_faults S used rules lent c) ≡ Refused why
+    stops_here : first_fault (clause_faults S used rules lent c) ≡ Err why
         → StopsAt S used rules lent (c ∷ cs) why (passed S used rules lent (c ∷ cs))
     unfolding clauses_faults passed
     stops_here e = rw e (record { stands = omega arith; before = refl; at = rw (add-zero, add-zero) e })
 
     -- it is not, and with its rows in use another is
-    stops_later : first_fault (clause_faults S used rules lent c) ≡ Done
+    stops_later : first_fault (clause_faults S used rules lent c) ≡ Ok tt
         → StopsAt S (behind used c) (suc rules) lent cs why (passed S (behind used c) (suc rules) lent cs)
         → StopsAt S used rules lent (c ∷ cs) why (passed S used rules lent (c ∷ cs))
     unfolding clauses_faults passed
@@ -54,28 +54,28 @@ module _ (S lent : ℕ) (why : Refusal) where
           at = rw (sum, count) s.at;
         })
 
-  stops : (used rules : ℕ) (cs : List (List ℤ)) → first_fault (clauses_faults S used rules lent cs) ≡ Refused why
+  stops : (used rules : ℕ) (cs : List (List ℤ)) → first_fault (clauses_faults S used rules lent cs) ≡ Err why
       → StopsAt S used rules lent cs why (passed S used rules lent cs)
   unfolding clauses_faults
   stops used rules [] e = let z : ◌≡◌ {A = ℕ} 0 1 = cc in absurd (omega arith)
   stops used rules (c ∷ cs) e =
       let parts = sym (first_append (clause_faults S used rules lent c) (others used rules c cs)) ∙ e in
       ⊎_elim
-      (λ (o : first_fault (clause_faults S used rules lent c) ≡ Done).
+      (λ (o : first_fault (clause_faults S used rules lent c) ≡ Ok tt).
       stops_later used rules c cs o (stops (behind used c) (suc rules) cs (rw o at parts)))
       (λ r. stops_here used rules c cs (r.1 ∙ rw r.1 at parts))
       (done_or_refused (first_fault (clause_faults S used rules lent c)))
 
 -- ---- of a text
 
-module _ (w : World) (lent : ℕ) (text : List ℕ) (why : Refusal) (e : outcome w (reads lent text) ≡ Refused why)
+module _ (w : World) (lent : ℕ) (text : List ℕ) (why : Refusal) (e : outcome w (reads lent text) ≡ Err why)
     (board : number_of why ≢ 1) (form : number_of why ≢ 15) where
   abbrev Stops : Type 0
   Stops =
       StopsAt w.board.symbols w.board.rows w.board.rules (rows_lent (front w lent)) (clauses_of (parse_text text)) why
       (read_answer (front w lent) w.board text).clauses
 
-  first : first_fault (read_faults (front w lent) w.board text) ≡ Refused why
+  first : first_fault (read_faults (front w lent) w.board text) ≡ Err why
   unfolding faults
   first = cases w (reads lent text) e
 

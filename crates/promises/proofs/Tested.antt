@@ -19,7 +19,7 @@ use Rattle.implicates.specs.Appending.{fits, appended}
 use Rattle.implicates.proofs.Rules.{fits_facts}
 use Rattle.board.specs.Faults.{good_board, first_fault}
 use Rattle.board.specs.Rules.{rule_faults, with_rules, ruled, ruled_table}
-use Rattle.board.specs.declared.Outcome.TheVariants.{Done}
+use Rattle.std.specs.Prelude.{Ok}
 use Rattle.board.proofs.Goodness.{Good, good_is}
 use Rattle.board.proofs.Answered.{none_given}
 use Rattle.positions.specs.Entering.{entry_faults, entered, entered_table}
@@ -78,14 +78,14 @@ formula_inside S bytes e = go (whole_of S bytes) refl e
     go (good f used) q e = (whole_read S bytes f used q).known
     go (bad why at) q e = clash e refl
 
-pub rule_added : (w : World) (lent : ℕ) (bytes : List ℕ) → outcome w (adds lent bytes) ≡ Done
+pub rule_added : (w : World) (lent : ℕ) (bytes : List ℕ) → outcome w (adds lent bytes) ≡ Ok tt
     → Added w (after w (adds lent bytes)) lent (formula_in w.board.symbols bytes ∷ []) (ruled (front w lent) w.board bytes).added
 unfolding after faults rule_faults ruled ruled_table
 rule_added w lent bytes e =
     let part = front w lent in
     let S = w.board.symbols in
     let f = formula_in S bytes in
-    let done : first_fault (rule_faults part w.board bytes) ≡ Done = cases w (adds lent bytes) e in
+    let done : first_fault (rule_faults part w.board bytes) ≡ Ok tt = cases w (adds lent bytes) e in
     let given = none_given (rule_faults part w.board bytes) done in
     let rows = rows_of (rule_of S f) in
     let one = append-nil (of_rule (suc w.board.rules) rows) in
@@ -114,14 +114,14 @@ formula_said S text few e = go (read_in S text) refl e
     go (good f used) q e = sym (says_same S text f used few q)
     go (bad why at) q e = clash e refl
 
-pub rule_text_added : (w : World) (lent : ℕ) (text : List ℕ) → outcome w (adds_text lent text) ≡ Done
+pub rule_text_added : (w : World) (lent : ℕ) (text : List ℕ) → outcome w (adds_text lent text) ≡ Ok tt
     → Added w (after w (adds_text lent text)) lent (formula_of (whole_text text) ∷ []) (ruled_text (front w lent) w.board text).added
 unfolding answer outcome faults rule_faults
 rule_text_added w lent text e =
     let bytes = bytes_in text in
     let S = w.board.symbols in
     let same = done_same w lent text e in
-    let done : outcome w (adds lent bytes) ≡ Done = rw (same.0, outcome) at e in
+    let done : outcome w (adds lent bytes) ≡ Ok tt = rw (same.0, outcome) at e in
     let given = none_given (rule_faults (front w lent) w.board bytes) (cases w (adds lent bytes) done) in
     let added = rule_added w lent bytes done in
     let said = formula_said S text added.good.sound.symbols (not-false (is_good (whole_of S bytes)) (given 1)) in
@@ -130,8 +130,8 @@ rule_text_added w lent text e =
 
 -- ---- a position variable or a pair table
 
-module _ (w : World) (lent : ℕ) (e : Entry) (d : outcome w (enters lent e) ≡ Done) where
-  entry_done : first_fault (entry_faults (front w lent) w.board e) ≡ Done
+module _ (w : World) (lent : ℕ) (e : Entry) (d : outcome w (enters lent e) ≡ Ok tt) where
+  entry_done : first_fault (entry_faults (front w lent) w.board e) ≡ Ok tt
   unfolding faults
   entry_done = cases w (enters lent e) d
 
@@ -160,8 +160,8 @@ module _ (w : World) (lent : ℕ) (e : Entry) (d : outcome w (enters lent e) ≡
 
 -- ---- a text
 
-module _ (w : World) (lent : ℕ) (text : List ℕ) (e : outcome w (reads lent text) ≡ Done) where
-  pub text_done : first_fault (read_faults (front w lent) w.board text) ≡ Done
+module _ (w : World) (lent : ℕ) (text : List ℕ) (e : outcome w (reads lent text) ≡ Ok tt) where
+  pub text_done : first_fault (read_faults (front w lent) w.board text) ≡ Ok tt
   unfolding faults
   text_done = cases w (reads lent text) e
 

@@ -10,7 +10,7 @@ use Rattle.literals.proofs.RuledRows.{ruled_at_lem, rows_of_table}
 use Rattle.implicates.specs.Appending.{appended}
 use Rattle.board.specs.Faults.{good_board}
 use Rattle.board.specs.Changes.{empty_board, open_faults, opened}
-use Rattle.board.specs.declared.Outcome.TheVariants.{Done}
+use Rattle.std.specs.Prelude.{Ok}
 use Rattle.board.proofs.Goodness.{Good, good_is}
 use Rattle.board.proofs.Answered.{none_given}
 use Rattle.dimacs.specs.Writing.{text_on, write_faults, write_outcome, write_answer, write_bytes}
@@ -24,7 +24,7 @@ use Rattle.promises.proofs.Changes.{open_leaves}
 use Rattle.promises.proofs.Lent.{rows_lent_lem}
 use Rattle.promises.proofs.Stored.{rows_appended}
 
-module _ (w : World) (lent : ℕ) (out : List ℕ) (v : World) (room : ℕ) (e : outcome w (writes lent out) ≡ Done)
+module _ (w : World) (lent : ℕ) (out : List ℕ) (v : World) (room : ℕ) (e : outcome w (writes lent out) ≡ Ok tt)
     (h : w.board.rows ≤ rows_lent (front v room)) where
   abbrev part : List ℤ
   part = front w lent
@@ -94,7 +94,7 @@ module _ (w : World) (lent : ℕ) (out : List ℕ) (v : World) (room : ℕ) (e :
       ∙ get_d_tabulate used row_at r nothing b)
 
   read_back : let back = reads room (text_on part w.board) in let read = after new back in
-      (outcome new back ≡ Done) × (rows_of_world read ≡ rows_of_world w) × (read.board.rules ≡ used)
+      (outcome new back ≡ Ok tt) × (rows_of_world read ≡ rows_of_world w) × (read.board.rules ≡ used)
       × ((r : ℕ) → r < used → rule_at read.table r ≡ suc r)
   unfolding answer outcome after
   read_back =

@@ -14,7 +14,7 @@ use Rattle.board.specs.Ranking.{rows_on}
 use Rattle.board.specs.Settling.{settle_faults, settle_outcome, settled_labels, settled_ranks, settled_supports}
 use Rattle.board.specs.Asking.{ask_faults, asked, asked_whole}
 use Rattle.board.specs.Grounds.{byte_of, ground_faults, ground_outcome, ground_marks, blame_faults, blame_outcome, blame_marks}
-use Rattle.board.specs.declared.Outcome.TheVariants.{Done}
+use Rattle.std.specs.Prelude.{Ok}
 use Rattle.board.proofs.Goodness.{good_is}
 use Rattle.board.proofs.Answered.{none_given}
 use Rattle.board.proofs.Grounded.{mark_at_lem, byte_one}
@@ -44,7 +44,7 @@ few_enough w lent e =
 written_at : (n : ℕ) (f : ℕ → ℕ) (rest : List ℕ) (i : ℕ) → i < n → get_or (tabulate n f ++ rest) i 0 ≡ f i
 written_at n f rest i h = list_get_or_append (tabulate n f) rest 0 i (omega (arith, length_tabulate n f)) ∙ get_d_tabulate n f i 0 h
 
-module _ (w : World) (lent furnace : ℕ) (labels ranks supports : List ℕ) (e : outcome w (settles lent furnace labels ranks supports) ≡ Done) where
+module _ (w : World) (lent furnace : ℕ) (labels ranks supports : List ℕ) (e : outcome w (settles lent furnace labels ranks supports) ≡ Ok tt) where
   abbrev places : ℕ
   places = 2 * w.board.symbols
 

@@ -6,7 +6,7 @@ use Rattle.meaning.specs.Literals.{has}
 use Rattle.meaning.proofs.Tests.{clash}
 use Rattle.literals.specs.Literal.{place_of}
 use Rattle.board.specs.Furnaces.{held_by}
-use Rattle.board.specs.declared.Outcome.TheVariants.{Done}
+use Rattle.std.specs.Prelude.{Ok}
 use Rattle.board.proofs.TwoSets.{held_own, held_other}
 use Rattle.stack.specs.Stacking.{top, on_top, less_top, stack_of}
 use Rattle.stack.specs.declared.Stack.{Stack}
@@ -20,7 +20,7 @@ use Rattle.promises.proofs.Stacked.{Sound, sound_after, sound_all, kept_always}
 
 -- ---- calls that are none of the furnace's tries
 
-another : (f : ℕ) (w : World) {c : Call} → Moves w c → not_open c ≡ true → (outcome w c ≡ Done → changes_premises c && names_furnace f c ≡ false)
+another : (f : ℕ) (w : World) {c : Call} → Moves w c → not_open c ≡ true → (outcome w c ≡ Ok tt → changes_premises c && names_furnace f c ≡ false)
     → GivenBack w (after w c) f
 unfolding held_by
 another f w (opening S) n out = clash n refl
@@ -62,7 +62,7 @@ module _ (f : ℕ) (w : World) (k : Sound w) where
   own_stack = stack_of w.stacks f
 
   -- a push begins one
-  pushed_on : (Before : List Bool → Stack → ℤ → Type 0) (lent : ℕ) (l : ℤ) → outcome w (pushes lent f l) ≡ Done → Before own_held own_stack l
+  pushed_on : (Before : List Bool → Stack → ℤ → Type 0) (lent : ℕ) (l : ℤ) → outcome w (pushes lent f l) ≡ Ok tt → Before own_held own_stack l
       → let v = after w (pushes lent f l) in Begun Before (premises_of v f) (stack_of v.stacks f)
   pushed_on Before lent l e before =
       let x = push_flagged w lent f l e in
@@ -82,7 +82,7 @@ module _ (f : ℕ) (w : World) (k : Sound w) where
       }
 
   -- and a pop takes it back
-  popped_off : (Before : List Bool → Stack → ℤ → Type 0) (lent : ℕ) → outcome w (pops lent f) ≡ Done → (b : Begun Before own_held own_stack)
+  popped_off : (Before : List Bool → Stack → ℤ → Type 0) (lent : ℕ) → outcome w (pops lent f) ≡ Ok tt → (b : Begun Before own_held own_stack)
       → let v = after w (pops lent f) in
       (top own_stack ≡ b.l) × (premises_of v f ≡ b.held) × (stack_of v.stacks f ≡ b.stack)
   popped_off Before lent e b =

@@ -4,7 +4,7 @@ use Rattle.meaning.specs.Tests.{none}
 use Rattle.board.specs.Furnaces.{held_by}
 use Rattle.board.specs.Faults.{number_in}
 use Rattle.board.specs.Changes.{empty_board, with_flag}
-use Rattle.board.specs.declared.Outcome.TheVariants.{Done}
+use Rattle.std.specs.Prelude.{Ok}
 use Rattle.board.specs.declared.asking.Standing.{Standing}
 use Rattle.board.specs.declared.asking.Standing.TheVariants.{Conflict, Stands, Open}
 use Rattle.positions.specs.Entering.{variable_of}
@@ -117,8 +117,8 @@ boards =
           ∷ (numbers (withdraw 2 (pos 1) ∷ withdraw 1 (pos 1) ∷ []), these (11 ∷ 0 ∷ []))
           ∷ (numbers (explain 2 (pos 2) ∷ explain 1 (pos 2) ∷ []), these (12 ∷ 0 ∷ []))
           ∷ (numbers (ground 2 (pos 2) ∷ ground 1 (pos 2) ∷ []), these (12 ∷ 0 ∷ []))
-          ∷ (settle 1, told (of_settle Done (1 ∷ 1 ∷ []) (0 ∷ none ∷ 1 ∷ none ∷ []) (none ∷ none ∷ 0 ∷ none ∷ [])))
-          ∷ (settle 2, told (of_settle Done (0 ∷ 0 ∷ []) (replicate 4 none) (replicate 4 none)))
+          ∷ (settle 1, told (of_settle (Ok tt) (1 ∷ 1 ∷ []) (0 ∷ none ∷ 1 ∷ none ∷ []) (none ∷ none ∷ 0 ∷ none ∷ [])))
+          ∷ (settle 2, told (of_settle (Ok tt) (0 ∷ 0 ∷ []) (replicate 4 none) (replicate 4 none)))
           ∷ [],
     )
     -- "16 for a furnace number other than 1 or 2", ahead of 2 for a literal of symbol 0 or S + 1 and of 13 for tables too short, which furnace 1 gets

@@ -19,9 +19,9 @@ use Rattle.board.specs.Ranking.{rows_on, derived_on}
 use Rattle.board.specs.Settling.{settle_faults, settle_outcome, settled_ranks, settled_supports}
 use Rattle.board.specs.Asking.{ask_faults, standing, asked, standing_whole, asked_whole, explain_faults, explain_numbers, explain_part}
 use Rattle.board.specs.Grounds.{ground_faults, ground_outcome, ground_marks}
-use Rattle.board.specs.declared.Outcome.TheVariants.{Done, Refused}
+use Rattle.std.specs.Prelude.{Ok, Err}
 use Rattle.board.specs.declared.asking.Standing.{Standing}
-use Rattle.board.specs.declared.asking.Standing.TheVariants.{Conflict, Stands, Refused as Unasked}
+use Rattle.board.specs.declared.asking.Standing.TheVariants.{Conflict, Stands}
 use Rattle.literals.proofs.Arguments.{place_fits}
 use Rattle.board.proofs.Answered.{none_given}
 use Rattle.promises.specs.Calls.{Call, withdraws, asks, asks_whole, explains, settles, grounds, World, of_ask, front, faults, answer, outcome}
@@ -42,7 +42,7 @@ kept_but false false more = inl refl
 
 -- ---- a literal whose ground is told
 
-module _ (w : World) (lent furnace : ℕ) (l : ℤ) (marks : List ℕ) (e : outcome w (grounds lent furnace l marks) ≡ Done) where
+module _ (w : World) (lent furnace : ℕ) (l : ℤ) (marks : List ℕ) (e : outcome w (grounds lent furnace l marks) ≡ Ok tt) where
   abbrev S : ℕ
   S = w.board.symbols
 
@@ -149,8 +149,8 @@ module _ (w : World) (lent furnace : ℕ) (l : ℤ) (marks : List ℕ) (e : outc
 
     -- both calls that ask are refused as before; where they are done, they answer by the rows of the table
     told_kept : (some : ℕ) (before now : Standing) → (rows_on (front w some) w.board ≡ rows → KeptBut (of_ask before) (of_ask now))
-        → KeptBut (of_ask (if_done (first_fault (ask_faults (front w some) w.board furnace l)) before Unasked))
-        (of_ask (if_done (first_fault (ask_faults (front v some) v.board furnace l)) now Unasked))
+        → KeptBut (of_ask (if_done (first_fault (ask_faults (front w some) w.board furnace l)) before Err))
+        (of_ask (if_done (first_fault (ask_faults (front v some) v.board furnace l)) now Err))
     unfolding ask_faults
     told_kept some before now kept =
         ⊎_elim
@@ -180,17 +180,17 @@ module _ (w : World) (lent furnace : ℕ) (l : ℤ) (marks : List ℕ) (e : outc
 
     -- where the board was good, what either call tells now is how the literal stands
     told_now : (some : ℕ) (now : Standing) → good_board (front w some) w.board ≡ true
-        → of_ask (if_done (first_fault (ask_faults (front v some) v.board furnace l)) now Unasked) ≡ of_ask now
+        → of_ask (if_done (first_fault (ask_faults (front v some) v.board furnace l)) now Err) ≡ of_ask now
     unfolding ask_faults
     told_now some now g = rw (good_same some, g, named, f.symbols, range)
 
-    was_good : (some : ℕ) (c : Call) → faults w c ≡ ask_faults (front w some) w.board furnace l → outcome w c ≡ Done
+    was_good : (some : ℕ) (c : Call) → faults w c ≡ ask_faults (front w some) w.board furnace l → outcome w c ≡ Ok tt
         → good_board (front w some) w.board ≡ true
     unfolding ask_faults
     was_good some c e d = not-false (good_board (front w some) w.board)
         (none_given (ask_faults (front w some) w.board furnace l) (sym (ap first_fault e) ∙ cases w c d) 0)
 
-    stands_now : (some : ℕ) → has (derived_set v furnace) (opp p) ≡ false → outcome w (asks some furnace l) ≡ Done
+    stands_now : (some : ℕ) → has (derived_set v furnace) (opp p) ≡ false → outcome w (asks some furnace l) ≡ Ok tt
         → answer v (asks some furnace l) ≡ of_ask Stands
     unfolding answer asked faults held_by
     stands_now some alone d =
@@ -199,7 +199,7 @@ module _ (w : World) (lent furnace : ℕ) (l : ℤ) (marks : List ℕ) (e : outc
         told_now some (standing (derived_on (front v some) v.board furnace) p) g
         ∙ rw (f.symbols, f.rows, f.table, rows_read w some (ap not g), u.derived, still)
 
-    stands_whole_now : (some : ℕ) → conflict (derived_set v furnace) ≡ false → outcome w (asks_whole some furnace l) ≡ Done
+    stands_whole_now : (some : ℕ) → conflict (derived_set v furnace) ≡ false → outcome w (asks_whole some furnace l) ≡ Ok tt
         → answer v (asks_whole some furnace l) ≡ of_ask Stands
     unfolding answer asked_whole faults held_by
     stands_whole_now some quiet d =
@@ -229,14 +229,14 @@ module _ (w : World) (lent furnace : ℕ) (l : ℤ) (marks : List ℕ) (e : outc
       settled_same : Same
       settled_same = ⊎_elim done refused (done_or_refused (outcome w (settles some furnace labels ranks supports)))
         where
-          done : outcome w (settles some furnace labels ranks supports) ≡ Done → Same
+          done : outcome w (settles some furnace labels ranks supports) ≡ Ok tt → Same
           done d =
               let here = settle_tells w [] some furnace labels ranks supports d in
               let there = settle_tells v [] some furnace labels ranks supports (outcome_same ∙ d) in
               let low : p < 2 * v.board.symbols = omega (arith, below, f.symbols) in
               (there.rank p low ∙ rank_same ∙ sym (here.rank p below), there.support p low ∙ support_same ∙ sym (here.support p below))
 
-          refused : (why : _) × (outcome w (settles some furnace labels ranks supports) ≡ Refused why) → Same
+          refused : (why : _) × (outcome w (settles some furnace labels ranks supports) ≡ Err why) → Same
           refused r =
               let here = (refused_unwritten w some r.0).settle furnace labels ranks supports r.1 in
               let there = (refused_unwritten v some r.0).settle furnace labels ranks supports (outcome_same ∙ r.1) in
@@ -281,6 +281,6 @@ pub strikes_off : StrikesOff
 strikes_off w lent furnace l marks h some e outside =
     mark_stays w lent furnace l marks (withdraws some furnace h ∷ []) e ((refl, apart), tt) ((λ done. refl), tt)
   where
-    apart : (x : ℕ) → InGround w lent furnace l marks x → outcome w (withdraws some furnace h) ≡ Done
+    apart : (x : ℕ) → InGround w lent furnace l marks x → outcome w (withdraws some furnace h) ≡ Ok tt
         → eqb furnace furnace && eqb (place_of h) x ≡ false
     apart x m done = rw (ne_eqb (place_of h) x (λ q. omega (arith, rw q at outside, m.1)), and-false (eqb furnace furnace))

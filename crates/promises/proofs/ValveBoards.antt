@@ -11,7 +11,7 @@ use Rattle.literals.specs.declared.refusal.Refusal.{Refusal}
 use Rattle.literals.specs.declared.refusal.Refusal.TheVariants.{BadBoard, BadLiteral, NoAssignment, TableFull, BadPositions}
 use Rattle.board.specs.Changes.{empty_board}
 use Rattle.board.specs.Rules.{no_place}
-use Rattle.board.specs.declared.Outcome.TheVariants.{Done, Refused}
+use Rattle.std.specs.Prelude.{Ok, Err}
 use Rattle.board.specs.declared.asking.Standing.TheVariants.{Conflict, Stands, RuledOut, Open}
 use Rattle.positions.specs.Entering.{variable_of, pairs_of}
 use Rattle.stack.specs.Stacking.{empty_stacks}
@@ -67,10 +67,10 @@ chain =
 -- ---- what they answer
 
 abbrev taken : (rows : ℕ) → Answer
-taken rows = of_addition Done no_place rows
+taken rows = of_addition (Ok tt) no_place rows
 
 abbrev refused : Refusal → Answer
-refused why = of_addition (Refused why) no_place 0
+refused why = of_addition (Err why) no_place 0
 
 -- on a board of four symbols with two valves, which are four rows
 abbrev refusals : List (Call × Answer)

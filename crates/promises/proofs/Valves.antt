@@ -12,8 +12,8 @@ use Rattle.meaning.proofs.Literals.{opp_place}
 use Rattle.literals.specs.Literal.{place_of}
 use Rattle.board.specs.Faults.{first_fault, if_done}
 use Rattle.board.specs.Asking.{standing_if, standing}
-use Rattle.board.specs.declared.Outcome.{Outcome}
-use Rattle.board.specs.declared.Outcome.TheVariants.{Done, Refused}
+use Rattle.board.specs.Faults.{Outcome}
+use Rattle.std.specs.Prelude.{Ok, Err}
 use Rattle.board.specs.declared.asking.Standing.TheVariants.{Conflict, RuledOut}
 use Rattle.positions.specs.Entering.{entry_faults, entered}
 use Rattle.promises.specs.Calls.{Call, opens, World, front, outcome, after, run, not_open, entry_of, entries_after, entries_after_all}
@@ -38,7 +38,7 @@ abbrev Suited : World → List Entry → Type 0
 Suited w entries = all (suits w.board.symbols) entries ≡ true
 
 -- the entry of a call that is done does,
-own_suits : (w : World) {c : Call} → Kind c → outcome w c ≡ Done → Suited w (entry_of c)
+own_suits : (w : World) {c : Call} → Kind c → outcome w c ≡ Ok tt → Suited w (entry_of c)
 own_suits w (opener S) d = refl
 own_suits w (idle n same rules entry) d = rw entry
 own_suits w (flagger x) d = rw x.entry
@@ -52,8 +52,8 @@ step : (w : World) (entries : List Entry) → Suited w entries → (c : Call) �
 step w entries k c = go (not_open c) refl
   where
     told : (o : Outcome) → outcome w c ≡ o → Suited w (if_done o (entries ++ entry_of c) (λ _. entries))
-    told Done d = rw (all_append (suits w.board.symbols) entries (entry_of c), k, own_suits w (kind c) d)
-    told (Refused why) d = k
+    told (Ok tt) d = rw (all_append (suits w.board.symbols) entries (entry_of c), k, own_suits w (kind c) d)
+    told (Err why) d = k
 
     go : (t : Bool) → not_open c ≡ t → Suited (after w c) (entries_after w entries c)
     go true n = rw (n, same_symbols w c n) (told (outcome w c) refl)

@@ -23,7 +23,7 @@ use Rattle.board.specs.Furnaces.{is_furnace, with_held}
 use Rattle.board.specs.Faults.{Fault, good_board}
 use Rattle.board.specs.Changes.{with_flag, flag_faults}
 use Rattle.board.specs.Ranking.{rows_on}
-use Rattle.board.specs.declared.Outcome.TheVariants.{Done}
+use Rattle.std.specs.Prelude.{Ok}
 use Rattle.board.proofs.TwoSets.{held_own}
 use Rattle.board.proofs.Goodness.{flag_good}
 use Rattle.board.proofs.Answered.{none_given}
@@ -57,7 +57,7 @@ module _ (lent furnace : ℕ) (named : is_furnace furnace ≡ true) where
     unstacked : Unstacked w furnace gone
 
   module _ (w : World) (l : ℤ) (gone : List ℤ) (r : Ready w (l ∷ gone)) where
-    withdraw_done : outcome w (withdraws lent furnace l) ≡ Done
+    withdraw_done : outcome w (withdraws lent furnace l) ≡ Ok tt
     unfolding answer outcome withdrawn_with withdraw_faults_with flag_faults
     withdraw_done = rw (r.unstacked.good, r.good, named, r.range l (head refl), r.held l (head refl), r.unstacked.free l (head refl))
 
@@ -92,14 +92,14 @@ module _ (lent furnace : ℕ) (named : is_furnace furnace ≡ true) where
 
   -- every one is good, and these premises are gone
   withdrawn_each : (w : World) (gone : List ℤ) → Ready w gone
-      → Each (λ v c. outcome v c ≡ Done) w (withdraw_each lent furnace gone) × Struck w (run w (withdraw_each lent furnace gone)) furnace gone
+      → Each (λ v c. outcome v c ≡ Ok tt) w (withdraw_each lent furnace gone) × Struck w (run w (withdraw_each lent furnace gone)) furnace gone
   unfolding with_held
   withdrawn_each w [] r = (tt, record { symbols = refl; rows = refl; premises = refl })
   withdrawn_each w (l ∷ gone) r =
       let ih = withdrawn_each (next w l gone r) gone (next_ready w l gone r) in
       let s = ih.1 in
       let rest : World → Type 0 = λ v.
-      Each (λ u c. outcome u c ≡ Done) v (withdraw_each lent furnace gone) × Struck w (run v (withdraw_each lent furnace gone)) furnace (l ∷ gone) in
+      Each (λ u c. outcome u c ≡ Ok tt) v (withdraw_each lent furnace gone) × Struck w (run v (withdraw_each lent furnace gone)) furnace (l ∷ gone) in
       let t = subst rest (sym (next_is w l gone r)) (
         ih.0,
         record {
@@ -180,7 +180,7 @@ module _ (w : World) (lent furnace : ℕ) (cands : List ℤ) where
       }
 
 -- where it is done
-module _ (w : World) (lent furnace : ℕ) (cands : List ℤ) (e : outcome w (asks_least lent furnace cands) ≡ Done) where
+module _ (w : World) (lent furnace : ℕ) (cands : List ℤ) (e : outcome w (asks_least lent furnace cands) ≡ Ok tt) where
   tests : (i : ℕ) → get_or (map (λ (f : Fault). f.given) (least_faults (front w lent) w.board furnace cands)) i false ≡ false
   unfolding answer outcome least_answer
   tests = none_given (least_faults (front w lent) w.board furnace cands) e
@@ -215,7 +215,7 @@ empty_set w lent furnace cands e =
     rw (set_is w lent furnace cands e) (empty_exactly (2 * w.board.symbols) (rows_of_world w) (premises_of w furnace) (places_of cands))
 
 -- once the set's candidates are struck off no conflict is left
-set_quiet : (w : World) (lent furnace : ℕ) (cands : List ℤ) → outcome w (asks_least lent furnace cands) ≡ Done
+set_quiet : (w : World) (lent furnace : ℕ) (cands : List ℤ) → outcome w (asks_least lent furnace cands) ≡ Ok tt
     → left w furnace (chosen (places_of cands) (least_set w lent furnace cands)) ≡ false
 set_quiet w lent furnace cands e =
     let gone = chosen (places_of cands) (least_set w lent furnace cands) in

@@ -3,7 +3,7 @@
 use Rattle.meaning.proofs.Kit.{refl, List, [], ◌∷◌, ◌++◌, ℕ, ℤ, pos, negsuc}
 use Rattle.literals.specs.declared.refusal.Refusal.{Refusal}
 use Rattle.literals.specs.declared.refusal.Refusal.TheVariants.{BadBoard, BadLiteral, AlreadyHeld, NotHeld, BadFurnace, BadCandidates, ConflictStays}
-use Rattle.board.specs.declared.Outcome.TheVariants.{Done, Refused}
+use Rattle.std.specs.Prelude.{Ok, Err}
 use Rattle.board.specs.declared.asking.Standing.TheVariants.{Conflict, Stands}
 use Rattle.spelling.proofs.Ascii.{ascii}
 use Rattle.promises.specs.Calls.{Call, opens, holds, withdraws, asks_whole, asks_least, reads, Answer, of_change, of_ask, of_withdrawal, answer}
@@ -24,10 +24,10 @@ abbrev least_of : (furnace : ℕ) → List ℤ → Call
 least_of furnace cands = asks_least lent furnace cands
 
 abbrev this : (set : ℕ) → Answer
-this set = of_withdrawal (record { outcome = Done; set = set })
+this set = of_withdrawal (record { outcome = (Ok tt); set = set })
 
 abbrev refused : Refusal → Answer
-refused why = of_withdrawal (record { outcome = Refused why; set = 65535 })
+refused why = of_withdrawal (record { outcome = Err why; set = 65535 })
 
 -- ---- calls that are made, and what others then answer
 
@@ -62,9 +62,9 @@ boards =
     -- "Nothing is changed": after the call the furnace is in conflict, and holds what the set has
     ∷ (
       against (least_of 1 (pos 4 ∷ pos 3 ∷ pos 2 ∷ pos 1 ∷ []) ∷ []),
-      (asks_whole lent 1 (pos 4), of_ask Conflict) ∷ (withdraws lent 1 (pos 1), of_change Done) ∷ (
+      (asks_whole lent 1 (pos 4), of_ask Conflict) ∷ (withdraws lent 1 (pos 1), of_change (Ok tt)) ∷ (
         holds lent 1 (pos 1),
-        of_change (Refused AlreadyHeld),
+        of_change (Err AlreadyHeld),
       ) ∷ [],
     )
     -- once the set is withdrawn there is no conflict, and the empty set is the answer; once a part of it is, the conflict is left

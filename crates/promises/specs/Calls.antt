@@ -26,11 +26,11 @@ use Rattle.text.specs.Reading.{read_text_faults, read_text_answer, read_text_byt
 use Rattle.text.specs.Adding.{rule_text_faults, ruled_text, ruled_text_table}
 use Rattle.text.specs.Writing.{write_text_faults, write_text_answer, write_text_bytes}
 use Rattle.board.specs.declared.Board.{Board}
-use Rattle.board.specs.declared.Outcome.{Outcome}
-use Rattle.board.specs.declared.Outcome.TheVariants.{Done, Refused}
+use Rattle.board.specs.Faults.{Outcome}
+use Rattle.std.specs.Prelude.{Ok, Err}
 use Rattle.board.specs.declared.asking.Reason.{Reason}
 use Rattle.board.specs.declared.asking.Standing.{Standing}
-use Rattle.board.specs.declared.asking.Standing.TheVariants.{Conflict, Stands, RuledOut, Open, Refused as Unasked}
+use Rattle.board.specs.declared.asking.Standing.TheVariants.{Conflict, Stands, RuledOut, Open}
 use Rattle.stack.specs.declared.Stacks.{Stacks}
 use Rattle.stack.specs.declared.Step.{Step}
 use Rattle.smallest.specs.declared.Listing.{Listing}
@@ -94,11 +94,11 @@ faults w (writes_text lent bytes out) = write_text_faults (front w lent) w.board
 
 -- the two calls that ask answer by a standing alone: how the literal stands, which is of a call that is done, or why it is refused
 abbrev pub ask_outcome : Standing → Outcome
-ask_outcome Conflict = Done
-ask_outcome Stands = Done
-ask_outcome RuledOut = Done
-ask_outcome Open = Done
-ask_outcome (Unasked why) = Refused why
+ask_outcome Conflict = (Ok tt)
+ask_outcome Stands = (Ok tt)
+ask_outcome RuledOut = (Ok tt)
+ask_outcome Open = (Ok tt)
+ask_outcome (Err why) = Err why
 
 -- all that a call tells: what it hands back, but for the board and the clause table, which `after` has, and what it leaves in the other tables that
 -- it is lent. Explain's part is told by where it lies in the clause table.

@@ -31,7 +31,7 @@ use Rattle.board.specs.Settling.{settled_labels, settled_ranks, settled_supports
 use Rattle.board.specs.Ranking.{rows_on, derived_on, rank_on, support_on}
 use Rattle.board.specs.Asking.{asked, standing, asked_whole, standing_whole, explain_numbers, explain_part}
 use Rattle.board.specs.Grounds.{byte_of, ground_marks, blame_marks}
-use Rattle.board.specs.declared.Outcome.TheVariants.{Done, Refused}
+use Rattle.std.specs.Prelude.{Ok, Err}
 use Rattle.board.specs.declared.asking.Standing.{Standing}
 use Rattle.board.specs.declared.asking.Standing.TheVariants.{Conflict, Stands, RuledOut, Open}
 use Rattle.stack.specs.Stacking.{on_stack, top, on_top, less_top, empty_stacks, stack_of, with_stack, stacked, good_stacks}
@@ -66,7 +66,7 @@ RefusedExactly = (w : World) (c : Call) (number : ℕ) → 0 < number → (numbe
 
 -- and that it is done exactly if no case is given
 abbrev pub DoneExactly : Type 0
-DoneExactly = (w : World) (c : Call) → (outcome w c ≡ Done) ↔ ((f : Fault) → In f (faults w c) → f.given ≡ false)
+DoneExactly = (w : World) (c : Call) → (outcome w c ≡ Ok tt) ↔ ((f : Fault) → In f (faults w c) → f.given ≡ false)
 
 -- what a refused call leaves: board, table and record as they were, "except that a refused open returns a board with S = 0, no rows in use
 -- and no premises". 02, Ticket 8: "every open, a refused one too, sets the count to 0"
@@ -74,24 +74,24 @@ abbrev pub as_before : World → Call → World
 as_before w c = cond (not_open c) w (record { board = empty_board 0; table = w.table; stacks = w.stacks })
 
 abbrev pub RefusedUntouched : Type 0
-RefusedUntouched = (w : World) (c : Call) (why : Refusal) → outcome w c ≡ Refused why → after w c ≡ as_before w c
+RefusedUntouched = (w : World) (c : Call) (why : Refusal) → outcome w c ≡ Err why → after w c ≡ as_before w c
 
 -- "it writes nothing in a lent table": settle's three, the marks of ground and blame, the smallest sets, the bytes of a text, and those of a
 -- formula
 pub record Unwritten (w : World) (lent : ℕ) (why : Refusal) : Type 0 where
-  pub settle : (furnace : ℕ) (labels ranks supports : List ℕ) → outcome w (settles lent furnace labels ranks supports) ≡ Refused why
+  pub settle : (furnace : ℕ) (labels ranks supports : List ℕ) → outcome w (settles lent furnace labels ranks supports) ≡ Err why
       → (settled_labels (front w lent) w.board furnace labels ranks supports ≡ labels)
       × (settled_ranks (front w lent) w.board furnace labels ranks supports ≡ ranks)
       × (settled_supports (front w lent) w.board furnace labels ranks supports ≡ supports)
-  pub ground : (furnace : ℕ) (l : ℤ) (marks : List ℕ) → outcome w (grounds lent furnace l marks) ≡ Refused why
+  pub ground : (furnace : ℕ) (l : ℤ) (marks : List ℕ) → outcome w (grounds lent furnace l marks) ≡ Err why
       → ground_marks (front w lent) w.board furnace l marks ≡ marks
-  pub blame : (furnace : ℕ) (marks : List ℕ) → outcome w (blames lent furnace marks) ≡ Refused why
+  pub blame : (furnace : ℕ) (marks : List ℕ) → outcome w (blames lent furnace marks) ≡ Err why
       → blame_marks (front w lent) w.board furnace marks ≡ marks
-  pub smallest : (cands : List ℤ) (l : ℤ) (sets : List ℕ) → outcome w (lists lent cands l sets) ≡ Refused why
+  pub smallest : (cands : List ℤ) (l : ℤ) (sets : List ℕ) → outcome w (lists lent cands l sets) ≡ Err why
       → smallest_sets (front w lent) w.board cands l sets ≡ sets
-  pub write : (out : List ℕ) → outcome w (writes lent out) ≡ Refused why → write_bytes (front w lent) w.board out ≡ out
-  pub read_text : (text out : List ℕ) → outcome w (reads_text lent text out) ≡ Refused why → read_text_bytes (front w lent) w.board text out ≡ out
-  pub write_text : (bytes out : List ℕ) → outcome w (writes_text lent bytes out) ≡ Refused why
+  pub write : (out : List ℕ) → outcome w (writes lent out) ≡ Err why → write_bytes (front w lent) w.board out ≡ out
+  pub read_text : (text out : List ℕ) → outcome w (reads_text lent text out) ≡ Err why → read_text_bytes (front w lent) w.board text out ≡ out
+  pub write_text : (bytes out : List ℕ) → outcome w (writes_text lent bytes out) ≡ Err why
       → write_text_bytes (front w lent) w.board bytes out ≡ out
 
 abbrev pub RefusedUnwritten : Type 0
@@ -101,22 +101,22 @@ RefusedUnwritten = (w : World) (lent : ℕ) (why : Refusal) → Unwritten w lent
 -- written, no bytes; the smallest sets none; the least to withdraw no set, which is 65535 and not the empty one; "A refused explain hands back the
 -- empty part at the table's front, and 65535 for rank and row number", and 0 for the rule's (02, Ticket 8)
 pub record HandedBack (w : World) (lent : ℕ) (why : Refusal) : Type 0 where
-  pub rule : (bytes : List ℕ) → outcome w (adds lent bytes) ≡ Refused why → (ruled (front w lent) w.board bytes).added ≡ 0
-  pub enter : (e : Entry) → outcome w (enters lent e) ≡ Refused why → (entered (front w lent) w.board e).added ≡ 0
-  pub explain : (furnace : ℕ) (l : ℤ) → outcome w (explains lent furnace l) ≡ Refused why
+  pub rule : (bytes : List ℕ) → outcome w (adds lent bytes) ≡ Err why → (ruled (front w lent) w.board bytes).added ≡ 0
+  pub enter : (e : Entry) → outcome w (enters lent e) ≡ Err why → (entered (front w lent) w.board e).added ≡ 0
+  pub explain : (furnace : ℕ) (l : ℤ) → outcome w (explains lent furnace l) ≡ Err why
       → ((explain_numbers (front w lent) w.board furnace l).rank ≡ 65535) × ((explain_numbers (front w lent) w.board furnace l).row ≡ 65535)
       × ((explain_numbers (front w lent) w.board furnace l).rule ≡ 0)
       × ((explain_part (front w lent) w.board furnace l).start ≡ 0) × ((explain_part (front w lent) w.board furnace l).stop ≡ 0)
-  pub smallest : (cands : List ℤ) (l : ℤ) (sets : List ℕ) → outcome w (lists lent cands l sets) ≡ Refused why
+  pub smallest : (cands : List ℤ) (l : ℤ) (sets : List ℕ) → outcome w (lists lent cands l sets) ≡ Err why
       → (smallest_answer (front w lent) w.board cands l sets).count ≡ 0
-  pub least : (furnace : ℕ) (cands : List ℤ) → outcome w (asks_least lent furnace cands) ≡ Refused why
+  pub least : (furnace : ℕ) (cands : List ℤ) → outcome w (asks_least lent furnace cands) ≡ Err why
       → (least_answer (front w lent) w.board furnace cands).set ≡ 65535
-  pub read : (text : List ℕ) → outcome w (reads lent text) ≡ Refused why → (read_answer (front w lent) w.board text).added ≡ 0
-  pub write : (out : List ℕ) → outcome w (writes lent out) ≡ Refused why → (write_answer (front w lent) w.board out).bytes ≡ 0
-  pub read_text : (text out : List ℕ) → outcome w (reads_text lent text out) ≡ Refused why
+  pub read : (text : List ℕ) → outcome w (reads lent text) ≡ Err why → (read_answer (front w lent) w.board text).added ≡ 0
+  pub write : (out : List ℕ) → outcome w (writes lent out) ≡ Err why → (write_answer (front w lent) w.board out).bytes ≡ 0
+  pub read_text : (text out : List ℕ) → outcome w (reads_text lent text out) ≡ Err why
       → (read_text_answer (front w lent) w.board text out).bytes ≡ 0
-  pub rule_text : (text : List ℕ) → outcome w (adds_text lent text) ≡ Refused why → (ruled_text (front w lent) w.board text).added ≡ 0
-  pub write_text : (bytes out : List ℕ) → outcome w (writes_text lent bytes out) ≡ Refused why
+  pub rule_text : (text : List ℕ) → outcome w (adds_text lent text) ≡ Err why → (ruled_text (front w lent) w.board text).added ≡ 0
+  pub write_text : (bytes out : List ℕ) → outcome w (writes_text lent bytes out) ≡ Err why
       → (write_text_answer (front w lent) w.board bytes out).bytes ≡ 0
 
 abbrev pub RefusedHandsBack : Type 0
@@ -125,7 +125,7 @@ RefusedHandsBack = (w : World) (lent : ℕ) (why : Refusal) → HandedBack w len
 -- 02, Ticket 1: "Refusals 2 to 6 for a rule shall also give the byte place": the formula breaks there and not before,
 abbrev pub RuleBreaks : Type 0
 RuleBreaks =
-    (w : World) (lent : ℕ) (bytes : List ℕ) (why : Refusal) → outcome w (adds lent bytes) ≡ Refused why → 2 ≤ number_of why → number_of why ≤ 6
+    (w : World) (lent : ℕ) (bytes : List ℕ) (why : Refusal) → outcome w (adds lent bytes) ≡ Err why → 2 ≤ number_of why → number_of why ≤ 6
     → Breaks w.board.symbols bytes why (ruled (front w lent) w.board bytes).place
 
 -- and every other answer has no place
@@ -138,20 +138,20 @@ NoPlaceElse =
 -- each counted, for the next
 pub record StopsAt (S used rules lent : ℕ) (clauses : List (List ℤ)) (why : Refusal) (k : ℕ) : Type 0 where
   pub stands : k < length clauses
-  pub before : first_fault (clauses_faults S used rules lent (take k clauses)) ≡ Done
+  pub before : first_fault (clauses_faults S used rules lent (take k clauses)) ≡ Ok tt
   pub at : first_fault (clause_faults S (used + length (all_rows (rules_of S (map one_of (take k clauses))))) (rules + k) lent (get_or clauses k []))
-      ≡ Refused why
+      ≡ Err why
 
 abbrev pub ReadStops : Type 0
 ReadStops =
-    (w : World) (lent : ℕ) (text : List ℕ) (why : Refusal) → outcome w (reads lent text) ≡ Refused why → number_of why ≢ 1 → number_of why ≢ 15
+    (w : World) (lent : ℕ) (text : List ℕ) (why : Refusal) → outcome w (reads lent text) ≡ Err why → number_of why ≢ 1 → number_of why ≢ 15
     → StopsAt w.board.symbols w.board.rows w.board.rules (rows_lent (front w lent)) (clauses_of (parse_text text)) why
     (read_answer (front w lent) w.board text).clauses
 
 -- where the reading is done they are all the clauses
 abbrev pub ReadCounts : Type 0
 ReadCounts =
-    (w : World) (lent : ℕ) (text : List ℕ) → outcome w (reads lent text) ≡ Done
+    (w : World) (lent : ℕ) (text : List ℕ) → outcome w (reads lent text) ≡ Ok tt
     → (read_answer (front w lent) w.board text).clauses ≡ length (clauses_of (parse_text text))
 
 -- and where the board or the form of the text is at fault, so for 1 and 15, none is told
@@ -188,25 +188,25 @@ WriteTextPlaces =
 -- one too, sets the count to 0"; Ticket 14: "a good open empties the stacks"
 abbrev pub OpenLeaves : Type 0
 OpenLeaves =
-    (w : World) (S : ℕ) → outcome w (opens S) ≡ Done
+    (w : World) (S : ℕ) → outcome w (opens S) ≡ Ok tt
     → after w (opens S) ≡ record { board = empty_board S; table = w.table; stacks = empty_stacks }
 
 -- "A good hold puts its literal into the premises, a good withdraw takes it out, and neither changes anything else in the board": the premises of
 -- the furnace that is named
 abbrev pub HoldPuts : Type 0
 HoldPuts =
-    (w : World) (lent furnace : ℕ) (l : ℤ) → outcome w (holds lent furnace l) ≡ Done
+    (w : World) (lent furnace : ℕ) (l : ℤ) → outcome w (holds lent furnace l) ≡ Ok tt
     → after w (holds lent furnace l) ≡ record { board = with_flag w.board furnace l true; table = w.table; stacks = w.stacks }
 
 abbrev pub WithdrawTakes : Type 0
 WithdrawTakes =
-    (w : World) (lent furnace : ℕ) (l : ℤ) → outcome w (withdraws lent furnace l) ≡ Done
+    (w : World) (lent furnace : ℕ) (l : ℤ) → outcome w (withdraws lent furnace l) ≡ Ok tt
     → after w (withdraws lent furnace l) ≡ record { board = with_flag w.board furnace l false; table = w.table; stacks = w.stacks }
 
 -- 02, Ticket 14: "push holds a literal and puts it on top,
 abbrev pub PushPuts : Type 0
 PushPuts =
-    (w : World) (lent furnace : ℕ) (l : ℤ) → outcome w (pushes lent furnace l) ≡ Done
+    (w : World) (lent furnace : ℕ) (l : ℤ) → outcome w (pushes lent furnace l) ≡ Ok tt
     → after w (pushes lent furnace l)
     ≡ record {
       board = with_flag w.board furnace l true;
@@ -217,7 +217,7 @@ PushPuts =
 -- pop withdraws the top", and neither changes anything else
 abbrev pub PopTakes : Type 0
 PopTakes =
-    (w : World) (lent furnace : ℕ) → outcome w (pops lent furnace) ≡ Done
+    (w : World) (lent furnace : ℕ) → outcome w (pops lent furnace) ≡ Ok tt
     → after w (pops lent furnace)
     ≡ record {
       board = with_flag w.board furnace (top (stack_of w.stacks furnace)) false;
@@ -256,7 +256,7 @@ pub record Appends (w next : World) (rules : ℕ) (new : List Ruled) (added : �
 
 abbrev pub RuleAppends : Type 0
 RuleAppends =
-    (w : World) (lent : ℕ) (bytes : List ℕ) → outcome w (adds lent bytes) ≡ Done
+    (w : World) (lent : ℕ) (bytes : List ℕ) → outcome w (adds lent bytes) ≡ Ok tt
     → Appends w (after w (adds lent bytes)) 1
     (of_rule (suc w.board.rules) (rows_of (rule_of w.board.symbols (formula_in w.board.symbols bytes))))
     (ruled (front w lent) w.board bytes).added
@@ -264,7 +264,7 @@ RuleAppends =
 -- 02, Ticket 2: "Each clause is added as one rule, in order."
 abbrev pub ReadAppends : Type 0
 ReadAppends =
-    (w : World) (lent : ℕ) (text : List ℕ) → outcome w (reads lent text) ≡ Done
+    (w : World) (lent : ℕ) (text : List ℕ) → outcome w (reads lent text) ≡ Ok tt
     → let clauses = formulae_in (parse_text text) in
     Appends w (after w (reads lent text)) (length clauses) (of_rules (suc w.board.rules) (rules_of w.board.symbols clauses))
     (read_answer (front w lent) w.board text).added
@@ -273,7 +273,7 @@ ReadAppends =
 -- nothing is where the call is refused, "wholly or not at all", is `RefusedUntouched`.)
 abbrev pub EnterAppends : Type 0
 EnterAppends =
-    (w : World) (lent : ℕ) (e : Entry) → outcome w (enters lent e) ≡ Done
+    (w : World) (lent : ℕ) (e : Entry) → outcome w (enters lent e) ≡ Ok tt
     → Appends w (after w (enters lent e)) (length (formulae_of e)) (of_rules (suc w.board.rules) (rules_of w.board.symbols (formulae_of e)))
     (entered (front w lent) w.board e).added
 
@@ -299,7 +299,7 @@ OneFormula =
 -- and the rows are those of the formula that the text says
 abbrev pub TextAppends : Type 0
 TextAppends =
-    (w : World) (lent : ℕ) (text : List ℕ) → outcome w (adds_text lent text) ≡ Done
+    (w : World) (lent : ℕ) (text : List ℕ) → outcome w (adds_text lent text) ≡ Ok tt
     → Appends w (after w (adds_text lent text)) 1
     (of_rule (suc w.board.rules) (rows_of (rule_of w.board.symbols (formula_of (whole_text text)))))
     (ruled_text (front w lent) w.board text).added
@@ -334,7 +334,7 @@ abbrev pub SettleTells : Type 0
 SettleTells =
     (w₀ : World) (calls : List Call) (lent furnace : ℕ) (labels ranks supports : List ℕ)
     → let w = run w₀ calls in
-    outcome w (settles lent furnace labels ranks supports) ≡ Done
+    outcome w (settles lent furnace labels ranks supports) ≡ Ok tt
     → Tells w furnace (settled_labels (front w lent) w.board furnace labels ranks supports)
     (settled_ranks (front w lent) w.board furnace labels ranks supports)
     (settled_supports (front w lent) w.board furnace labels ranks supports)
@@ -342,7 +342,7 @@ SettleTells =
 -- "Only the first S, 2S and 2S places are written."
 abbrev pub SettleSpares : Type 0
 SettleSpares =
-    (w : World) (lent furnace : ℕ) (labels ranks supports : List ℕ) → outcome w (settles lent furnace labels ranks supports) ≡ Done
+    (w : World) (lent furnace : ℕ) (labels ranks supports : List ℕ) → outcome w (settles lent furnace labels ranks supports) ≡ Ok tt
     → let S = w.board.symbols in
     (drop S (settled_labels (front w lent) w.board furnace labels ranks supports) ≡ drop S labels)
     × (drop (2 * S) (settled_ranks (front w lent) w.board furnace labels ranks supports) ≡ drop (2 * S) ranks)
@@ -351,12 +351,12 @@ SettleSpares =
 -- the other answers agree with the same derived literals, ranks and supports (for any board and table, so after every sequence too)
 abbrev pub AskTells : Type 0
 AskTells =
-    (w : World) (lent furnace : ℕ) (l : ℤ) → outcome w (asks lent furnace l) ≡ Done
+    (w : World) (lent furnace : ℕ) (l : ℤ) → outcome w (asks lent furnace l) ≡ Ok tt
     → asked (front w lent) w.board furnace l ≡ standing (derived_set w furnace) (place_of l)
 
 abbrev pub AskWholeTells : Type 0
 AskWholeTells =
-    (w : World) (lent furnace : ℕ) (l : ℤ) → outcome w (asks_whole lent furnace l) ≡ Done
+    (w : World) (lent furnace : ℕ) (l : ℤ) → outcome w (asks_whole lent furnace l) ≡ Ok tt
     → asked_whole (front w lent) w.board furnace l ≡ standing_whole (derived_set w furnace) (place_of l)
 
 -- the rank, the row number, the number of that row's rule, and the literals of that row
@@ -368,13 +368,13 @@ pub record Explains (w : World) (lent furnace : ℕ) (l : ℤ) : Type 0 where
       decode (take (span.stop - span.start) (drop span.start w.table)) ≡ get_or (rows_of_world w) (support_in w furnace (place_of l)) []
 
 abbrev pub ExplainTells : Type 0
-ExplainTells = (w : World) (lent furnace : ℕ) (l : ℤ) → outcome w (explains lent furnace l) ≡ Done → Explains w lent furnace l
+ExplainTells = (w : World) (lent furnace : ℕ) (l : ℤ) → outcome w (explains lent furnace l) ≡ Ok tt → Explains w lent furnace l
 
 -- 02, Ticket 7: "No rank can exceed 2S": none that settle writes, and not the one that explain tells, which is of no premise and so not 0
 pub record Bounded (w : World) (lent furnace : ℕ) : Type 0 where
-  pub settle : (labels ranks supports : List ℕ) → outcome w (settles lent furnace labels ranks supports) ≡ Done
+  pub settle : (labels ranks supports : List ℕ) → outcome w (settles lent furnace labels ranks supports) ≡ Ok tt
       → RanksBounded w.board.symbols (settled_ranks (front w lent) w.board furnace labels ranks supports)
-  pub explain : (l : ℤ) → outcome w (explains lent furnace l) ≡ Done
+  pub explain : (l : ℤ) → outcome w (explains lent furnace l) ≡ Ok tt
       → (1 ≤ (explain_numbers (front w lent) w.board furnace l).rank)
       × ((explain_numbers (front w lent) w.board furnace l).rank ≤ 2 * w.board.symbols)
 
@@ -383,13 +383,13 @@ NoRankAbove = (w : World) (lent furnace : ℕ) → Bounded w lent furnace
 
 abbrev pub GroundTells : Type 0
 GroundTells =
-    (w : World) (lent furnace : ℕ) (l : ℤ) (marks : List ℕ) → outcome w (grounds lent furnace l marks) ≡ Done
+    (w : World) (lent furnace : ℕ) (l : ℤ) (marks : List ℕ) → outcome w (grounds lent furnace l marks) ≡ Ok tt
     → ground_marks (front w lent) w.board furnace l marks
     ≡ map byte_of (ground (2 * w.board.symbols) (rows_of_world w) (premises_of w furnace) (place_of l)) ++ drop (2 * w.board.symbols) marks
 
 abbrev pub BlameTells : Type 0
 BlameTells =
-    (w : World) (lent furnace : ℕ) (marks : List ℕ) → outcome w (blames lent furnace marks) ≡ Done
+    (w : World) (lent furnace : ℕ) (marks : List ℕ) → outcome w (blames lent furnace marks) ≡ Ok tt
     → blame_marks (front w lent) w.board furnace marks
     ≡ map byte_of (blame w.board.symbols (rows_of_world w) (premises_of w furnace)) ++ drop (2 * w.board.symbols) marks
 
@@ -397,7 +397,7 @@ BlameTells =
 -- symbol." Of that symbol it writes "the premises reached by +s or −s", by 01.
 abbrev pub BlameTakes : Type 0
 BlameTakes =
-    (w : World) (lent furnace : ℕ) (marks : List ℕ) → outcome w (blames lent furnace marks) ≡ Done
+    (w : World) (lent furnace : ℕ) (marks : List ℕ) → outcome w (blames lent furnace marks) ≡ Ok tt
     → let S = w.board.symbols in
     let reach : ℕ → ℕ → Bool = reaches (2 * S) (rows_of_world w) (premises_of w furnace) in
     (s : ℕ) × Earliest S (rows_of_world w) (premises_of w furnace) s
@@ -411,33 +411,33 @@ Marked w lent furnace marks p = (p < 2 * w.board.symbols) × (get_or (blame_mark
 -- what it marks are premises that the furnace holds,
 abbrev pub BlameMarksHeld : Type 0
 BlameMarksHeld =
-    (w : World) (lent furnace : ℕ) (marks : List ℕ) (p : ℕ) → outcome w (blames lent furnace marks) ≡ Done → Marked w lent furnace marks p
+    (w : World) (lent furnace : ℕ) (marks : List ℕ) (p : ℕ) → outcome w (blames lent furnace marks) ≡ Ok tt → Marked w lent furnace marks p
     → has (premises_of w furnace) p ≡ true
 
 -- which held alone, with the same rows, are in conflict:
 abbrev pub BlameAlone : Type 0
 BlameAlone =
-    (w v : World) (lent furnace : ℕ) (marks : List ℕ) → outcome w (blames lent furnace marks) ≡ Done
+    (w v : World) (lent furnace : ℕ) (marks : List ℕ) → outcome w (blames lent furnace marks) ≡ Ok tt
     → v.board.symbols ≡ w.board.symbols → rows_of_world v ≡ rows_of_world w
     → ((p : ℕ) → (has (premises_of v furnace) p ≡ true) ↔ Marked w lent furnace marks p)
     → conflict (derived_set v furnace) ≡ true
 
 -- the call is no open, and if it is done it takes none of these premises from this furnace
 abbrev pub Spares : (furnace : ℕ) → (premises : ℕ → Type 0) → World → Call → Type 0
-Spares furnace premises w c = (not_open c ≡ true) × ((h : ℕ) → premises h → outcome w c ≡ Done → takes w furnace h c ≡ false)
+Spares furnace premises w c = (not_open c ≡ true) × ((h : ℕ) → premises h → outcome w c ≡ Ok tt → takes w furnace h c ≡ false)
 
 -- so the furnace stays in conflict, whatever rules are added and premises held or withdrawn for either furnace, until one of those is withdrawn for
 -- it or the board is opened anew
 abbrev pub ConflictLasts : Type 0
 ConflictLasts =
-    (w : World) (lent furnace : ℕ) (marks : List ℕ) (calls : List Call) → outcome w (blames lent furnace marks) ≡ Done
+    (w : World) (lent furnace : ℕ) (marks : List ℕ) (calls : List Call) → outcome w (blames lent furnace marks) ≡ Ok tt
     → Each (Spares furnace (Marked w lent furnace marks)) w calls
     → conflict (derived_set (run w calls) furnace) ≡ true
 
 -- 02, Ticket 2: "Write the rows in use too": the bytes told are the text's, and the bytes beyond it stay
 abbrev pub WriteTells : Type 0
 WriteTells =
-    (w : World) (lent : ℕ) (out : List ℕ) → outcome w (writes lent out) ≡ Done
+    (w : World) (lent : ℕ) (out : List ℕ) → outcome w (writes lent out) ≡ Ok tt
     → let text = text_on w.table w.board in
     ((write_answer (front w lent) w.board out).bytes ≡ length text) × (write_bytes (front w lent) w.board out ≡ text ++ drop (length text) out)
 
@@ -445,17 +445,17 @@ WriteTells =
 -- rule of its own, so row r, from 0, has the number r + 1
 abbrev pub RoundTrip : Type 0
 RoundTrip =
-    (w : World) (lent : ℕ) (out : List ℕ) (v : World) (room : ℕ) → outcome w (writes lent out) ≡ Done → w.board.rows ≤ rows_lent (front v room)
+    (w : World) (lent : ℕ) (out : List ℕ) (v : World) (room : ℕ) → outcome w (writes lent out) ≡ Ok tt → w.board.rows ≤ rows_lent (front v room)
     → let text = take (write_answer (front w lent) w.board out).bytes (write_bytes (front w lent) w.board out) in
     let new = after v (opens w.board.symbols) in
     let read = after new (reads room text) in
-    (outcome new (reads room text) ≡ Done) × (rows_of_world read ≡ rows_of_world w) × (read.board.rules ≡ w.board.rows)
+    (outcome new (reads room text) ≡ Ok tt) × (rows_of_world read ≡ rows_of_world w) × (read.board.rules ≡ w.board.rows)
     × ((r : ℕ) → r < w.board.rows → rule_at read.table r ≡ suc r)
 
 -- 02, Ticket 5: a text that is read leaves its formula's bytes, and the bytes beyond them stay
 abbrev pub ReadTextTells : Type 0
 ReadTextTells =
-    (w : World) (lent : ℕ) (text out : List ℕ) → outcome w (reads_text lent text out) ≡ Done
+    (w : World) (lent : ℕ) (text out : List ℕ) → outcome w (reads_text lent text out) ≡ Ok tt
     → let bytes = bytes_in text in
     ((read_text_answer (front w lent) w.board text out).bytes ≡ length bytes)
     × (read_text_bytes (front w lent) w.board text out ≡ bytes ++ drop (length bytes) out)
@@ -463,7 +463,7 @@ ReadTextTells =
 -- "Write text from bytes too"
 abbrev pub WriteTextTells : Type 0
 WriteTextTells =
-    (w : World) (lent : ℕ) (bytes out : List ℕ) → outcome w (writes_text lent bytes out) ≡ Done
+    (w : World) (lent : ℕ) (bytes out : List ℕ) → outcome w (writes_text lent bytes out) ≡ Ok tt
     → let text = text_in w.board.symbols bytes in
     ((write_text_answer (front w lent) w.board bytes out).bytes ≡ length text)
     × (write_text_bytes (front w lent) w.board bytes out ≡ text ++ drop (length text) out)
@@ -476,13 +476,13 @@ text_written w lent bytes out =
 -- "reading it gives the same bytes", on every good board of equal S with room for them; and added to any board it adds what those bytes do
 pub record WrittenBack (text bytes : List ℕ) (S : ℕ) : Type 0 where
   pub reads : (v : World) (lent : ℕ) (out : List ℕ) → v.board.symbols ≡ S → good_board (front v lent) v.board ≡ true → length bytes ≤ length out
-      → (outcome v (reads_text lent text out) ≡ Done) × (read_text_bytes (front v lent) v.board text out ≡ bytes ++ drop (length bytes) out)
+      → (outcome v (reads_text lent text out) ≡ Ok tt) × (read_text_bytes (front v lent) v.board text out ≡ bytes ++ drop (length bytes) out)
   pub adds : (v : World) (lent : ℕ) → (ruled_text (front v lent) v.board text ≡ ruled (front v lent) v.board bytes)
       × (after v (adds_text lent text) ≡ after v (adds lent bytes))
 
 abbrev pub TextRoundTrip : Type 0
 TextRoundTrip =
-    (w : World) (lent : ℕ) (bytes out : List ℕ) → outcome w (writes_text lent bytes out) ≡ Done
+    (w : World) (lent : ℕ) (bytes out : List ℕ) → outcome w (writes_text lent bytes out) ≡ Ok tt
     → WrittenBack (text_written w lent bytes out) bytes w.board.symbols
 
 -- ---- 02, Ticket 6: "Holding and withdrawing for one furnace change no answer of the other, refusals 10 to 12 included."
@@ -532,7 +532,7 @@ abbrev pub SettleAgrees : Type 0
 SettleAgrees =
     (w₀ : World) (S : ℕ) (calls : List Call) (lent furnace : ℕ) (labels ranks supports : List ℕ)
     → let w = since w₀ S calls in
-    outcome w (settles lent furnace labels ranks supports) ≡ Done
+    outcome w (settles lent furnace labels ranks supports) ≡ Ok tt
     → LabelsAgree w.board.symbols (settled_labels (front w lent) w.board furnace labels ranks supports)
     (second_way w.board.symbols (accepted_since w₀ S calls) (premises_of w furnace))
 
@@ -563,7 +563,7 @@ ExplainNames =
     → let w = since w₀ S calls in
     let fs = accepted_since w₀ S calls in
     let number = (explain_numbers (front w lent) w.board furnace l).rule in
-    outcome w (explains lent furnace l) ≡ Done
+    outcome w (explains lent furnace l) ≡ Ok tt
     → (number ≡ rule_at w.table (support_in w furnace (place_of l))) × (1 ≤ number) × (number ≤ length fs)
     × In (get_or (rows_of_world w) (support_in w furnace (place_of l)) []) (rows_of (rule_of w.board.symbols (get_or fs (number - 1) (symbol 0))))
 
@@ -607,7 +607,7 @@ InGround w lent furnace l marks h =
 -- support", in every world of one S that has the same rows
 abbrev pub GroundAlone : Type 0
 GroundAlone =
-    (w v : World) (lent furnace : ℕ) (l : ℤ) (marks : List ℕ) → outcome w (grounds lent furnace l marks) ≡ Done
+    (w v : World) (lent furnace : ℕ) (l : ℤ) (marks : List ℕ) → outcome w (grounds lent furnace l marks) ≡ Ok tt
     → v.board.symbols ≡ w.board.symbols → rows_of_world v ≡ rows_of_world w
     → ((h : ℕ) → (has (premises_of v furnace) h ≡ true) ↔ InGround w lent furnace l marks h)
     → DerivedOn v furnace (place_of l) × (rank_in v furnace (place_of l) ≡ rank_in w furnace (place_of l))
@@ -632,30 +632,30 @@ pub record CannotMove (w v : World) (furnace : ℕ) (l : ℤ) : Type 0 where
   pub ground : (lent : ℕ) (marks : List ℕ) → answer v (grounds lent furnace l marks) ≡ answer w (grounds lent furnace l marks)
   -- how it stands, by its symbol: where it stood it stands, and it stands wherever its opposite is not derived now
   pub ask : (lent : ℕ) → KeptBut (answer w (asks lent furnace l)) (answer v (asks lent furnace l))
-  pub stands : (lent : ℕ) → has (derived_set v furnace) (opp (place_of l)) ≡ false → outcome w (asks lent furnace l) ≡ Done
+  pub stands : (lent : ℕ) → has (derived_set v furnace) (opp (place_of l)) ≡ false → outcome w (asks lent furnace l) ≡ Ok tt
       → answer v (asks lent furnace l) ≡ of_ask Stands
   -- the same of the whole board, where no conflict is left; none comes up
   pub ask_whole : (lent : ℕ) → KeptBut (answer w (asks_whole lent furnace l)) (answer v (asks_whole lent furnace l))
-  pub stands_whole : (lent : ℕ) → conflict (derived_set v furnace) ≡ false → outcome w (asks_whole lent furnace l) ≡ Done
+  pub stands_whole : (lent : ℕ) → conflict (derived_set v furnace) ≡ false → outcome w (asks_whole lent furnace l) ≡ Ok tt
       → answer v (asks_whole lent furnace l) ≡ of_ask Stands
   pub no_conflict : conflict (derived_set w furnace) ≡ false → conflict (derived_set v furnace) ≡ false
 
 -- the call, if it is done, brings this furnace no rule and no premise
 abbrev pub BringsNothing : (furnace : ℕ) → World → Call → Type 0
-BringsNothing furnace w c = outcome w c ≡ Done → brings furnace c ≡ false
+BringsNothing furnace w c = outcome w c ≡ Ok tt → brings furnace c ≡ false
 
 -- "and withdrawing premises outside its ground, any number of them, changes neither": whatever is called, for either furnace, that opens no board,
 -- brings this one no rule and no premise, and withdraws none of the ground for it
 abbrev pub MarkStays : Type 0
 MarkStays =
-    (w : World) (lent furnace : ℕ) (l : ℤ) (marks : List ℕ) (calls : List Call) → outcome w (grounds lent furnace l marks) ≡ Done
+    (w : World) (lent furnace : ℕ) (l : ℤ) (marks : List ℕ) (calls : List Call) → outcome w (grounds lent furnace l marks) ≡ Ok tt
     → Each (Spares furnace (InGround w lent furnace l marks)) w calls → Each (BringsNothing furnace) w calls
     → CannotMove w (run w calls) furnace l
 
 -- "Before an operator strikes off a reading we want to tell him which marks can't move": for the premise h, those whose ground does not have it
 abbrev pub StrikesOff : Type 0
 StrikesOff =
-    (w : World) (lent furnace : ℕ) (l : ℤ) (marks : List ℕ) (h : ℤ) (some : ℕ) → outcome w (grounds lent furnace l marks) ≡ Done
+    (w : World) (lent furnace : ℕ) (l : ℤ) (marks : List ℕ) (h : ℤ) (some : ℕ) → outcome w (grounds lent furnace l marks) ≡ Ok tt
     → get_or (ground_marks (front w lent) w.board furnace l marks) (place_of h) 0 ≡ 0
     → CannotMove w (after w (withdraws some furnace h)) furnace l
 
@@ -664,7 +664,7 @@ StrikesOff =
 -- "The call returns the count; places beyond the list stay as they were."
 abbrev pub SmallestTells : Type 0
 SmallestTells =
-    (w : World) (lent : ℕ) (cands : List ℤ) (l : ℤ) (sets : List ℕ) → outcome w (lists lent cands l sets) ≡ Done
+    (w : World) (lent : ℕ) (cands : List ℤ) (l : ℤ) (sets : List ℕ) → outcome w (lists lent cands l sets) ≡ Ok tt
     → let list = smallest_on w.table w.board cands l in
     ((smallest_answer (front w lent) w.board cands l sets).count ≡ length list)
     × (smallest_sets (front w lent) w.board cands l sets ≡ list ++ drop (length list) sets)
@@ -683,7 +683,7 @@ pub record Lists (w : World) (cands : List ℤ) (l : ℤ) (list : List ℕ) : Ty
 
 abbrev pub SmallestLists : Type 0
 SmallestLists =
-    (w : World) (lent : ℕ) (cands : List ℤ) (l : ℤ) (sets : List ℕ) → outcome w (lists lent cands l sets) ≡ Done
+    (w : World) (lent : ℕ) (cands : List ℤ) (l : ℤ) (sets : List ℕ) → outcome w (lists lent cands l sets) ≡ Ok tt
     → Lists w cands l (list_written w lent cands l sets)
 
 -- On a board of one S that has the same rows, and where the set's candidates are all that a furnace holds,
@@ -695,22 +695,22 @@ pub record HeldAlone (w v : World) (furnace : ℕ) (cands : List ℤ) (m : ℕ) 
 -- a set listed derives the literal, and there is no conflict,
 abbrev pub ListedDerives : Type 0
 ListedDerives =
-    (w v : World) (lent furnace : ℕ) (cands : List ℤ) (l : ℤ) (sets : List ℕ) (m : ℕ) → outcome w (lists lent cands l sets) ≡ Done
+    (w v : World) (lent furnace : ℕ) (cands : List ℤ) (l : ℤ) (sets : List ℕ) (m : ℕ) → outcome w (lists lent cands l sets) ≡ Ok tt
     → In m (list_written w lent cands l sets) → HeldAlone w v furnace cands m
     → DerivedOn v furnace (place_of l) × (conflict (derived_set v furnace) ≡ false)
 
 -- and no other set inside it derives it
 abbrev pub SmallerDoesNot : Type 0
 SmallerDoesNot =
-    (w v : World) (lent furnace : ℕ) (cands : List ℤ) (l : ℤ) (sets : List ℕ) (m a : ℕ) → outcome w (lists lent cands l sets) ≡ Done
+    (w v : World) (lent furnace : ℕ) (cands : List ℤ) (l : ℤ) (sets : List ℕ) (m a : ℕ) → outcome w (lists lent cands l sets) ≡ Ok tt
     → In m (list_written w lent cands l sets) → Inside a m → a ≢ m → HeldAlone w v furnace cands a → ¬ DerivedOn v furnace (place_of l)
 
 -- With the ground: for a literal that a furnace derives without conflict, whose ground is of candidates alone, some listed set lies inside its
 -- ground.
 abbrev pub ListedInGround : Type 0
 ListedInGround =
-    (w : World) (lent some furnace : ℕ) (cands : List ℤ) (l : ℤ) (sets marks : List ℕ) → outcome w (lists lent cands l sets) ≡ Done
-    → outcome w (grounds some furnace l marks) ≡ Done → conflict (derived_set w furnace) ≡ false
+    (w : World) (lent some furnace : ℕ) (cands : List ℤ) (l : ℤ) (sets marks : List ℕ) → outcome w (lists lent cands l sets) ≡ Ok tt
+    → outcome w (grounds some furnace l marks) ≡ Ok tt → conflict (derived_set w furnace) ≡ false
     → ((h : ℕ) → InGround w some furnace l marks h → In h (places_of cands))
     → (m : ℕ) × In m (list_written w lent cands l sets) × ((h : ℕ) → In h (chosen (places_of cands) m) → InGround w some furnace l marks h)
 
@@ -741,8 +741,8 @@ pub record ByLabel (how : Standing) (l : ℤ) (label : ℕ) : Type 0 where
 -- board, in conflict or not, by the label that settle writes for the symbol
 abbrev pub AskByLabel : Type 0
 AskByLabel =
-    (w : World) (lent some furnace : ℕ) (l : ℤ) (labels ranks supports : List ℕ) → outcome w (asks lent furnace l) ≡ Done
-    → outcome w (settles some furnace labels ranks supports) ≡ Done
+    (w : World) (lent some furnace : ℕ) (l : ℤ) (labels ranks supports : List ℕ) → outcome w (asks lent furnace l) ≡ Ok tt
+    → outcome w (settles some furnace labels ranks supports) ≡ Ok tt
     → ByLabel (asked (front w lent) w.board furnace l) l
     (get_or (settled_labels (front w some) w.board furnace labels ranks supports) (nat_abs l - 1) 0)
 
@@ -753,7 +753,7 @@ StandsOn =
     (w : World) (lent some furnace : ℕ) (l : ℤ) (calls : List Call) → asked (front w lent) w.board furnace l ≡ Stands
     → Each (Spares furnace (λ h. has (premises_of w furnace) h ≡ true)) w calls
     → let v = run w calls in
-    outcome v (asks some furnace l) ≡ Done
+    outcome v (asks some furnace l) ≡ Ok tt
     → asked (front v some) v.board furnace l ≡ cond (has (derived_set v furnace) (opp (place_of l))) Conflict Stands
 
 -- "The old answer stays as a second call."
@@ -763,7 +763,7 @@ pub record SecondCall (w : World) (lent furnace : ℕ) (l : ℤ) : Type 0 where
   -- outside a conflict it answers as ask does, refusals included;
   pub alike : conflict (derived_set w furnace) ≡ false → answer w (asks_whole lent furnace l) ≡ answer w (asks lent furnace l)
   -- in one it answers conflict for every literal for which it is not refused
-  pub hides : conflict (derived_set w furnace) ≡ true → outcome w (asks_whole lent furnace l) ≡ Done
+  pub hides : conflict (derived_set w furnace) ≡ true → outcome w (asks_whole lent furnace l) ≡ Ok tt
       → answer w (asks_whole lent furnace l) ≡ of_ask Conflict
 
 abbrev pub OldAnswer : Type 0
@@ -779,13 +779,13 @@ least_set w lent furnace cands = (least_answer (front w lent) w.board furnace ca
 -- premises that the furnace holds
 abbrev pub LeastTells : Type 0
 LeastTells =
-    (w : World) (lent furnace : ℕ) (cands : List ℤ) → outcome w (asks_least lent furnace cands) ≡ Done
+    (w : World) (lent furnace : ℕ) (cands : List ℤ) → outcome w (asks_least lent furnace cands) ≡ Ok tt
     → Least (2 * w.board.symbols) (rows_of_world w) (premises_of w furnace) (places_of cands) (least_set w lent furnace cands)
 
 -- "the empty set if there is no conflict", and then alone
 abbrev pub EmptySet : Type 0
 EmptySet =
-    (w : World) (lent furnace : ℕ) (cands : List ℤ) → outcome w (asks_least lent furnace cands) ≡ Done
+    (w : World) (lent furnace : ℕ) (cands : List ℤ) → outcome w (asks_least lent furnace cands) ≡ Ok tt
     → (least_set w lent furnace cands ≡ 0) ↔ (conflict (derived_set w furnace) ≡ false)
 
 -- the calls that withdraw literals from a furnace, one after the other
@@ -794,7 +794,7 @@ withdraw_each lent furnace gone = map (λ l. withdraws lent furnace l) gone
 
 -- every withdrawal is good, and after the last the furnace is in conflict or not, as `left` tells
 pub record Withdrawn (w : World) (lent furnace : ℕ) (gone : List ℤ) (left : Bool) : Type 0 where
-  pub good : Each (λ v c. outcome v c ≡ Done) w (withdraw_each lent furnace gone)
+  pub good : Each (λ v c. outcome v c ≡ Ok tt) w (withdraw_each lent furnace gone)
   pub in_conflict : conflict (derived_set (run w (withdraw_each lent furnace gone)) furnace) ≡ left
 
 -- 02, Ticket 14: no withdrawal of these is refused for the sake of the record
@@ -805,13 +805,13 @@ pub record Unstacked (w : World) (furnace : ℕ) (gone : List ℤ) : Type 0 wher
 -- once exactly the set's candidates are withdrawn, one after the other, there is no conflict;
 abbrev pub SetEnds : Type 0
 SetEnds =
-    (w : World) (lent furnace : ℕ) (cands : List ℤ) → outcome w (asks_least lent furnace cands) ≡ Done → Unstacked w furnace cands
+    (w : World) (lent furnace : ℕ) (cands : List ℤ) → outcome w (asks_least lent furnace cands) ≡ Ok tt → Unstacked w furnace cands
     → Withdrawn w lent furnace (chosen cands (least_set w lent furnace cands)) false
 
 -- nor if they are in any order, and other candidates with them: any that are different, with all of the set's among them
 abbrev pub MoreEnds : Type 0
 MoreEnds =
-    (w : World) (lent furnace : ℕ) (cands gone : List ℤ) → outcome w (asks_least lent furnace cands) ≡ Done → Unstacked w furnace cands
+    (w : World) (lent furnace : ℕ) (cands gone : List ℤ) → outcome w (asks_least lent furnace cands) ≡ Ok tt → Unstacked w furnace cands
     → repeats (places_of gone) ≡ false → ((l : ℤ) → In l gone → In l cands)
     → ((l : ℤ) → In l (chosen cands (least_set w lent furnace cands)) → In l gone)
     → Withdrawn w lent furnace gone false
@@ -819,7 +819,7 @@ MoreEnds =
 -- once the candidates of a smaller set are withdrawn, one after the other, or those of one of equal size with a smaller number, the conflict is left
 abbrev pub SmallerLeaves : Type 0
 SmallerLeaves =
-    (w : World) (lent furnace : ℕ) (cands : List ℤ) (a : ℕ) → outcome w (asks_least lent furnace cands) ≡ Done → Unstacked w furnace cands
+    (w : World) (lent furnace : ℕ) (cands : List ℤ) (a : ℕ) → outcome w (asks_least lent furnace cands) ≡ Ok tt → Unstacked w furnace cands
     → a < 2 ^ length cands → BySize (size (length cands)) (λ x y. x < y) a (least_set w lent furnace cands)
     → Withdrawn w lent furnace (chosen cands a) true
 
@@ -827,7 +827,7 @@ SmallerLeaves =
 -- tests before come first, and no other case, is `RefusedExactly`.)
 pub record Stays (w : World) (lent furnace : ℕ) (cands : List ℤ) : Type 0 where
   pub refused : number_in (outcome w (asks_least lent furnace cands)) ≡ 18 → Withdrawn w lent furnace cands true
-  pub done : outcome w (asks_least lent furnace cands) ≡ Done → Withdrawn w lent furnace cands false
+  pub done : outcome w (asks_least lent furnace cands) ≡ Ok tt → Withdrawn w lent furnace cands false
 
 abbrev pub StaysExactly : Type 0
 StaysExactly = (w : World) (lent furnace : ℕ) (cands : List ℤ) → Unstacked w furnace cands → Stays w lent furnace cands
@@ -859,11 +859,11 @@ ValvesRemove =
 
 -- and as the calls tell it: ask, of the whole board, a conflict; and otherwise ask, of a position, that it is ruled out
 pub record ToldOfValves (w : World) (lent furnace : ℕ) (entries : List Entry) : Type 0 where
-  pub conflict : (l : ℤ) → outcome w (asks_whole lent furnace l) ≡ Done
+  pub conflict : (l : ℤ) → outcome w (asks_whole lent furnace l) ≡ Ok tt
       → (asked_whole (front w lent) w.board furnace l ≡ Conflict) ↔ Emptied entries (premises_of w furnace)
   pub ruled_out : ¬ Emptied entries (premises_of w furnace) → (x : Variable) (i : ℕ) → In (positions x) entries → i < x.count
       → let l = pos (symbol_at x i) in
-      outcome w (asks lent furnace l) ≡ Done
+      outcome w (asks lent furnace l) ≡ Ok tt
       → (asked (front w lent) w.board furnace l ≡ RuledOut) ↔ Removed entries (premises_of w furnace) x i
 
 abbrev pub ValvesTold : Type 0
@@ -909,7 +909,7 @@ ZerosBeyond =
 -- "A stacked premise can't be withdrawn except by pop": a call that is done, and no open, and takes a stacked premise from its furnace is a pop
 abbrev pub OnlyPop : Type 0
 OnlyPop =
-    (w : World) (c : Call) (furnace : ℕ) (l : ℤ) → outcome w c ≡ Done → not_open c ≡ true → stacked w.stacks furnace l ≡ true
+    (w : World) (c : Call) (furnace : ℕ) (l : ℤ) → outcome w c ≡ Ok tt → not_open c ≡ true → stacked w.stacks furnace l ≡ true
     → takes w furnace (place_of l) c ≡ true → (lent : ℕ) × (c ≡ pops lent furnace)
 
 -- "After a pop the labels are those of the premises still held and the rules then in the table": v is w with the top of the furnace's stack
@@ -920,24 +920,24 @@ pub record StillHeld (w v : World) (furnace : ℕ) : Type 0 where
   pub rows : v.board.rows ≡ w.board.rows
   pub own : premises_of v furnace ≡ set (premises_of w furnace) (place_of (top (stack_of w.stacks furnace))) false
   pub others : (other : ℕ) → furnace ≢ other → premises_of v other ≡ premises_of w other
-  pub settle : (lent named : ℕ) (labels ranks supports : List ℕ) → outcome v (settles lent named labels ranks supports) ≡ Done
+  pub settle : (lent named : ℕ) (labels ranks supports : List ℕ) → outcome v (settles lent named labels ranks supports) ≡ Ok tt
       → Tells v named (settled_labels (front v lent) v.board named labels ranks supports)
       (settled_ranks (front v lent) v.board named labels ranks supports)
       (settled_supports (front v lent) v.board named labels ranks supports)
 
 abbrev pub PopTells : Type 0
-PopTells = (w : World) (lent furnace : ℕ) → outcome w (pops lent furnace) ≡ Done → StillHeld w (after w (pops lent furnace)) furnace
+PopTells = (w : World) (lent furnace : ℕ) → outcome w (pops lent furnace) ≡ Ok tt → StillHeld w (after w (pops lent furnace)) furnace
 
 -- calls that push and pop evenly for this furnace, where so many of its tries are begun and not yet taken back; whatever else they do, they open no
 -- board, and hold and withdraw for the other furnace alone
 pub data Even (furnace : ℕ) : (begun : ℕ) → World → List Call → Type 0 where
   over : {w : World} → Even furnace 0 w []
-  begin : {w : World} {begun : ℕ} {calls : List Call} (lent : ℕ) (l : ℤ) → outcome w (pushes lent furnace l) ≡ Done
+  begin : {w : World} {begun : ℕ} {calls : List Call} (lent : ℕ) (l : ℤ) → outcome w (pushes lent furnace l) ≡ Ok tt
       → Even furnace (suc begun) (after w (pushes lent furnace l)) calls → Even furnace begun w (pushes lent furnace l ∷ calls)
-  back : {w : World} {begun : ℕ} {calls : List Call} (lent : ℕ) → outcome w (pops lent furnace) ≡ Done
+  back : {w : World} {begun : ℕ} {calls : List Call} (lent : ℕ) → outcome w (pops lent furnace) ≡ Ok tt
       → Even furnace begun (after w (pops lent furnace)) calls → Even furnace (suc begun) w (pops lent furnace ∷ calls)
   other : {w : World} {begun : ℕ} {calls : List Call} (c : Call) → not_open c ≡ true
-      → (outcome w c ≡ Done → changes_premises c && names_furnace furnace c ≡ false)
+      → (outcome w c ≡ Ok tt → changes_premises c && names_furnace furnace c ≡ false)
       → Even furnace begun (after w c) calls → Even furnace begun w (c ∷ calls)
 
 -- a furnace holds what it held, and its stack is what it was
@@ -954,10 +954,10 @@ abbrev pub TryGivesBack : Type 0
 TryGivesBack =
     AlwaysSince
     (λ w.
-    (furnace lent some : ℕ) (l : ℤ) (calls : List Call) → outcome w (pushes lent furnace l) ≡ Done
+    (furnace lent some : ℕ) (l : ℤ) (calls : List Call) → outcome w (pushes lent furnace l) ≡ Ok tt
     → let tried = after w (pushes lent furnace l) in
     let before = run tried calls in
-    Even furnace 0 tried calls → outcome before (pops some furnace) ≡ Done
+    Even furnace 0 tried calls → outcome before (pops some furnace) ≡ Ok tt
     → (top (stack_of before.stacks furnace) ≡ l) × GivenBack w (after before (pops some furnace)) furnace)
 
 -- For a caller that never stacks nothing is new: lent a record with nothing on either stack, withdraw answers and leaves as 01 has it

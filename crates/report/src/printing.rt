@@ -169,8 +169,8 @@ pub fn refused(rt: &impl Print, why: Refusal) -> io::Result<()> {
 
 pub fn outcome(rt: &impl Print, o: Outcome) -> io::Result<()> {
     match o {
-        Outcome::Done => text(rt, b" ok"),
-        Outcome::Refused(why) => refused(rt, why),
+        Ok(()) => text(rt, b" ok"),
+        Err(why) => refused(rt, why),
     }
 }
 

@@ -70,12 +70,12 @@ fn show(
     let mut table = [0; 1152];
     let told = implicates::append_rule(&mut table, used, rules, lent, symbols, truth);
     match told {
-        Appended::Rows(n) => {
+        Ok(n) => {
             print_count(rt, n)?;
             print_rows(rt, &table, used, n)
         }
-        Appended::Unsatisfiable => rt.write_all(b"no assignment\n"),
-        Appended::Full => rt.write_all(b"no room\n"),
+        Err(Refusal::NoAssignment) => rt.write_all(b"no assignment\n"),
+        Err(Refusal::TableFull) => rt.write_all(b"no room\n"),
     }
 }
 

@@ -9,8 +9,8 @@ use Rattle.board.specs.Faults.{first_fault, good_board}
 use Rattle.board.specs.Settling.{over}
 use Rattle.board.specs.Ranking.{rows_on}
 use Rattle.board.specs.declared.Board.{Board}
-use Rattle.board.specs.declared.Outcome.{Outcome}
-use Rattle.board.specs.declared.Outcome.TheVariants.{Done, Refused}
+use Rattle.board.specs.Faults.{Outcome}
+use Rattle.std.specs.Prelude.{Ok, Err}
 use Rattle.candidates.specs.Given.{most_candidates, too_many, places_of, repeats}
 use Rattle.smallest.specs.Listing.{smallest_at, smallest_on, room_faults, candidate_faults, listed, smallest_faults, smallest_outcome, smallest_answer}
 use Rattle.smallest.specs.Listing.{smallest_sets}
@@ -29,8 +29,8 @@ pub told_as : {o p : Outcome} {list other lent now : List ℕ} {answer : Listing
     → Told p other lent now answer
 told_as e f t = record { answered = rw (← e, ← f) t.answered; written = rw (← e, ← f) t.written }
 
-pub told_refused : {outcome : Outcome} (why : Refusal) (list lent : List ℕ) → outcome ≡ Refused why
-    → Told outcome list lent lent (record { outcome = Refused why; count = 0 })
+pub told_refused : {outcome : Outcome} (why : Refusal) (list lent : List ℕ) → outcome ≡ Err why
+    → Told outcome list lent lent (record { outcome = Err why; count = 0 })
 told_refused why list lent e = record { answered = rw e; written = rw e }
 
 -- 13, or the list from the front
@@ -38,10 +38,10 @@ abbrev pub by_room : (list lent : List ℕ) → Outcome
 by_room list lent = first_fault (room_faults list (length lent))
 
 module _ (list lent : List ℕ) where
-  pub told_short : length lent < length list → Told (by_room list lent) list lent lent (record { outcome = Refused TableTooShort; count = 0 })
+  pub told_short : length lent < length list → Told (by_room list lent) list lent lent (record { outcome = Err TableTooShort; count = 0 })
   told_short h = told_refused TableTooShort list lent (rw (lt-leb (length list) (length lent) h))
 
-  pub told_list : length list ≤ length lent → Told (by_room list lent) list lent (sets lent 0 list) (record { outcome = Done; count = length list })
+  pub told_list : length list ≤ length lent → Told (by_room list lent) list lent (sets lent 0 list) (record { outcome = (Ok tt); count = length list })
   told_list h =
       let e = le-leb (length list) (length lent) h in
       let from_front : 0 + length list ≡ length list = omega arith in
@@ -65,14 +65,14 @@ module _ (table : List ℤ) (b : Board) (places : List ℕ) (l : ℤ) {notes : L
 -- ---- 17, or the candidates' places
 
 module _ (table : List ℤ) (b : Board) (cands : List ℤ) (l : ℤ) (room : ℕ) where
-  pub repeated_fault : repeats (places_of cands) ≡ true → first_fault (candidate_faults false table b cands l room) ≡ Refused BadCandidates
+  pub repeated_fault : repeats (places_of cands) ≡ true → first_fault (candidate_faults false table b cands l room) ≡ Err BadCandidates
   repeated_fault e = rw e
 
   pub different : repeats (places_of cands) ≡ false
       → first_fault (candidate_faults false table b cands l room) ≡ first_fault (room_faults (smallest_on table b cands l) room)
   different e = rw e
 
-  pub many_fault : most_candidates < length cands → first_fault (candidate_faults (too_many cands) table b cands l room) ≡ Refused BadCandidates
+  pub many_fault : most_candidates < length cands → first_fault (candidate_faults (too_many cands) table b cands l room) ≡ Err BadCandidates
   many_fault h = rw (lt-leb (length cands) most_candidates h)
 
   pub not_many : length cands ≤ most_candidates
@@ -82,12 +82,12 @@ module _ (table : List ℤ) (b : Board) (cands : List ℤ) (l : ℤ) (room : ℕ
 -- ---- 1, 2, or those
 
 module _ (table : List ℤ) (b : Board) (cands : List ℤ) (l : ℤ) (lent : List ℕ) where
-  pub bad_board : good_board table b ≡ false → smallest_outcome table b cands l lent ≡ Refused BadBoard
+  pub bad_board : good_board table b ≡ false → smallest_outcome table b cands l lent ≡ Err BadBoard
   unfolding smallest_outcome smallest_faults
   bad_board e = rw e
 
   module _ (good : good_board table b ≡ true) where
-    pub bad_literal : all (in_range b.symbols) (l ∷ cands) ≡ false → smallest_outcome table b cands l lent ≡ Refused BadLiteral
+    pub bad_literal : all (in_range b.symbols) (l ∷ cands) ≡ false → smallest_outcome table b cands l lent ≡ Err BadLiteral
     unfolding smallest_outcome smallest_faults
     bad_literal e = rw (good, e)
 

@@ -8,9 +8,10 @@ use Rattle.smallest.specs.Smallest.{derives, clashes, carries}
 use Rattle.board.specs.Faults.{first_fault}
 use Rattle.board.specs.Settling.{over}
 use Rattle.board.specs.declared.Board.{Board}
-use Rattle.board.specs.declared.Outcome.{Outcome}
+use Rattle.board.specs.Faults.{Outcome}
 use Rattle.board.specs.declared.asking.Standing.{Standing}
-use Rattle.board.specs.declared.asking.Standing.TheVariants.{Conflict, Stands, RuledOut, Open, Refused}
+use Rattle.board.specs.declared.asking.Standing.TheVariants.{Conflict, Stands, RuledOut, Open}
+use Rattle.std.specs.Prelude.{Err}
 use Rattle.smallest.specs.Listing.{smallest_at, smallest_on, room_faults, candidate_faults, listed}
 use Rattle.smallest.specs.declared.Listing.{Listing}
 
@@ -54,7 +55,7 @@ standing_note Conflict = 1
 standing_note Stands = 2
 standing_note RuledOut = 0
 standing_note Open = 0
-standing_note (Refused why) = 0
+standing_note (Err why) = 0
 
 -- ---- the sets listed, by their notes
 

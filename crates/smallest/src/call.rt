@@ -19,10 +19,10 @@ use candidates::sets::power;
 use literals::refusal::Refusal;
 
 fn refused(why: Refusal) -> Listing
-    ensures { result ≡ record { outcome = Outcome.Refused why; count = 0 } }
+    ensures { result ≡ record { outcome = Err why; count = 0 } }
 {
     Listing {
-        outcome: Outcome::Refused(why),
+        outcome: Err(why),
         count: 0,
     }
 }
@@ -50,7 +50,7 @@ fn list_noted(
     }
     write_listed(notes, places.len(), sets);
     Listing {
-        outcome: Outcome::Done,
+        outcome: Ok(()),
         count,
     }
 }

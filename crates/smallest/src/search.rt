@@ -76,7 +76,7 @@ fn note(board: Board, table: &[i16], places: &[usize], l: i16, notes: &[u8], set
         Standing::Stands => LISTED,
         Standing::RuledOut => GOES_ON,
         Standing::Open => GOES_ON,
-        Standing::Refused(_) => GOES_ON,
+        Err(_) => GOES_ON,
     }
 }
 

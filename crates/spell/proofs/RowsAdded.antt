@@ -7,8 +7,8 @@ use Rattle.implicates.proofs.Rules.{fits_facts}
 use Rattle.board.specs.Faults.{first_fault}
 use Rattle.board.specs.Rules.{rule_faults, ruled, rows_of_bytes}
 use Rattle.board.specs.declared.Board.{Board}
-use Rattle.board.specs.declared.Outcome.{Outcome}
-use Rattle.board.specs.declared.Outcome.TheVariants.{Done, Refused}
+use Rattle.board.specs.Faults.{Outcome}
+use Rattle.std.specs.Prelude.{Ok, Err}
 use Rattle.board.specs.declared.rules.Addition.{Addition}
 use Rattle.board.proofs.Answered.{none_given}
 use Rattle.text.specs.Reading.{bytes_in}
@@ -17,7 +17,7 @@ use Rattle.text.proofs.RuledText.{text_bytes}
 
 module _ (table : List ℤ) (b : Board) where
   -- an accepted rule is not refused with 9
-  enough : (bytes : List ℕ) → first_fault (rule_faults table b bytes) ≡ Done → b.rows + length (rows_of_bytes b.symbols bytes) ≤ rows_lent table
+  enough : (bytes : List ℕ) → first_fault (rule_faults table b bytes) ≡ Ok tt → b.rows + length (rows_of_bytes b.symbols bytes) ≤ rows_lent table
   unfolding rule_faults
   enough bytes e =
       let rows = rows_of_bytes b.symbols bytes in
@@ -29,8 +29,8 @@ module _ (table : List ℤ) (b : Board) where
   few bytes = go (first_fault (rule_faults table b bytes)) refl
     where
       go : (o : Outcome) → first_fault (rule_faults table b bytes) ≡ o → width * (ruled table b bytes).added ≤ length table
-      go Done e = rw e (omega (arith, enough bytes e))
-      go (Refused why) e = rw e (omega arith)
+      go (Ok tt) e = rw e (omega (arith, enough bytes e))
+      go (Err why) e = rw e (omega arith)
 
   pub rows_within : (text : List ℕ) {told : Addition} → is_good (whole_text text) ≡ true → told ≡ ruled_text table b text
       → width * told.added ≤ length table

@@ -66,8 +66,8 @@ fn answer_outcome(
 {
     let outcome = told.outcome;
     match outcome {
-        Outcome::Done => answer_rule(rt, bytes, table, told.added, page),
-        Outcome::Refused(why) => answer_refused(rt, line, bytes, told.place, why, page),
+        Ok(()) => answer_rule(rt, bytes, table, told.added, page),
+        Err(why) => answer_refused(rt, line, bytes, told.place, why, page),
     }
 }
 
@@ -93,8 +93,8 @@ fn too_many_open(line: &[u8], place: usize) -> bool
     ensures { result ≡ too_many_open line.now place }
 {
     match chain(line, MOST_OPEN + 1) {
-        Answer::Used(count) => place < count,
-        Answer::Refused(_, other) => place < other,
+        Ok(count) => place < count,
+        Err(Break { why: _, place: other }) => place < other,
     }
 }
 
@@ -124,7 +124,7 @@ pub fn answer(
     requires { (2 * length line.now ≤ length bytes.old) × (6 * length line.now + 4 ≤ length page.old) }
 {
     match read_text(line) {
-        Answer::Used(_) => answer_formula(rt, line, table, bytes, page),
-        Answer::Refused(_, place) => answer_broken(rt, line, place, page),
+        Ok(_) => answer_formula(rt, line, table, bytes, page),
+        Err(Break { why: _, place: place }) => answer_broken(rt, line, place, page),
     }
 }

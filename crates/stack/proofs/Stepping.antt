@@ -8,7 +8,7 @@ use Rattle.board.specs.Furnaces.{is_furnace, held_by}
 use Rattle.board.specs.Faults.{good_board, Fault}
 use Rattle.board.specs.Changes.{flag_faults, flag_changed, withdraw_faults, withdraw_answer}
 use Rattle.board.specs.declared.Board.{Board}
-use Rattle.board.specs.declared.Outcome.TheVariants.{Done, Refused}
+use Rattle.std.specs.Prelude.{Ok, Err}
 use Rattle.board.proofs.Answered.{first_append, none_given}
 use Rattle.stack.specs.Stacking.{stacked, good_stacks}
 use Rattle.stack.specs.Steps.{withdraw_faults_with, withdrawn_with}
@@ -29,7 +29,7 @@ unlike false true e = refl
 unlike false false e = absurd (true≢false e)
 
 pub flag_done : (table : List ℤ) (b : Board) (furnace : ℕ) (l : ℤ) (flag : Bool) (already : Refusal)
-    → (flag_changed table b furnace l flag already).outcome ≡ Done → Flagged table b furnace l flag
+    → (flag_changed table b furnace l flag already).outcome ≡ Ok tt → Flagged table b furnace l flag
 unfolding flag_changed flag_faults
 flag_done table b furnace l flag already e =
     let none = none_given (flag_faults table b furnace l flag already) e in
@@ -42,18 +42,18 @@ flag_done table b furnace l flag already e =
 
 -- a step that is refused
 abbrev pub stays : Board → Stacks → Refusal → Step
-stays b s why = record { change = record { outcome = Refused why; board = b }; stacks = s }
+stays b s why = record { change = record { outcome = Err why; board = b }; stacks = s }
 
 module _ (table : List ℤ) (b : Board) (s : Stacks) (furnace : ℕ) (l : ℤ) (good : good_stacks b s ≡ true) where
   -- the one fault that is withdraw's own here
   abbrev own : List Fault
   own = record { given = stacked s furnace l; refusal = StackedPremise } ∷ []
 
-  pub withdraw_refused : {why : Refusal} → (withdraw_answer table b furnace l).outcome ≡ Refused why → withdrawn_with table b s furnace l ≡ stays b s why
+  pub withdraw_refused : {why : Refusal} → (withdraw_answer table b furnace l).outcome ≡ Err why → withdrawn_with table b s furnace l ≡ stays b s why
   unfolding withdrawn_with withdraw_faults_with flag_changed
   withdraw_refused e = rw (good, first_append (withdraw_faults table b furnace l) own, e)
 
-  module _ (e : (withdraw_answer table b furnace l).outcome ≡ Done) where
+  module _ (e : (withdraw_answer table b furnace l).outcome ≡ Ok tt) where
     pub withdraw_stacked : stacked s furnace l ≡ true → withdrawn_with table b s furnace l ≡ stays b s StackedPremise
     unfolding withdrawn_with withdraw_faults_with flag_changed
     withdraw_stacked on = rw (good, first_append (withdraw_faults table b furnace l) own, e, on)

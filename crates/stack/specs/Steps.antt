@@ -6,7 +6,7 @@ use Rattle.board.specs.Furnaces.{is_furnace}
 use Rattle.board.specs.Faults.{good_board, Fault, first_fault, if_done}
 use Rattle.board.specs.Changes.{changed, opened, with_flag, hold_faults, withdraw_faults}
 use Rattle.board.specs.declared.Board.{Board}
-use Rattle.board.specs.declared.Outcome.{Outcome}
+use Rattle.board.specs.Faults.{Outcome}
 use Rattle.stack.specs.Stacking.{top, on_top, less_top, empty_stacks, stack_of, with_stack, stacked, good_stacks}
 use Rattle.stack.specs.declared.Stacks.{Stacks}
 use Rattle.stack.specs.declared.Step.{Step}

@@ -11,11 +11,11 @@ use board::{Board, Change, Outcome};
 use literals::refusal::Refusal;
 
 fn refused(board: Board, stacks: Stacks, why: Refusal) -> Step
-    ensures { result ≡ record { change = record { outcome = Outcome.Refused why; board = board }; stacks = stacks } }
+    ensures { result ≡ record { change = record { outcome = Err why; board = board }; stacks = stacks } }
 {
     Step {
         change: Change {
-            outcome: Outcome::Refused(why),
+            outcome: Err(why),
             board,
         },
         stacks,
@@ -29,8 +29,8 @@ pub fn open(symbols: usize, stacks: Stacks) -> Step
     let change = board::changes::open(symbols);
     let outcome = change.outcome;
     let next = match outcome {
-        Outcome::Done => empty_stacks(),
-        Outcome::Refused(_) => stacks,
+        Ok(()) => empty_stacks(),
+        Err(_) => stacks,
     };
     Step {
         change,
@@ -48,8 +48,8 @@ pub fn withdraw(board: Board, table: &[i16], stacks: Stacks, furnace: u8, l: i16
     let change = board::changes::withdraw(board, table, furnace, l);
     let outcome = change.outcome;
     match outcome {
-        Outcome::Refused(why) => refused(board, stacks, why),
-        Outcome::Done => {
+        Err(why) => refused(board, stacks, why),
+        Ok(()) => {
             if is_stacked(stack_of(stacks, furnace), l) {
                 return refused(board, stacks, Refusal::StackedPremise);
             }
@@ -68,8 +68,8 @@ pub fn push(board: Board, table: &[i16], stacks: Stacks, furnace: u8, l: i16) ->
     let change = board::changes::hold(board, table, furnace, l);
     let outcome = change.outcome;
     match outcome {
-        Outcome::Refused(why) => refused(board, stacks, why),
-        Outcome::Done => Step {
+        Err(why) => refused(board, stacks, why),
+        Ok(()) => Step {
             change,
             stacks: on_top(stacks, furnace, l),
         },
@@ -96,7 +96,7 @@ pub fn pop(board: Board, table: &[i16], stacks: Stacks, furnace: u8) -> Step
     let p = literals::place(top_of(stack));
     Step {
         change: Change {
-            outcome: Outcome::Done,
+            outcome: Ok(()),
             board: board::changes::with_flag(board, furnace, p, false),
         },
         stacks: less_top(stacks, furnace),

@@ -10,8 +10,8 @@ use Rattle.implicates.specs.Appending.{appended}
 use Rattle.board.specs.Faults.{good_board, first_fault, if_done}
 use Rattle.board.specs.Rules.{why_of, formula_faults, no_place, place_told, with_rules, rule_faults, ruled, ruled_table}
 use Rattle.board.specs.declared.Board.{Board}
-use Rattle.board.specs.declared.Outcome.{Outcome}
-use Rattle.board.specs.declared.Outcome.TheVariants.{Refused}
+use Rattle.board.specs.Faults.{Outcome}
+use Rattle.std.specs.Prelude.{Err}
 use Rattle.board.specs.declared.rules.Addition.{Addition}
 use Rattle.board.proofs.Adding.{rule_refused}
 use Rattle.chains.proofs.Offences.{first_offence}
@@ -67,12 +67,12 @@ module _ (table : List ℤ) (b : Board) (text : List ℕ) where
 
   -- another is refused, for its board where that is at fault
   pub text_broken : {why : Refusal} {at : ℕ} → whole_text text ≡ bad why at → good_board table b ≡ true
-      → (record { outcome = Refused why; place = at; added = 0; board = b } ≡ ruled_text table b text) × (table ≡ ruled_text_table table b text)
+      → (record { outcome = Err why; place = at; added = 0; board = b } ≡ ruled_text table b text) × (table ≡ ruled_text_table table b text)
   unfolding ruled_text ruled_text_table
   text_broken {why} {at} e g = rw (g, e, (first_offence text why at e).0) (refl, refl)
 
   pub board_spoilt : good_board table b ≡ false
-      → (record { outcome = Refused BadBoard; place = no_place; added = 0; board = b } ≡ ruled_text table b text) ×
+      → (record { outcome = Err BadBoard; place = no_place; added = 0; board = b } ≡ ruled_text table b text) ×
       (table ≡ ruled_text_table table b text)
   unfolding ruled_text ruled_text_table rule_faults
   board_spoilt g =

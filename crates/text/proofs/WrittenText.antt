@@ -6,8 +6,8 @@ use Rattle.board.specs.Faults.{good_board, first_fault}
 use Rattle.board.specs.Rules.{no_place, place_told}
 use Rattle.board.specs.Settling.{over}
 use Rattle.board.specs.declared.Board.{Board}
-use Rattle.board.specs.declared.Outcome.{Outcome}
-use Rattle.board.specs.declared.Outcome.TheVariants.{Done, Refused}
+use Rattle.board.specs.Faults.{Outcome}
+use Rattle.std.specs.Prelude.{Ok, Err}
 use Rattle.text.specs.Writing.{text_in, room_faults, spelled_answer, write_text_faults, write_text_outcome, write_text_answer, write_text_bytes}
 use Rattle.text.specs.declared.Spelling.{Spelling}
 
@@ -16,12 +16,12 @@ abbrev outcome : (S : ℕ) → (bytes out : List ℕ) → Outcome
 outcome S bytes out = first_fault (room_faults S bytes (length out))
 
 module _ (S : ℕ) (bytes out : List ℕ) {answer : Spelling} where
-  pub too_short : length out < length (text_in S bytes) → answer ≡ record { outcome = Refused TableTooShort; place = no_place; bytes = 0 }
+  pub too_short : length out < length (text_in S bytes) → answer ≡ record { outcome = Err TableTooShort; place = no_place; bytes = 0 }
       → (answer ≡ spelled_answer (outcome S bytes out) S bytes) × (out ≡ over (outcome S bytes out) (text_in S bytes) out)
   too_short h a = let small = lt-leb (length (text_in S bytes)) (length out) h in (a ∙ rw small, rw small)
 
   pub fitting : {after : List ℕ} {size : ℕ} → length (text_in S bytes) ≤ length out → Put out after 0 (text_in S bytes) size
-      → answer ≡ record { outcome = Done; place = no_place; bytes = size }
+      → answer ≡ record { outcome = (Ok tt); place = no_place; bytes = size }
       → (answer ≡ spelled_answer (outcome S bytes out) S bytes) × (after ≡ over (outcome S bytes out) (text_in S bytes) out)
   fitting {size = size} h p a =
       let text = text_in S bytes in
@@ -31,8 +31,8 @@ module _ (S : ℕ) (bytes out : List ℕ) {answer : Spelling} where
       (a ∙ rw (fits, count), rw fits (p.written ∙ sets-eq text out 0 (rw from h) ∙ ap (λ (k : ℕ). text ++ drop k out) from))
 
 module _ (table : List ℤ) (b : Board) (bytes out : List ℕ) where
-  pub write_refused : (why : Refusal) {place : ℕ} {answer : Spelling} → write_text_outcome table b bytes out ≡ Refused why
-      → place_told (Refused why) (whole_of b.symbols bytes) ≡ place → answer ≡ record { outcome = Refused why; place = place; bytes = 0 }
+  pub write_refused : (why : Refusal) {place : ℕ} {answer : Spelling} → write_text_outcome table b bytes out ≡ Err why
+      → place_told (Err why) (whole_of b.symbols bytes) ≡ place → answer ≡ record { outcome = Err why; place = place; bytes = 0 }
       → (answer ≡ write_text_answer table b bytes out) × (out ≡ write_text_bytes table b bytes out)
   unfolding write_text_answer write_text_bytes
   write_refused why e p a = (a ∙ rw (e, sym p), rw e)

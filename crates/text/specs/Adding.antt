@@ -7,7 +7,7 @@ use Rattle.formula.specs.Answers.{is_good}
 use Rattle.board.specs.Faults.{good_board, Fault}
 use Rattle.board.specs.Rules.{breaks_at, bytes_faults, ruled, ruled_table}
 use Rattle.board.specs.declared.Board.{Board}
-use Rattle.board.specs.declared.Outcome.TheVariants.{Refused}
+use Rattle.std.specs.Prelude.{Err}
 use Rattle.board.specs.declared.rules.Addition.{Addition}
 use Rattle.chains.specs.Form.{whole_text}
 use Rattle.text.specs.Reading.{bytes_in}
@@ -18,7 +18,7 @@ text_refused table b text = good_board table b && not (is_good (whole_text text)
 -- the answer, and the table after it
 unfoldable pub ruled_text : List ℤ → Board → (text : List ℕ) → Addition
 ruled_text table b text =
-    cond (text_refused table b text) (record { outcome = Refused BadText; place = breaks_at (whole_text text); added = 0; board = b })
+    cond (text_refused table b text) (record { outcome = Err BadText; place = breaks_at (whole_text text); added = 0; board = b })
     (ruled table b (bytes_in text))
 
 unfoldable pub ruled_text_table : List ℤ → Board → (text : List ℕ) → List ℤ

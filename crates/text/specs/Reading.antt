@@ -9,7 +9,7 @@ use Rattle.board.specs.Faults.{good_board, Fault, first_fault, if_done, number_i
 use Rattle.board.specs.Rules.{why_of, breaks_at, place_told}
 use Rattle.board.specs.Settling.{over}
 use Rattle.board.specs.declared.Board.{Board}
-use Rattle.board.specs.declared.Outcome.{Outcome}
+use Rattle.board.specs.Faults.{Outcome}
 use Rattle.chains.specs.Form.{whole_text}
 use Rattle.text.specs.declared.Spelling.{Spelling}
 

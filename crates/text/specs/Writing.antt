@@ -7,7 +7,7 @@ use Rattle.board.specs.Faults.{good_board, Fault, first_fault, if_done}
 use Rattle.board.specs.Rules.{why_of, place_told}
 use Rattle.board.specs.Settling.{over}
 use Rattle.board.specs.declared.Board.{Board}
-use Rattle.board.specs.declared.Outcome.{Outcome}
+use Rattle.board.specs.Faults.{Outcome}
 use Rattle.chains.specs.Spelling.{spelled}
 use Rattle.text.specs.declared.Spelling.{Spelling}
 

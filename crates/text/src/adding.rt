@@ -57,8 +57,8 @@ pub fn add_text(board: Board, table: &mut [i16], text: &[u8]) -> Addition
     ensures table_after { table.new ≡ ruled_text_table table.old board text.now }
 {
     match read_text(text) {
-        Answer::Used(_) => add_formula(board, table, text),
-        Answer::Refused(why, place) => {
+        Ok(_) => add_formula(board, table, text),
+        Err(Break { why, place }) => {
             if good(board, table) {
                 return refused(board, why, place);
             }

@@ -21,10 +21,10 @@ pub struct Spelling {
 }
 
 fn refused(why: Refusal, place: usize) -> Spelling
-    ensures { result ≡ record { outcome = Outcome.Refused why; place = place; bytes = 0 } }
+    ensures { result ≡ record { outcome = Err why; place = place; bytes = 0 } }
 {
     Spelling {
-        outcome: Outcome::Refused(why),
+        outcome: Err(why),
         place,
         bytes: 0,
     }

@@ -60,15 +60,15 @@ pub fn read(board: Board, table: &[i16], text: &[u8], out: &mut [u8]) -> Spellin
         return refused(Refusal::BadBoard, NO_PLACE);
     }
     match read_text(text) {
-        Answer::Refused(why, place) => refused(why, place),
-        Answer::Used(_) => match judge(text, board.symbols) {
-            Answer::Refused(why, place) => refused(why, place),
-            Answer::Used(size) => {
+        Err(Break { why, place }) => refused(why, place),
+        Ok(_) => match judge(text, board.symbols) {
+            Err(Break { why, place }) => refused(why, place),
+            Ok(size) => {
                 if out.len() < size {
                     return refused(Refusal::TableTooShort, NO_PLACE);
                 }
                 Spelling {
-                    outcome: Outcome::Done,
+                    outcome: Ok(()),
                     place: NO_PLACE,
                     bytes: emit(text, out),
                 }

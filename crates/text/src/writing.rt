@@ -30,7 +30,7 @@ fn write_formula(bytes: &[u8], symbols: usize, out: &mut [u8]) -> Spelling
         return refused(Refusal::TableTooShort, NO_PLACE);
     }
     Spelling {
-        outcome: Outcome::Done,
+        outcome: Ok(()),
         place: NO_PLACE,
         bytes: spell(bytes, symbols, out),
     }
@@ -45,7 +45,7 @@ pub fn write(board: Board, table: &[i16], bytes: &[u8], out: &mut [u8]) -> Spell
         return refused(Refusal::BadBoard, NO_PLACE);
     }
     match read_whole(bytes, board.symbols) {
-        Answer::Refused(why, place) => refused(why, place),
-        Answer::Used(_) => write_formula(bytes, board.symbols, out),
+        Err(Break { why, place }) => refused(why, place),
+        Ok(_) => write_formula(bytes, board.symbols, out),
     }
 }

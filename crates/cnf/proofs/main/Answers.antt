@@ -11,4 +11,4 @@ slice_bounds-write_all-end-in-Text c =
     sym (length-take-le _ _ (subst (Fits _) c.in-Text.is (subst Within (sym c.rewrite.ensures) (made_within _ _ _))))
 
 pub say_refusal-requires : goal.say_refusal-requires
-say_refusal-requires c = subst (Fits _) c.in-Refused.is (subst Within (sym c.rewrite.ensures) (made_within _ _ _))
+say_refusal-requires c = subst (Fits _) c.in-Err.is (subst Within (sym c.rewrite.ensures) (made_within _ _ _))

@@ -8,7 +8,7 @@ use Rattle.meaning.specs.Clauses.{in_order, row_of, rows_of, satisfiable}
 use Rattle.literals.specs.Row.{most_rules, of_rule}
 use Rattle.implicates.specs.Hits.{hit_table, marked, prime_table}
 use Rattle.implicates.specs.Appending.{rule_by, fits, appended}
-use Rattle.implicates.specs.declared.Appended.TheVariants.{Rows}
+use Rattle.std.specs.Prelude.{Ok}
 use Rattle.implicates.proofs.Numbers.{clauses_some, clauses_more}
 use Rattle.implicates.proofs.Table.{length_hit_table, length_prime_table}
 use Rattle.implicates.proofs.Rules.{Front, front_of, hits_last, primes_listed, told_unsatisfiable, told_full, told_rows, fits_not, fits_so}
@@ -166,7 +166,7 @@ returns_3 c =
     let s = start (counting (filling m)) in
     let a = s.args in
     let told = told_rows (rule s) a.used a.rules a.lent a.table.now (satisfied m.before.before) (enough e) in (
-      ap Rows (counted r) ∙ told.0,
+      ap Ok (counted r) ∙ told.0,
       c.before.append_primes.ensures.0
           ∙ ap₂ (λ (rows : List (List ℕ)) (n : ℕ). appended a.table.now a.used (of_rule n rows)) (rows_are m) (add-one a.rules) ∙ told.1,
     )

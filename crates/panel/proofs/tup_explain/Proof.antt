@@ -3,7 +3,7 @@ use Rattle.meaning.proofs.Kit.{◌≡◌, ◌∙◌, sym, ap, ⊎_elim, ◌≤�
 use Rattle.literals.specs.Row.{width, most_literals, numbers_at}
 use Rattle.board.specs.Asking.{explain_numbers, explain_part}
 use Rattle.board.specs.declared.asking.Reason.{Reason}
-use Rattle.board.specs.declared.Outcome.TheVariants.{Done}
+use Rattle.std.specs.Prelude.{Ok}
 use Rattle.literals.proofs.Counting.{count_few}
 use Rattle.board.proofs.Explaining.{nothing_shown, row_used, row_shown}
 use Rattle.panel.specs.Crossing.{board_in}
@@ -16,8 +16,8 @@ numbers : (c : tie.After-explain_numbers-reason)
 numbers c = rw (← c.board_in.ensures, ← to_z-of_z c.ranges.l) c.explain_numbers-reason.ensures
 
 -- where the call is done
-done : (c : tie.In-Done) → (explain_numbers c.args.table.now (board_in c.args.given) c.args.furnace c.args.l).outcome ≡ Done
-done c = sym (ap (λ (r : Reason). r.outcome) (numbers c.before)) ∙ c.in-Done.is
+done : (c : tie.In-Done) → (explain_numbers c.args.table.now (board_in c.args.given) c.args.furnace c.args.l).outcome ≡ Ok tt
+done c = sym (ap (λ (r : Reason). r.outcome) (numbers c.before)) ∙ c.in-Ok.is
 
 -- the row is in the table
 inside : (c : tie.In-Done) → width * c.explain_numbers-reason.result.row + most_literals ≤ length c.args.table.now
@@ -43,10 +43,10 @@ literals_are : (c : tie.Joined-outcome) →
 literals_are c =
     ⊎_elim
     (λ w. w.literals-is ∙ count_is (record {
-      before = record { before = record { before = c.before; in-Done = w.in-Done }; struct_known-1 = w.struct_known-1 };
+      before = record { before = record { before = c.before; in-Ok = w.in-Ok }; struct_known-1 = w.struct_known-1 };
       literal_count = w.literal_count;
     }))
-    (λ w. w.literals-is ∙ rw (nothing_shown _ _ _ _ (sym (ap (λ (r : Reason). r.outcome) (numbers c.before)) ∙ w.in-Refused.is)))
+    (λ w. w.literals-is ∙ rw (nothing_shown _ _ _ _ (sym (ap (λ (r : Reason). r.outcome) (numbers c.before)) ∙ w.in-Err.is)))
     c.match-outcome.branch-raw
 
 pub tup_explain_spec : {M : Type 1} → statement M

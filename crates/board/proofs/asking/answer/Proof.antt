@@ -31,8 +31,8 @@ abbrev start : tie.In-At → tie.Start
 start c = c.before.before
 
 at : (c : tie.In-At) → let s = start c in
-    PlacedAt s.args.table.now s.args.board s.args.furnace s.args.l c.in-At.field-0
-at c = let s = start c in placed_at _ _ _ s.ranges.l c.place_on.ensures c.in-At.is
+    PlacedAt s.args.table.now s.args.board s.args.furnace s.args.l c.in-Ok.field-0
+at c = let s = start c in placed_at _ _ _ s.ranges.l c.place_on.ensures c.in-Ok.is
 
 -- the premises are the furnace's
 same : (c : tie.After-premises-held) → let s = start (tested c) in c.premises-held.result.now ≡ held_by s.args.board s.args.furnace
@@ -73,15 +73,15 @@ either : {x a b : Standing} (whole : Bool) → x ≡ a → x ≡ b → x ≡ con
 either true e f = e
 either false e f = f
 
-returns : tie.Need-returns-in-Refused
+returns : tie.Need-returns-in-Err
 unfolding asked asked_whole ask_faults
 returns c =
     let s = c.before.before in
     let own = drop 3 (ask_faults s.args.table.now s.args.board s.args.furnace s.args.l) in
-    let refused = placed_refused _ _ _ s.ranges.l c.place_on.ensures c.in-Refused.is own in
+    let refused = placed_refused _ _ _ s.ranges.l c.place_on.ensures c.in-Err.is own in
     either s.args.whole (rw refused) (rw refused)
 
-returns_2 : tie.Need-returns-in-At
+returns_2 : tie.Need-returns-in-Ok
 unfolding asked asked_whole ask_faults
 returns_2 c =
     let r = ranked c in

@@ -27,25 +27,25 @@ inside : (c : tie.In-Done) → let n = c.before in let row = n.explain_numbers-r
 inside c =
     let n = c.before in
     let a = n.before.args in
-    let u = row_used a.table.now a.board a.furnace a.l (outcome n ∙ c.in-Done.is) in
+    let u = row_used a.table.now a.board a.furnace a.l (outcome n ∙ c.in-Ok.is) in
     let row : n.explain_numbers-reason.result.row ≡ (reason n.before).row = ap (λ (r : Reason). r.row) (numbers n) in
     (omega (arith, row, u.0, u.1), omega (arith, row, u.0, u.2))
 
 few : (c : tie.After-literal_count) → c.literal_count.result ≤ most_literals
 few c = let n = told c in omega (arith, c.literal_count.ensures, count_few n.before.args.table.now (width * n.explain_numbers-reason.result.row))
 
-returns : tie.Need-returns-in-Refused
+returns : tie.Need-returns-in-Err
 returns c =
     let n = c.before.before in
-    rw (nothing_shown _ _ _ _ (outcome n ∙ c.in-Refused.is))
+    rw (nothing_shown _ _ _ _ (outcome n ∙ c.in-Err.is))
     (record { holds = refl; block = refl; offset = refl })
 
-returns_2 : tie.Need-returns-in-Done
+returns_2 : tie.Need-returns-in-Ok
 unfolding numbers_at
 returns_2 c =
     let t = c.before.before.before in
     let n = t.before in
-    rw (row_shown _ _ _ _ (outcome n ∙ t.in-Done.is), ← numbers n, ← c.before.literal_count.ensures)
+    rw (row_shown _ _ _ _ (outcome n ∙ t.in-Ok.is), ← numbers n, ← c.before.literal_count.ensures)
     (record { holds = refl; block = refl; offset = refl })
 
 pub explain_spec : {M : Type 1} → statement M

@@ -9,7 +9,7 @@ use Rattle.literals.proofs.RuleNumbers.{rule_facts}
 use Rattle.board.specs.Furnaces.{held_by}
 use Rattle.board.specs.Ranking.{rows_on, derived_on, support_on}
 use Rattle.board.specs.Asking.{explain_faults, explain_numbers}
-use Rattle.board.specs.declared.Outcome.TheVariants.{Done}
+use Rattle.std.specs.Prelude.{Ok}
 use Rattle.board.proofs.TwoSets.{held_long}
 use Rattle.board.proofs.Placing.{PlacedAt, placed_at, placed_refused}
 use Rattle.board.proofs.Ranked.{hidden, shown}
@@ -37,8 +37,8 @@ start c = c.before.before
 
 -- the place that the call looks at
 at : (c : tie.In-At) → let s = start c in
-    PlacedAt s.args.table.now s.args.board s.args.furnace s.args.l c.in-At.p
-at c = let s = start c in placed_at _ _ _ s.ranges.l c.place_on.ensures c.in-At.is
+    PlacedAt s.args.table.now s.args.board s.args.furnace s.args.l c.in-Ok.p
+at c = let s = start c in placed_at _ _ _ s.ranges.l c.place_on.ensures c.in-Ok.is
 
 small : (c : tie.In-At) → 2 * (start c).args.board.symbols < none
 small c = omega (arith, (at c).good.sound.symbols)
@@ -64,9 +64,9 @@ front c = let h = chosen c in ranks_back _ _ (at (tested h)).good _ (same h) c.p
 
 -- the literal's rank
 rank : (c : tie.After-propagate) → let w = tested (chosen c) in let s = start w in let b = s.args.board in
-    get_or (c.propagate.new.ranks ++ drop (2 * b.symbols) (replicate 400 none)) w.in-At.p 0
-    ≡ rank_of (2 * b.symbols) (rows_on s.args.table.now b) (held_by b s.args.furnace) w.in-At.p
-rank c = let w = tested (chosen c) in rank_at _ _ _ (front c) w.in-At.p (at w).low
+    get_or (c.propagate.new.ranks ++ drop (2 * b.symbols) (replicate 400 none)) w.in-Ok.p 0
+    ≡ rank_of (2 * b.symbols) (rows_on s.args.table.now b) (held_by b s.args.furnace) w.in-Ok.p
+rank c = let w = tested (chosen c) in rank_at _ _ _ (front c) w.in-Ok.p (at w).low
 
 propagate_requires : tie.Need-propagate-requires
 propagate_requires c κs =
@@ -82,7 +82,7 @@ returns c =
     let r = unranked c in
     let w = tested (chosen r) in
     let p = at w in
-    let hides = hidden _ _ _ (small w) w.in-At.p p.low (inl (sym (rank r) ∙ c.before.if-rank-eq0.true)) in
+    let hides = hidden _ _ _ (small w) w.in-Ok.p p.low (inl (sym (rank r) ∙ c.before.if-rank-eq0.true)) in
     rw (p.is_good_lem, p.is_furnace, p.in_range_lem, ← p.place, hides) c.unexplained-then-rank-eq0.ensures
 
 returns_2 : tie.Need-returns-then-rank
@@ -91,46 +91,46 @@ returns_2 c =
     let r = held c in
     let w = tested (chosen r) in
     let p = at w in
-    let hides = hidden _ _ _ (small w) w.in-At.p p.low (inr (sym (rank r) ∙ c.before.if-rank.true)) in
+    let hides = hidden _ _ _ (small w) w.in-Ok.p p.low (inr (sym (rank r) ∙ c.before.if-rank.true)) in
     rw (p.is_good_lem, p.is_furnace, p.in_range_lem, ← p.place, hides) c.unexplained-then-rank.ensures
 
-returns_3 : tie.Need-returns-in-Refused
+returns_3 : tie.Need-returns-in-Err
 unfolding explain_numbers explain_faults
 returns_3 c =
     let w = c.before in
     let s = w.before.before in
     let own = drop 3 (explain_faults s.args.table.now s.args.board s.args.furnace s.args.l) in
-    rw (placed_refused _ _ _ s.ranges.l w.place_on.ensures w.in-Refused.is own) c.unexplained.ensures
+    rw (placed_refused _ _ _ s.ranges.l w.place_on.ensures w.in-Err.is own) c.unexplained.ensures
 
 -- ---- where a rank from 1 on was found: the literal is derived and not held, so the call is done
 
 abbrev found : tie.Else-rank → tie.After-propagate
 found c = c.before.before.before.before
 
-shows : (c : tie.Else-rank) → let w = tested (chosen (found c)) in let s = start w in let b = s.args.board in let p = w.in-At.p in
+shows : (c : tie.Else-rank) → let w = tested (chosen (found c)) in let s = start w in let b = s.args.board in let p = w.in-Ok.p in
     (not (has (derived_on s.args.table.now b s.args.furnace) p) || has (held_by b s.args.furnace) p) ≡ false
 shows c =
     let r = found c in
     let w = tested (chosen r) in
     let s = start w in
     shown (2 * s.args.board.symbols) (rows_on s.args.table.now s.args.board) (held_by s.args.board s.args.furnace) (small w)
-    w.in-At.p (at w).low (λ e. c.before.if-rank-eq0.false (rank r ∙ e)) (λ e. c.if-rank.false (rank r ∙ e))
+    w.in-Ok.p (at w).low (λ e. c.before.if-rank-eq0.false (rank r ∙ e)) (λ e. c.if-rank.false (rank r ∙ e))
 
 done : (c : tie.Else-rank) → let s = start (tested (chosen (found c))) in
-    (explain_numbers s.args.table.now s.args.board s.args.furnace s.args.l).outcome ≡ Done
+    (explain_numbers s.args.table.now s.args.board s.args.furnace s.args.l).outcome ≡ Ok tt
 unfolding explain_numbers explain_faults
 done c = let p = at (tested (chosen (found c))) in rw (p.is_good_lem, p.is_furnace, p.in_range_lem, ← p.place, shows c)
 
 -- its supporting row is in use, and that row's rule is one of those counted
 support : (r : tie.After-propagate) → let w = tested (chosen r) in let s = start w in
-    get_or r.propagate.new.supports 0 0 ≡ support_on s.args.table.now s.args.board s.args.furnace w.in-At.p
+    get_or r.propagate.new.supports 0 0 ≡ support_on s.args.table.now s.args.board s.args.furnace w.in-Ok.p
 support r =
     let w = tested (chosen r) in
     let s = start w in
     let b = s.args.board in
     let table = s.args.table.now in
-    one_support (2 * b.symbols) (rows_on table b) (held_by b s.args.furnace) w.in-At.p
-    (supports_are table b (replicate 400 none) (room r) s.args.furnace (same (chosen r)) 1 w.in-At.p r.propagate.ensures.1)
+    one_support (2 * b.symbols) (rows_on table b) (held_by b s.args.furnace) w.in-Ok.p
+    (supports_are table b (replicate 400 none) (room r) s.args.furnace (same (chosen r)) 1 w.in-Ok.p r.propagate.ensures.1)
 
 used : (c : tie.Else-rank) → let r = found c in
     get_or r.propagate.new.supports 0 0 < (start (tested (chosen r))).args.board.rows
@@ -157,7 +157,7 @@ returns_4 c =
     let p = at w in
     let table = (start w).args.table.now in
     rw (p.is_good_lem, p.is_furnace, p.in_range_lem, ← p.place, shows c.before, c.rule_at.ensures)
-    (ap₂ (λ (rank row : ℕ). record { outcome = Done; rank = rank; row = row; rule = rule_at table row }) (rank r) (support r))
+    (ap₂ (λ (rank row : ℕ). record { outcome = (Ok tt); rank = rank; row = row; rule = rule_at table row }) (rank r) (support r))
 
 mul_rank : tie.Need-offset_bounds-ranks-p
 mul_rank c = let p = at (tested (chosen c.before.before)) in omega (arith, p.low, p.good.sound.symbols)

@@ -16,10 +16,10 @@ start c = c.before.before
 
 -- the place that the call looks at
 at : (c : tie.In-At) → let s = start c in
-    PlacedAt s.args.table.now s.args.board s.args.furnace s.args.l c.in-At.p
-at c = let s = start c in placed_at _ _ _ s.ranges.l c.place_on.ensures c.in-At.is
+    PlacedAt s.args.table.now s.args.board s.args.furnace s.args.l c.in-Ok.p
+at c = let s = start c in placed_at _ _ _ s.ranges.l c.place_on.ensures c.in-Ok.is
 
-low : (c : tie.In-At) → c.in-At.p < 400
+low : (c : tie.In-At) → c.in-Ok.p < 400
 low c = let p = at c in omega (arith, p.low, p.good.sound.symbols)
 
 -- the premises are the furnace's
@@ -40,13 +40,13 @@ returns c =
     let p = at (tested h) in
     rw (p.is_good_lem, p.is_furnace, p.in_range_lem, ← p.place, ← same h, t.if-held-p.true) c.refused-then-held-p.ensures
 
-returns_2 : tie.Need-returns-in-Refused
+returns_2 : tie.Need-returns-in-Err
 unfolding flag_changed flag_faults
 returns_2 c =
     let w = c.before in
     let s = w.before.before in
     let own = drop 3 (flag_faults s.args.table.now s.args.board s.args.furnace s.args.l s.args.flag s.args.already) in
-    rw (placed_refused _ _ _ s.ranges.l w.place_on.ensures w.in-Refused.is own) c.refused.ensures
+    rw (placed_refused _ _ _ s.ranges.l w.place_on.ensures w.in-Err.is own) c.refused.ensures
 
 returns_3 : tie.Need-returns-else-held-p
 unfolding flag_changed flag_faults

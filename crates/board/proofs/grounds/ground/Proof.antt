@@ -16,7 +16,7 @@ use Rattle.board.proofs.grounds.ground.Statement.{statement}
 use Rattle.board.proofs.grounds.ground.Tie as tie
 
 -- the marks come back; the call began
-abbrev reached : tie.After-reached-in-At-2-1 → tie.After-trace
+abbrev reached : tie.After-reached-in-Ok-2-1 → tie.After-trace
 reached c = c.before.before.before.before
 
 abbrev entry : tie.In-Refused → tie.Start
@@ -39,8 +39,8 @@ abbrev start : tie.In-At → tie.Start
 start c = c.before.before.before
 
 -- the place that the call looks at
-at : (c : tie.In-At) → let s = start c in PlacedAt s.args.table.now s.args.board s.args.furnace s.args.l c.in-At.p
-at c = let s = start c in placed_at _ _ _ s.ranges.l c.place_on.ensures c.in-At.is
+at : (c : tie.In-At) → let s = start c in PlacedAt s.args.table.now s.args.board s.args.furnace s.args.l c.in-Ok.p
+at c = let s = start c in placed_at _ _ _ s.ranges.l c.place_on.ensures c.in-Ok.is
 
 small : (c : tie.In-At) → 2 * (start c).args.board.symbols < none
 small c = omega (arith, (at c).good.sound.symbols)
@@ -61,22 +61,22 @@ long c =
 
 -- the ranks and the marks as they come back
 back : (c : tie.After-trace) → let w = tested c in let s = start w in let n = 2 * s.args.board.symbols in
-    Traced s.args.table.now s.args.board s.args.furnace w.in-At.p
+    Traced s.args.table.now s.args.board s.args.furnace w.in-Ok.p
     (c.trace.new.ranks ++ drop n (replicate 400 none))
     (c.trace.new.marks ++ drop n (replicate 400 false))
 back c =
     let w = tested c in
     let s = start w in
     let told = c.trace.ensures in
-    come_back s.args.table.now s.args.board (at w).good s.args.furnace w.in-At.p
+    come_back s.args.table.now s.args.board (at w).good s.args.furnace w.in-Ok.p
     (same (chosen c)) told.0 told.1
     c.trace.auto.marks
 
 -- the literal's rank
 rank : (c : tie.After-trace) → let w = tested c in let s = start w in let b = s.args.board in
-    get_or (c.trace.new.ranks ++ drop (2 * b.symbols) (replicate 400 none)) w.in-At.p 0
-    ≡ rank_of (2 * b.symbols) (rows_on s.args.table.now b) (held_by b s.args.furnace) w.in-At.p
-rank c = let w = tested c in rank_at _ _ _ (back c).ranks w.in-At.p (at w).low
+    get_or (c.trace.new.ranks ++ drop (2 * b.symbols) (replicate 400 none)) w.in-Ok.p 0
+    ≡ rank_of (2 * b.symbols) (rows_on s.args.table.now b) (held_by b s.args.furnace) w.in-Ok.p
+rank c = let w = tested c in rank_at _ _ _ (back c).ranks w.in-Ok.p (at w).low
 
 returns : tie.Need-returns-then-marks-places
 unfolding ground_outcome ground_faults
@@ -93,16 +93,16 @@ returns_2 c =
     let r = c.before.before.before in
     let w = tested r in
     let p = at w in
-    let hides = not_derived _ _ _ (small w) w.in-At.p (sym (rank r) ∙ c.if-ranks-p.true) in
+    let hides = not_derived _ _ _ (small w) w.in-Ok.p (sym (rank r) ∙ c.if-ranks-p.true) in
     ground_refused _ _ _ _ _ NothingToShow
     (rw (p.is_good_lem, p.is_furnace, p.in_range_lem, le-leb _ _ (enough r), ← p.place, hides))
 
-returns_3 : tie.Need-returns-in-Refused
+returns_3 : tie.Need-returns-in-Err
 unfolding ground_outcome ground_faults
 returns_3 c =
     let s = entry c in
     let own = drop 3 (ground_faults s.args.table.now s.args.board s.args.furnace s.args.l _) in
-    ground_refused _ _ _ _ _ _ (placed_refused _ _ _ s.ranges.l c.place_on.ensures c.in-Refused.is own)
+    ground_refused _ _ _ _ _ _ (placed_refused _ _ _ s.ranges.l c.place_on.ensures c.in-Err.is own)
 
 returns_4 : tie.Need-returns-else-ranks-p
 unfolding ground_outcome ground_faults
@@ -113,8 +113,8 @@ returns_4 c =
     let w = tested r in
     let p = at w in
     let s = start w in
-    let shows = is_derived _ _ _ (small w) w.in-At.p (λ e. z.if-ranks-p.false (rank r ∙ e)) in
-    ground_done s.args.table.now s.args.board s.args.furnace s.args.marks.now s.args.l w.in-At.p p.place p.low
+    let shows = is_derived _ _ _ (small w) w.in-Ok.p (λ e. z.if-ranks-p.false (rank r ∙ e)) in
+    ground_done s.args.table.now s.args.board s.args.furnace s.args.marks.now s.args.l w.in-Ok.p p.place p.low
     (rw (p.is_good_lem, p.is_furnace, p.in_range_lem, le-leb _ _ (enough r), ← p.place, shows))
     (back r).marks.is
     m.write_marks.ensures

@@ -19,7 +19,7 @@ use Rattle.board.proofs.rules.add_formula.Tie as tie
 abbrev start : tie.Else-not-names → tie.Start
 start c = c.before.before.before.before
 
-abbrev written : tie.After-struct_known-in-Rows-1 → tie.After-append
+abbrev written : tie.After-struct_known-in-Ok-1 → tie.After-append
 written c = c.before.before.before
 
 abbrev counted_few : tie.After-append → tie.Else-not-names
@@ -95,7 +95,7 @@ add_next : tie.Need-overflow_add-next
 add_next c =
     let a = written c in
     let s = entry a in
-    let r = why a c.in-Rows.is in
+    let r = why a c.in-Ok.is in
     omega (arith, r.2, (fits_facts s.args.board.rows s.args.board.rules (rows_lent s.args.table.now) (rows_of (rule s)) r.1).0)
 
 returns_2 : tie.Need-returns-in-Unsatisfiable
@@ -124,7 +124,7 @@ returns_3 c =
     let all = rule_refused table b s.args.bytes.now TableFull (rw (s.requires.0, s.requires.1, few e, r.0, r.1)) refl in
     (c.refused-in-Full.ensures ∙ all.0, after a ∙ sym (told_full (rule s) b.rows b.rules (rows_lent table) table r.0 r.1).1 ∙ all.1)
 
-returns_4 : tie.Need-returns-in-Rows
+returns_4 : tie.Need-returns-in-Ok
 unfolding rule_faults read rule
 returns_4 c =
     let t = c.before.before in
@@ -133,7 +133,7 @@ returns_4 c =
     let s = start e in
     let b = s.args.board in
     let table = s.args.table.now in
-    let r = why a t.in-Rows.is in
+    let r = why a t.in-Ok.is in
     let all = rule_done table b s.args.bytes.now (rw (s.requires.0, s.requires.1, few e, r.0, r.1)) in
     (rw r.2 all.0, after a ∙ sym (told_rows (rule s) b.rows b.rules (rows_lent table) table r.0 r.1).1 ∙ all.1)
 

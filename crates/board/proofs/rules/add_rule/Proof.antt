@@ -34,10 +34,10 @@ add_formula_requires c κs =
     let t = c.before in
     let r = t.before in
     let s = entry r in
-    let read = answer_good (whole_of s.args.board.symbols s.args.bytes.now) (sym r.read_whole.ensures ∙ t.in-Used.is) in
+    let read = answer_good (whole_of s.args.board.symbols s.args.bytes.now) (sym r.read_whole.ensures ∙ t.in-Ok.is) in
     (good r.before, ap is_good read.1)
 
-returns_2 : tie.Need-returns-in-Refused
+returns_2 : tie.Need-returns-in-Err
 unfolding rule_faults
 returns_2 c =
     let w = c.before in
@@ -45,9 +45,9 @@ returns_2 c =
     let s = entry r in
     let b = s.args.board in
     let bytes = s.args.bytes.now in
-    let read = answer_bad (whole_of b.symbols bytes) (sym r.read_whole.ensures ∙ w.in-Refused.is) in
-    let all = rule_refused s.args.table.now b bytes w.in-Refused.why (rw (good r.before, read)) (place_told_lem b.symbols bytes read) in
-    (c.refused-in-Refused.ensures ∙ all.0, all.1)
+    let read = answer_bad (whole_of b.symbols bytes) (sym r.read_whole.ensures ∙ w.in-Err.is) in
+    let all = rule_refused s.args.table.now b bytes w.in-Err.why (rw (good r.before, read)) (place_told_lem b.symbols bytes read) in
+    (c.refused-in-Err.ensures ∙ all.0, all.1)
 
 pub add_rule_spec : {M : Type 1} → statement M
 add_rule_spec = tie.close (tie.spec

@@ -5,7 +5,7 @@ use Rattle.literals.proofs.Signed.{back_abs}
 use Rattle.board.specs.Furnaces.{is_furnace}
 use Rattle.board.specs.Faults.{good_board}
 use Rattle.board.specs.Placing.{placed}
-use Rattle.board.specs.declared.testing.Placed.TheVariants as placing
+use Rattle.std.specs.Prelude.{Ok, Err}
 use Rattle.board.proofs.Goodness.{good_is}
 use Rattle.literals.proofs.Arguments.{place_is, range_facts, range_is}
 use Rattle.board.proofs.testing.place_on.Statement.{statement}
@@ -54,7 +54,7 @@ returns_4 : tie.Need-returns
 unfolding placed
 returns_4 c =
     let e = known c.before in
-    rw (good e.before.before, furnace e, in_range_lem c.before) (ap placing.At (place_is (start e).ranges.l _ c.place.ensures))
+    rw (good e.before.before, furnace e, in_range_lem c.before) (ap Ok (place_is (start e).ranges.l _ c.place.ensures))
 
 pub place_on_spec : {M : Type 1} → statement M
 place_on_spec = tie.close (tie.spec

@@ -97,45 +97,45 @@ write_units-write_unit-to-requires t c =
     )
 
 -- the unit that was written is the last
-pub write_units-returns-in-Refused : goal.write_units-returns-in-Refused
-write_units-returns-in-Refused t c =
+pub write_units-returns-in-Err : goal.write_units-returns-in-Err
+write_units-returns-in-Err t c =
     let l = c.loop-count in
     let u = unit_read l.join l.invariant.0 c.unit.ensures in
-    units_last c.args.brackets c.args.text.now l.at l.join c.write_unit-to.ensures l.invariant.1 (chain_fault u c.in-Refused.is).0
+    units_last c.args.brackets c.args.text.now l.at l.join c.write_unit-to.ensures l.invariant.1 (chain_fault u c.in-Err.is).0
 
 pub write_units-overflow_add-at : goal.write_units-overflow_add-at
 write_units-overflow_add-at t c =
     let l = c.loop-count in
     let u = unit_read l.join l.invariant.0 c.unit.ensures in
-    omega (arith, used_within u c.in-Used.is, c.well_formed.0.1)
+    omega (arith, used_within u c.in-Ok.is, c.well_formed.0.1)
 
 pub write_units-returns-then-at-text : goal.write_units-returns-then-at-text
 write_units-returns-then-at-text t c =
     let l = c.loop-count in
     let u = unit_read l.join l.invariant.0 c.unit.ensures in
-    let ends = chain_ends u c.in-Used.is c.if-at-text.true in
+    let ends = chain_ends u c.in-Ok.is c.if-at-text.true in
     units_last c.args.brackets c.args.text.now l.at l.join c.write_unit-to.ensures l.invariant.1 ends.0
 
 pub write_units-bounds-text-at : goal.write_units-bounds-text-at
 write_units-bounds-text-at t c =
     let l = c.loop-count in
     let u = unit_read l.join l.invariant.0 c.unit.ensures in
-    omega (arith, used_within u c.in-Used.is)
+    omega (arith, used_within u c.in-Ok.is)
 
 pub write_units-returns-then-not-goes_on : goal.write_units-returns-then-not-goes_on
 write_units-returns-then-not-goes_on t c =
     let l = c.loop-count in
     let u = unit_read l.join l.invariant.0 c.unit.ensures in
-    let stops = chain_stops u c.in-Used.is (sym c.goes_on.ensures ∙ c.if-not-goes_on.true) in
+    let stops = chain_stops u c.in-Ok.is (sym c.goes_on.ensures ∙ c.if-not-goes_on.true) in
     units_last c.args.brackets c.args.text.now l.at l.join c.write_unit-to.ensures l.invariant.1 stops.0
 
 pub write_units-loop-count-preserved : goal.write_units-loop-count-preserved
 write_units-loop-count-preserved t c =
     let l = c.loop-count in
     let a = c.args in
-    let n = c.in-Used.count in
+    let n = c.in-Ok.count in
     let u = unit_read l.join l.invariant.0 c.unit.ensures in
-    let used = used_within u c.in-Used.is in
-    let goes = chain_goes u c.in-Used.is (omega (arith, used)) (sym c.goes_on.ensures ∙ c.if-not-goes_on.false) in
+    let used = used_within u c.in-Ok.is in
+    let goes = chain_goes u c.in-Ok.is (omega (arith, used)) (sym c.goes_on.ensures ∙ c.if-not-goes_on.false) in
     let next = units_next a.brackets a.text.now l.at l.join c.write_unit-to.ensures l.invariant.1 in
     (omega (arith, used), next (get_or a.text.now (l.at + n) 0) (l.at + n + 1) goes.0)

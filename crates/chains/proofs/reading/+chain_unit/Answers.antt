@@ -22,40 +22,40 @@ chain-loop-why-init t c = (omega arith, chain_starts c.args.brackets c.args.text
 pub chain-overflow_add-result : goal.chain-overflow_add-result
 chain-overflow_add-result t c =
     let u = unit_read c.loop-why.join c.loop-why.invariant.0 c.unit.ensures in
-    omega (arith, ap extent c.in-Refused.is, seen u, c.well_formed.0.1)
+    omega (arith, ap extent c.in-Err.is, seen u, c.well_formed.0.1)
 
-pub chain-returns-in-Refused : goal.chain-returns-in-Refused
-chain-returns-in-Refused t c =
+pub chain-returns-in-Err : goal.chain-returns-in-Err
+chain-returns-in-Err t c =
     let u = unit_read c.loop-why.join c.loop-why.invariant.0 c.unit.ensures in
-    sym (c.loop-why.invariant.1 ∙ (chain_fault u c.in-Refused.is).1)
+    sym (c.loop-why.invariant.1 ∙ (chain_fault u c.in-Err.is).1)
 
 pub chain-overflow_add-at : goal.chain-overflow_add-at
 chain-overflow_add-at t c =
     let u = unit_read c.loop-why.join c.loop-why.invariant.0 c.unit.ensures in
-    omega (arith, used_within u c.in-Used.is, c.well_formed.0.1)
+    omega (arith, used_within u c.in-Ok.is, c.well_formed.0.1)
 
 pub chain-returns-then-at-text : goal.chain-returns-then-at-text
 chain-returns-then-at-text t c =
     let u = unit_read c.loop-why.join c.loop-why.invariant.0 c.unit.ensures in
-    sym (c.loop-why.invariant.1 ∙ (chain_ends u c.in-Used.is c.if-at-text.true).1)
+    sym (c.loop-why.invariant.1 ∙ (chain_ends u c.in-Ok.is c.if-at-text.true).1)
 
 pub chain-bounds-text-at : goal.chain-bounds-text-at
 chain-bounds-text-at t c =
     let u = unit_read c.loop-why.join c.loop-why.invariant.0 c.unit.ensures in
-    omega (arith, used_within u c.in-Used.is)
+    omega (arith, used_within u c.in-Ok.is)
 
 pub chain-returns-then-not-goes_on : goal.chain-returns-then-not-goes_on
 chain-returns-then-not-goes_on t c =
     let u = unit_read c.loop-why.join c.loop-why.invariant.0 c.unit.ensures in
     let stops = sym c.goes_on.ensures ∙ c.if-not-goes_on.true in
-    sym (c.loop-why.invariant.1 ∙ (chain_stops u c.in-Used.is stops).1)
+    sym (c.loop-why.invariant.1 ∙ (chain_stops u c.in-Ok.is stops).1)
 
 pub chain-loop-why-preserved : goal.chain-loop-why-preserved
 chain-loop-why-preserved t c =
     let u = unit_read c.loop-why.join c.loop-why.invariant.0 c.unit.ensures in
-    let used = used_within u c.in-Used.is in
+    let used = used_within u c.in-Ok.is in
     let goes = sym c.goes_on.ensures ∙ c.if-not-goes_on.false in
-    (omega (arith, used), c.loop-why.invariant.1 ∙ (chain_goes u c.in-Used.is (omega (arith, used)) goes).1)
+    (omega (arith, used), c.loop-why.invariant.1 ∙ (chain_goes u c.in-Ok.is (omega (arith, used)) goes).1)
 
 -- ---- the unit
 

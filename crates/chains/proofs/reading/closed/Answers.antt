@@ -21,24 +21,24 @@ module _ (inner : List ℕ) (count : ℕ) where
   close_good h e = rw (drop-cons inner count 0 h, eq-eqb (get_or inner count 0) 41 e, onward_drop (count + 1) inner, add-one count)
 
 pub returns-then-count-inner : goal.returns-then-count-inner
-returns-then-count-inner c = rw c.in-Used.is (close_none c.args.inner.now c.in-Used.count c.if-count-inner.true)
+returns-then-count-inner c = rw c.in-Ok.is (close_none c.args.inner.now c.in-Ok.count c.if-count-inner.true)
 
 pub returns-then-inner-count-ne41 : goal.returns-then-inner-count-ne41
 returns-then-inner-count-ne41 c =
-    let within : c.in-Used.count ≤ length c.args.inner.now = omega (arith, ap extent c.in-Used.is, c.requires) in
-    rw c.in-Used.is (close_other c.args.inner.now c.in-Used.count (omega (arith, within)) c.if-inner-count-ne41.true)
+    let within : c.in-Ok.count ≤ length c.args.inner.now = omega (arith, ap extent c.in-Ok.is, c.requires) in
+    rw c.in-Ok.is (close_other c.args.inner.now c.in-Ok.count (omega (arith, within)) c.if-inner-count-ne41.true)
 
-pub overflow_add-result-in-Used : goal.overflow_add-result-in-Used
-overflow_add-result-in-Used c =
+pub overflow_add-result-in-Ok : goal.overflow_add-result-in-Ok
+overflow_add-result-in-Ok c =
     let l = c.args.inner.now in
-    let n = c.in-Used.count in
-    let within : n ≤ length l = omega (arith, ap extent c.in-Used.is, c.requires) in
+    let n = c.in-Ok.count in
+    let within : n ≤ length l = omega (arith, ap extent c.in-Ok.is, c.requires) in
     omega (arith, within, c.run.ensures, lead_extent Blank (onward (n + 1) l), onward_length (n + 1) l, c.well_formed.0.1)
 
 pub returns-else-inner-count-ne41 : goal.returns-else-inner-count-ne41
 returns-else-inner-count-ne41 c =
     let l = c.args.inner.now in
-    let n = c.in-Used.count in
-    let within : n ≤ length l = omega (arith, ap extent c.in-Used.is, c.requires) in
-    rw c.in-Used.is
+    let n = c.in-Ok.count in
+    let within : n ≤ length l = omega (arith, ap extent c.in-Ok.is, c.requires) in
+    rw c.in-Ok.is
     (ap (λ (m : ℕ). Used (n + 1 + m)) c.run.ensures ∙ close_good l n (omega (arith, within)) c.if-inner-count-ne41.false)

@@ -3,10 +3,10 @@ use Rattle.chains.proofs.Whole.{whole_used, whole_more, whole_bad}
 use Rattle.chains.proofs.reading.read_text.Goals as goal
 
 pub returns-then-count-text : goal.returns-then-count-text
-returns-then-count-text c = whole_used c.args.text.now c.chain.ensures c.in-Used.is c.if-count-text.true
+returns-then-count-text c = whole_used c.args.text.now c.chain.ensures c.in-Ok.is c.if-count-text.true
 
 pub returns-else-count-text : goal.returns-else-count-text
-returns-else-count-text c = whole_more c.args.text.now c.chain.ensures c.in-Used.is c.if-count-text.false
+returns-else-count-text c = whole_more c.args.text.now c.chain.ensures c.in-Ok.is c.if-count-text.false
 
-pub returns-in-Refused : goal.returns-in-Refused
-returns-in-Refused c = whole_bad c.args.text.now c.chain.ensures c.in-Refused.is
+pub returns-in-Err : goal.returns-in-Err
+returns-in-Err c = whole_bad c.args.text.now c.chain.ensures c.in-Err.is

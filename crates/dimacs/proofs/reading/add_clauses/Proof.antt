@@ -3,7 +3,7 @@ use Rattle.meaning.proofs.Kit.{◌≡◌, ◌∙◌, sym, ap, [], arith, drop, r
 use Rattle.literals.specs.Row.{rows_lent}
 use Rattle.implicates.specs.Appending.{appended}
 use Rattle.board.specs.Faults.{first_fault}
-use Rattle.board.specs.declared.Outcome.TheVariants.{Done}
+use Rattle.std.specs.Prelude.{Ok}
 use Rattle.board.proofs.Goodness.{Good, good_is}
 use Rattle.dimacs.specs.Words.{words}
 use Rattle.dimacs.specs.Form.{Parsed, clauses_in, counted}
@@ -43,8 +43,8 @@ found c =
 
 -- nothing is at fault
 nothing : (c : tie.In-Done) → let s = start c.before in let b = s.args.board in
-    first_fault (text_faults b.symbols b.rows b.rules (rows_lent s.args.table.now) (said s)) ≡ Done
-nothing c = (found c.before).outcome ∙ c.in-Done.is
+    first_fault (text_faults b.symbols b.rows b.rules (rows_lent s.args.table.now) (said s)) ≡ Ok tt
+nothing c = (found c.before).outcome ∙ c.in-Ok.is
 
 -- so there are as many clauses as the header counts
 whole : (c : tie.In-Done) → let s = start c.before in said s ≡ there s
@@ -65,16 +65,16 @@ done_requires c κs =
     let s = start f in
     (omega (arith, (found f).fits (nothing t) (fine s).lent), (found f).few (nothing t) (fine s).few)
 
-returns : tie.Need-returns-in-Refused
+returns : tie.Need-returns-in-Err
 returns c =
     let o = c.before in
     let f = o.before in
     let s = start f in
-    let all = read_refused s.args.table.now s.args.board s.args.text.now s.requires.0.0 s.requires.1 o.in-Refused.why
-    ((found f).outcome ∙ o.in-Refused.is) (found f).clauses in
+    let all = read_refused s.args.table.now s.args.board s.args.text.now s.requires.0.0 s.requires.1 o.in-Err.why
+    ((found f).outcome ∙ o.in-Err.is) (found f).clauses in
     (c.refused.ensures ∙ all.0, all.1)
 
-returns_2 : tie.Need-returns-in-Done
+returns_2 : tie.Need-returns-in-Ok
 returns_2 c =
     let a = c.before.before in
     let t = a.before.before in

@@ -11,27 +11,27 @@ done j = j.before.before.before
 abbrev start : tie.After-judge → tie.Start
 start j = (done j).before
 
-abbrev judged : tie.After-struct_known-in-Done-judge-3-1 → tie.After-judge
+abbrev judged : tie.After-struct_known-in-Ok-judge-3-1 → tie.After-judge
 judged c = c.before.before.before.before
 
 one : (b : Bool) → bool_byte b ≤ 1
 one true = omega arith
 one false = omega arith
 
-returns_2 : tie.Need-returns-in-Refused-judge
+returns_2 : tie.Need-returns-in-Err-judge
 returns_2 c =
     let j = c.before in
-    with_fault (done j).in-Done.is (rw c.in-Refused-judge.is at j.judge.ensures)
+    with_fault (done j).in-Ok.is (rw c.in-Err-judge.is at j.judge.ensures)
 
-returns_3 : tie.Need-returns-in-Done-judge
+returns_3 : tie.Need-returns-in-Ok-judge
 returns_3 c =
     let t = c.before.before.before in
     let j = t.before in
-    with_done (done j).in-Done.is (rw t.in-Done-judge.is at j.judge.ensures)
+    with_done (done j).in-Ok.is (rw t.in-Ok-judge.is at j.judge.ensures)
 
 pub with_clause_spec : {M : Type 1} → statement M
 with_clause_spec = tie.close (tie.spec
     (λ c. search rules) (λ c. search rules) (λ c. omega arith) (λ c. omega arith) (λ c κs. omega arith) (λ c. search rules) (λ c. search rules)
     (λ c. omega arith) (λ c. omega arith)
     (λ c. let s = start (judged c) in omega (arith, s.requires.0, s.requires.1, one (not s.args.k.always)))
-    (λ c. with_refused c.in-Refused.is) returns_2 returns_3)
+    (λ c. with_refused c.in-Err.is) returns_2 returns_3)

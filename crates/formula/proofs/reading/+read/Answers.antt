@@ -3,7 +3,8 @@ use Rattle.meaning.proofs.Kit.{◌≡◌, ◌∙◌, sym, ap, List, ℕ, ◌+◌
 use Rattle.formula.proofs.Words.{read_of, extent, Kind, kind_of}
 use Rattle.formula.proofs.Parsing.{At, parse_deep, parse_short, by_symbol, by_unknown, reads_not, reads_first, reads_second}
 use Rattle.formula.proofs.Parts.{onward_length}
-use Rattle.formula.proofs.Extents.{first_extent, both_extent}
+use Rattle.std.proofs.lemmas.Result.{err_from_is_err_and}
+use Rattle.formula.proofs.Extents.{first_extent, past_extent, rest_extent}
 use Rattle.formula.proofs.reading.+read.Goals as goal
 
 -- the kind is known
@@ -23,32 +24,48 @@ past_by-requires t c =
     let k = known c.if-depth-eq0.false c.if-bytes-eq0.false c.kind_of.ensures c.in-Not.is in
     omega (arith, ap extent c.read.ensures, first_extent c.args.symbols k, c.well_formed.0.1)
 
-pub overflow_add-count : goal.overflow_add-count
-overflow_add-count t c =
+pub past_by-requires-in-Two : goal.past_by-requires-in-Two
+past_by-requires-in-Two t c =
     let k = known c.if-depth-eq0.false c.if-bytes-eq0.false c.kind_of.ensures c.in-Two.is in
-    omega (arith, ap extent c.in-Used.is, ap extent c.read-in-Two.ensures, first_extent c.args.symbols k, c.well_formed.0.1)
+    omega (arith, ap extent c.read-in-Two.ensures, first_extent c.args.symbols k, c.well_formed.0.1)
 
 pub slice_bounds-read-count : goal.slice_bounds-read-count
 slice_bounds-read-count t c =
     let k = known c.if-depth-eq0.false c.if-bytes-eq0.false c.kind_of.ensures c.in-Two.is in
-    omega (arith, ap extent c.in-Used.is, ap extent c.read-in-Two.ensures, first_extent c.args.symbols k, onward_length 1 c.args.bytes.now)
+    omega (
+      arith,
+      ap extent c.in_ok-count-in-Two.was,
+      ap extent c.past_by-in-Two.ensures,
+      past_extent 1 c.read-in-Two.result,
+      ap extent c.read-in-Two.ensures,
+      first_extent c.args.symbols k,
+    )
 
 pub slice_bounds-read-start : goal.slice_bounds-read-start
 slice_bounds-read-start t c =
     let k = known c.if-depth-eq0.false c.if-bytes-eq0.false c.kind_of.ensures c.in-Two.is in
-    omega (arith, ap extent c.in-Used.is, ap extent c.read-in-Two.ensures, first_extent c.args.symbols k, onward_length 1 c.args.bytes.now)
+    omega (
+      arith,
+      ap extent c.in_ok-count-in-Two.was,
+      ap extent c.past_by-in-Two.ensures,
+      past_extent 1 c.read-in-Two.result,
+      ap extent c.read-in-Two.ensures,
+      first_extent c.args.symbols k,
+    )
 
-pub past_by-requires-in-Used : goal.past_by-requires-in-Used
-past_by-requires-in-Used t c =
+pub past_by-requires-in-Two-2 : goal.past_by-requires-in-Two-2
+past_by-requires-in-Two-2 t c =
     let k = known c.if-depth-eq0.false c.if-bytes-eq0.false c.kind_of.ensures c.in-Two.is in
-    let first = first_extent c.args.symbols k in
-    let used : 1 + c.in-Used.count ≤ length c.args.bytes.now = omega (arith, ap extent c.in-Used.is, ap extent c.read-in-Two.ensures, first) in
-    omega (arith, ap extent c.read-in-Used.ensures, both_extent c.args.symbols k c.in-Used.count used, c.well_formed.0.1)
-
-pub past_by-requires-in-Refused : goal.past_by-requires-in-Refused
-past_by-requires-in-Refused t c =
-    let k = known c.if-depth-eq0.false c.if-bytes-eq0.false c.kind_of.ensures c.in-Two.is in
-    omega (arith, ap extent c.in-Refused.is, ap extent c.read-in-Two.ensures, first_extent c.args.symbols k, c.well_formed.0.1)
+    let within : c.in_ok-count-in-Two.count ≤ length c.args.bytes.now =
+    omega (
+      arith,
+      ap extent c.in_ok-count-in-Two.was,
+      ap extent c.past_by-in-Two.ensures,
+      past_extent 1 c.read-in-Two.result,
+      ap extent c.read-in-Two.ensures,
+      first_extent c.args.symbols k,
+    ) in
+    omega (arith, ap extent c.read-in-Two-2.ensures, rest_extent c.args.symbols c.args.depth c.args.bytes.now c.in_ok-count-in-Two.count within, c.well_formed.0.1)
 
 pub returns-in-Symbol : goal.returns-in-Symbol
 returns-in-Symbol t c =
@@ -60,15 +77,17 @@ returns-in-Not t c =
     let k = known c.if-depth-eq0.false c.if-bytes-eq0.false c.kind_of.ensures c.in-Not.is in
     c.past_by.ensures ∙ reads_not c.args.symbols k c.read.ensures
 
-pub returns-in-Used : goal.returns-in-Used
-returns-in-Used t c =
+pub returns-in_err-count-in-Two : goal.returns-in_err-count-in-Two
+returns-in_err-count-in-Two t c =
     let k = known c.if-depth-eq0.false c.if-bytes-eq0.false c.kind_of.ensures c.in-Two.is in
-    c.past_by-in-Used.ensures ∙ reads_second c.args.symbols k c.read-in-Two.ensures c.in-Used.is c.read-in-Used.ensures
+    let p = err_from_is_err_and c.from_residual.result c.from_residual.ensures.1 in
+    rw (p.1, p.2) (reads_first c.args.symbols k c.read-in-Two.ensures (sym c.past_by-in-Two.ensures ∙ c.in_err-count-in-Two.was))
 
-pub returns-in-Refused : goal.returns-in-Refused
-returns-in-Refused t c =
+pub returns-in_ok-count-in-Two : goal.returns-in_ok-count-in-Two
+returns-in_ok-count-in-Two t c =
     let k = known c.if-depth-eq0.false c.if-bytes-eq0.false c.kind_of.ensures c.in-Two.is in
-    c.past_by-in-Refused.ensures ∙ reads_first c.args.symbols k c.read-in-Two.ensures c.in-Refused.is
+    c.past_by-in-Two-2.ensures
+    ∙ reads_second c.args.symbols k c.read-in-Two.ensures (sym c.past_by-in-Two.ensures ∙ c.in_ok-count-in-Two.was) c.read-in-Two-2.ensures
 
 pub returns-in-Unknown : goal.returns-in-Unknown
 returns-in-Unknown t c =

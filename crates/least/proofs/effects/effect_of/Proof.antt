@@ -8,7 +8,7 @@ use Rattle.least.proofs.effects.effect_of.Statement.{statement}
 use Rattle.least.proofs.effects.effect_of.Tie as tie
 
 -- where blame was asked, and where the call began
-abbrev asked : tie.After-marks-in-Done-1 → tie.After-blame
+abbrev asked : tie.After-marks-in-Ok-1 → tie.After-blame
 asked c = c.before.before.before
 
 abbrev start : tie.After-blame → tie.Start
@@ -31,23 +31,23 @@ marked_requires c κs =
     let long = (asked c).blame.auto.marks in
     (s.requires.1.0, subst (λ (n : ℕ). all (λ p. ltb p n) s.args.places.now ≡ true) (sym long) (low s))
 
-returns : tie.Need-returns-in-Done
+returns : tie.Need-returns-in-Ok
 returns c =
     let b = asked c.before in
     let t = b.before.before in
     let s = start b in
     let a = s.args in
     leaves_told a.table.now a.board a.furnace a.places.now a.set s.requires.0.0 s.requires.0.1 s.requires.1.1 unmarked refl
-    t.struck_off.ensures b.blame.ensures.0 c.before.before.in-Done.is b.blame.ensures.1 c.marked.ensures
+    t.struck_off.ensures b.blame.ensures.0 c.before.before.in-Ok.is b.blame.ensures.1 c.marked.ensures
 
-returns_2 : tie.Need-returns-in-Refused
+returns_2 : tie.Need-returns-in-Err
 returns_2 c =
     let b = c.before.before in
     let t = b.before.before in
     let s = start b in
     let a = s.args in
     ends_told a.table.now a.board a.furnace a.places.now a.set s.requires.0.0 s.requires.0.1 s.requires.1.1 unmarked refl
-    t.struck_off.ensures b.blame.ensures.0 c.in-Refused.is
+    t.struck_off.ensures b.blame.ensures.0 c.in-Err.is
 
 pub effect_of_spec : {M : Type 1} → statement M
 effect_of_spec = tie.close (tie.spec

@@ -5,10 +5,10 @@ use Rattle.lines.specs.Commands.{formula_length}
 use Rattle.lines.proofs.Reading.{length_good, length_bad}
 use Rattle.lines.proofs.commands.formula_length.Goals as goal
 
-pub returns-in-Used : goal.returns-in-Used
+pub returns-in-Ok : goal.returns-in-Ok
 unfolding formula_length
-returns-in-Used c = sym (length_good (parse c.args.symbols levels c.args.body.now) _ _ (sym c.read.ensures ∙ c.in-Used.is))
+returns-in-Ok c = sym (length_good (parse c.args.symbols levels c.args.body.now) _ _ (sym c.read.ensures ∙ c.in-Ok.is))
 
-pub returns-in-Refused : goal.returns-in-Refused
+pub returns-in-Err : goal.returns-in-Err
 unfolding formula_length
-returns-in-Refused c = sym (length_bad (parse c.args.symbols levels c.args.body.now) _ _ _ (sym c.read.ensures ∙ c.in-Refused.is))
+returns-in-Err c = sym (length_bad (parse c.args.symbols levels c.args.body.now) _ _ _ (sym c.read.ensures ∙ c.in-Err.is))

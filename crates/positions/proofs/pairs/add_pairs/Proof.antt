@@ -21,17 +21,17 @@ returns c =
 good : (c : tie.Else-not-good) → let a = c.args in good_board a.table.now a.board ≡ true
 good c = sym c.good.ensures ∙ not-false _ c.if-not-good.false-raw
 
-returns_2 : tie.Need-returns-in-Refused
+returns_2 : tie.Need-returns-in-Err
 returns_2 c =
     let e = c.before.before.before in
     let s = e.before.before in
-    let told = told_own s.args.table.now s.args.board (it s) (good e) c.in-Refused.why (sym c.judge.ensures ∙ c.in-Refused.is) in
-    (c.refused-in-Refused.ensures ∙ told.answer_is, told.table_is)
+    let told = told_own s.args.table.now s.args.board (it s) (good e) c.in-Err.why (sym c.judge.ensures ∙ c.in-Err.is) in
+    (c.refused-in-Err.ensures ∙ told.answer_is, told.table_is)
 
 enter_requires : tie.Need-enter-requires
 enter_requires c κs =
     let e = c.before.before.before in
-    (good e, own_passed e.args.board.symbols (it e.before.before) (sym c.judge.ensures ∙ c.in-Done.is))
+    (good e, own_passed e.args.board.symbols (it e.before.before) (sym c.judge.ensures ∙ c.in-Ok.is))
 
 pub add_pairs_spec : {M : Type 1} → statement M
 add_pairs_spec = tie.close (tie.spec

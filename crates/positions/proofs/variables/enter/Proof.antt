@@ -73,7 +73,7 @@ done_requires c κs =
     let a = c.before.before in
     let s = a.before.before in
     let b = s.args.board in
-    let r = because (rule s) b.rows b.rules (lent s) (told a ∙ c.in-Rows.is) in
+    let r = because (rule s) b.rows b.rules (lent s) (told a ∙ c.in-Ok.is) in
     let f = fits_facts b.rows b.rules (lent s) (rows_of (rule s)) r.1 in
     (omega (arith, r.2, f.0), omega (arith, f.1, (good s).few))
 
@@ -82,14 +82,14 @@ rows : (s : tie.Start) → rows_of_entry s.args.board.symbols (positions (it s))
 unfolding formulae_of
 rows s = append-nil (rows_of (rule s))
 
-returns_3 : tie.Need-returns-in-Rows
+returns_3 : tie.Need-returns-in-Ok
 unfolding formulae_of
 returns_3 c =
     let a = c.before.before.before in
     let s = a.before.before in
     let b = s.args.board in
     let table = s.args.table.now in
-    let r = because (rule s) b.rows b.rules (lent s) (told a ∙ c.in-Rows.is) in
+    let r = because (rule s) b.rows b.rules (lent s) (told a ∙ c.in-Ok.is) in
     let room = one_rule_fits b.symbols b.rows b.rules (lent s) (it s) (good s).few ∙ r.1 in
     let all = told_done table b (positions (it s)) s.requires.0 s.requires.1 room in (
       c.done.ensures ∙ rw (r.2 ∙ sym (ap length (rows s))) all.answer_is,

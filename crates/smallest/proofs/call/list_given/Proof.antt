@@ -5,7 +5,7 @@ use Rattle.meaning.specs.Tests.{all}
 use Rattle.literals.specs.Literal.{in_range}
 use Rattle.literals.specs.declared.refusal.Refusal.TheVariants.{BadCandidates}
 use Rattle.board.specs.Faults.{first_fault}
-use Rattle.board.specs.declared.Outcome.{Outcome}
+use Rattle.board.specs.Faults.{Outcome}
 use Rattle.smallest.specs.Listing.{smallest_on, candidate_faults}
 use Rattle.smallest.proofs.Answers.{told_as, told_refused, many_fault, not_many}
 use Rattle.smallest.proofs.call.list_given.Statement.{statement}

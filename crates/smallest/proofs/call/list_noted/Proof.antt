@@ -2,7 +2,7 @@
 use Rattle.meaning.proofs.Kit.{◌≡◌, ◌∙◌, ap, List, ◌≤◌, ℕ, suc, ◌*◌, arith, ℤ, length, sets, to_z-of_z, rules}
 use Rattle.literals.specs.Literal.{in_range, place_of}
 use Rattle.board.specs.Ranking.{rows_on}
-use Rattle.board.specs.declared.Outcome.TheVariants.{Done}
+use Rattle.std.specs.Prelude.{Ok}
 use Rattle.smallest.specs.Listing.{smallest_at}
 use Rattle.smallest.specs.Search.{notes_of, listed_below}
 use Rattle.smallest.proofs.Answers.{told_short, told_list, as_many, the_list}
@@ -70,7 +70,7 @@ returns_2 c =
     let n = noting e.before in
     let lent = (start n).args.sets.now in
     let t = told_list (list n) lent (fits e) in (
-      ap (λ (k : ℕ). record { outcome = Done; count = k }) (count_is e.before) ∙ t.answered,
+      ap (λ (k : ℕ). record { outcome = (Ok tt); count = k }) (count_is e.before) ∙ t.answered,
       w.write_listed.ensures ∙ ap (sets lent 0) (written n) ∙ t.written,
     )
 

@@ -5,8 +5,8 @@ use Rattle.literals.specs.Literal.{in_range}
 use Rattle.literals.specs.declared.refusal.Refusal.TheVariants.{BadBoard, BadLiteral}
 use Rattle.literals.proofs.Arguments.{range_is}
 use Rattle.board.specs.Faults.{good_board, first_fault}
-use Rattle.board.specs.declared.Outcome.{Outcome}
-use Rattle.board.specs.declared.Outcome.TheVariants.{Refused}
+use Rattle.board.specs.Faults.{Outcome}
+use Rattle.std.specs.Prelude.{Err}
 use Rattle.candidates.specs.Given.{too_many}
 use Rattle.smallest.specs.Listing.{smallest_on, candidate_faults, smallest_outcome}
 use Rattle.smallest.proofs.Answers.{Told, told_as, told_refused, bad_board, bad_literal, literals_given, contract}
@@ -45,7 +45,7 @@ returns c =
 other : (e : tie.Else-not-good) → let a = (start e).args in all (in_range a.board.symbols) (a.l ∷ a.candidates.now) ≡ false
     → Told (smallest_outcome a.table.now a.board a.candidates.now a.l a.sets.now)
     (smallest_on a.table.now a.board a.candidates.now a.l) a.sets.now a.sets.now
-    (record { outcome = Refused BadLiteral; count = 0 })
+    (record { outcome = Err BadLiteral; count = 0 })
 other e h =
     let a = (start e).args in
     told_refused BadLiteral (smallest_on a.table.now a.board a.candidates.now a.l) a.sets.now

@@ -37,4 +37,4 @@ note_spec = tie.close (tie.spec
     (λ c. sym (ap standing_note c.in-Stands.is) ∙ told c.before)
     (λ c. sym (ap standing_note c.in-RuledOut.is) ∙ told c.before)
     (λ c. sym (ap standing_note c.in-Open.is) ∙ told c.before)
-    (λ c. sym (ap standing_note c.in-Refused.is) ∙ told c.before))
+    (λ c. sym (ap standing_note c.in-Err.is) ∙ told c.before))

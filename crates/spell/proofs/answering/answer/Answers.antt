@@ -7,5 +7,5 @@ use Rattle.spell.proofs.answering.answer.Goals as goal
 
 pub answer_broken-requires : goal.answer_broken-requires
 answer_broken-requires g c =
-    let read = answer_bad (whole_text c.args.line.now) (sym c.read_text.ensures ∙ c.in-Refused.is) in
+    let read = answer_bad (whole_text c.args.line.now) (sym c.read_text.ensures ∙ c.in-Err.is) in
     ((first_offence c.args.line.now _ _ read).1.within, omega (arith, c.requires))

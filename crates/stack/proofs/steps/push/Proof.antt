@@ -35,21 +35,21 @@ on_top_requires c κs =
     let w = c.before in
     let s = start w in
     let a = s.args in
-    let d = flag_done _ _ _ _ true AlreadyHeld (says w ∙ c.in-Done.is) in
+    let d = flag_done _ _ _ _ true AlreadyHeld (says w ∙ c.in-Ok.is) in
     let k = known _ _ _ _ (good w.before) d.is_good_lem d.is_furnace (long s).0 (long s).1 in
     omega (arith, room_left _ _ _ a.l k.is_good_lem k.places d.in_range_lem d.was, k.symbols)
 
-returns_2 : tie.Need-returns-in-Refused
+returns_2 : tie.Need-returns-in-Err
 unfolding pushed push_faults flag_changed
 returns_2 c =
     let w = c.before.before in
-    rw (good w.before, says w ∙ c.in-Refused.is) c.refused-in-Refused.ensures
+    rw (good w.before, says w ∙ c.in-Err.is) c.refused-in-Err.ensures
 
-returns_3 : tie.Need-returns-in-Done
+returns_3 : tie.Need-returns-in-Ok
 unfolding pushed push_faults flag_changed
 returns_3 c =
     let w = c.before.before in
-    rw (same w, c.on_top.ensures, to_z-of_z w.ranges.l, good w.before, says w ∙ c.in-Done.is)
+    rw (same w, c.on_top.ensures, to_z-of_z w.ranges.l, good w.before, says w ∙ c.in-Ok.is)
 
 pub push_spec : {M : Type 1} → statement M
 push_spec = tie.close (tie.spec

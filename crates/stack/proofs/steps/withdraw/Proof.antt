@@ -7,7 +7,7 @@ use Rattle.literals.specs.Literal.{in_range, place_of}
 use Rattle.literals.proofs.Arguments.{range_more}
 use Rattle.literals.specs.declared.refusal.Refusal.TheVariants.{NotHeld}
 use Rattle.board.specs.Changes.{withdraw_answer}
-use Rattle.board.specs.declared.Outcome.TheVariants.{Done}
+use Rattle.std.specs.Prelude.{Ok}
 use Rattle.stack.specs.Stacking.{stacked, good_stacks, stack_of, on_stack}
 use Rattle.stack.specs.Steps.{withdraw_faults_with, withdrawn_with}
 use Rattle.stack.proofs.Known.{known}
@@ -37,8 +37,8 @@ says c = ap (λ r. r.outcome) (sym (same c))
 abbrev at : tie.In-Done → tie.After-withdraw-change
 at c = c.before
 
-done : (c : tie.In-Done) → let a = (start (at c)).args in (withdraw_answer a.table.now a.board a.furnace a.l).outcome ≡ Done
-done c = says (at c) ∙ c.in-Done.is
+done : (c : tie.In-Done) → let a = (start (at c)).args in (withdraw_answer a.table.now a.board a.furnace a.l).outcome ≡ Ok tt
+done c = says (at c) ∙ c.in-Ok.is
 
 -- whether it is stacked
 told : (c : tie.After-is_stacked) → let a = (start (at c.before.before)).args in stacked a.stacks a.furnace a.l ≡ c.is_stacked.result
@@ -70,10 +70,10 @@ returns_2 c =
     let t = i.before.before in
     c.refused-then-is_stacked.ensures ∙ sym (withdraw_stacked _ _ _ _ _ (good t.before.before) (done t) (told i ∙ c.if-is_stacked.true))
 
-returns_3 : tie.Need-returns-in-Refused
+returns_3 : tie.Need-returns-in-Err
 returns_3 c =
     let w = c.before.before in
-    c.refused-in-Refused.ensures ∙ sym (withdraw_refused _ _ _ _ _ (good w.before) (says w ∙ c.in-Refused.is))
+    c.refused-in-Err.ensures ∙ sym (withdraw_refused _ _ _ _ _ (good w.before) (says w ∙ c.in-Err.is))
 
 returns_4 : tie.Need-returns-else-is_stacked
 returns_4 c =

@@ -8,9 +8,9 @@ use Rattle.text.proofs.adding.add_text.Tie as tie
 
 -- the text keeps the form
 keeps : (c : tie.In-Used) → is_good (whole_text c.args.text.now) ≡ true
-keeps c = ap is_good (answer_good (whole_text c.args.text.now) (sym c.in-Used.ensures)).1
+keeps c = ap is_good (answer_good (whole_text c.args.text.now) (sym c.in-Ok.ensures)).1
 
-returns_2 : tie.Need-returns-in-Used
+returns_2 : tie.Need-returns-in-Ok
 returns_2 c =
     let a = c.args in
     let bytes = text_bytes a.table.now a.board a.text.now (keeps c.before.before.before) in
@@ -20,7 +20,7 @@ returns_2 c =
 returns : tie.Need-returns-then-good
 returns c =
     let a = c.args in
-    let e = answer_bad (whole_text a.text.now) (sym c.in-Refused.ensures) in
+    let e = answer_bad (whole_text a.text.now) (sym c.in-Err.ensures) in
     let all = text_broken a.table.now a.board a.text.now e (sym c.good.ensures ∙ c.if-good.true) in
     (c.refused.ensures ∙ all.0, all.1)
 
@@ -28,7 +28,7 @@ returns_3 : tie.Need-returns-else-good
 returns_3 c =
     let a = c.args in
     let all = board_spoilt a.table.now a.board a.text.now (sym c.good.ensures ∙ c.if-good.false) in
-    (c.refused-in-Refused.ensures ∙ all.0, all.1)
+    (c.refused-in-Err.ensures ∙ all.0, all.1)
 
 pub add_text_spec : {M : Type 1} → statement M
 add_text_spec = tie.close (tie.spec

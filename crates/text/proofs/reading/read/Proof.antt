@@ -6,7 +6,7 @@ use Rattle.formula.proofs.Parsing.{answer_good, answer_bad}
 use Rattle.formula.proofs.OwnBytes.{whole_long}
 use Rattle.spelling.proofs.Pieces.{put_length}
 use Rattle.board.specs.Faults.{good_board}
-use Rattle.board.specs.declared.Outcome.TheVariants.{Refused}
+use Rattle.std.specs.Prelude.{Err}
 use Rattle.chains.proofs.Offences.{first_offence}
 use Rattle.text.specs.Reading.{bytes_in, read_in, read_text_faults, read_text_outcome}
 use Rattle.text.proofs.ReadText.{text_place_lem, bytes_place, read_refused, read_done}
@@ -24,40 +24,40 @@ returns c =
     let spoilt = sym c.good.ensures ∙ not-true _ c.if-not-good.true-raw in
     read_refused a.table.now a.board a.text.now a.out.now BadBoard (rw spoilt) refl c.refused.ensures
 
-returns_3 : tie.Need-returns-in-Refused
+returns_3 : tie.Need-returns-in-Err
 unfolding read_text_outcome read_text_faults
 returns_3 c =
     let a = c.args in
-    let why = c.in-Refused.why in
-    let e = answer_bad (whole_text a.text.now) (sym c.in-Refused.ensures) in
-    let only = (first_offence a.text.now why c.in-Refused.place e).0 in
-    read_refused a.table.now a.board a.text.now a.out.now why (rw (good c.before.before.before, e) (ap Refused (sym only)))
-    (text_place_lem a.board.symbols a.text.now e) c.refused-in-Refused.ensures
+    let why = c.in-Err.why in
+    let e = answer_bad (whole_text a.text.now) (sym c.in-Err.ensures) in
+    let only = (first_offence a.text.now why c.in-Err.place e).0 in
+    read_refused a.table.now a.board a.text.now a.out.now why (rw (good c.before.before.before, e) (ap Err (sym only)))
+    (text_place_lem a.board.symbols a.text.now e) c.refused-in-Err.ensures
 
 -- the text keeps the form
 keeps : (c : tie.In-Used) → is_good (whole_text c.args.text.now) ≡ true
-keeps c = ap is_good (answer_good (whole_text c.args.text.now) (sym c.in-Used.ensures)).1
+keeps c = ap is_good (answer_good (whole_text c.args.text.now) (sym c.in-Ok.ensures)).1
 
-returns_4 : tie.Need-returns-in-Refused-judge
+returns_4 : tie.Need-returns-in-Err-judge
 unfolding read_text_outcome read_text_faults
 returns_4 c =
-    let w = c.in-Refused-judge in
+    let w = c.in-Err-judge in
     let t = c.before.before.before in
     let a = c.args in
     let e = answer_bad (read_in a.board.symbols a.text.now) (sym w.ensures) in
     read_refused a.table.now a.board a.text.now a.out.now w.why (rw (good t.before.before, keeps t, e))
-    (bytes_place a.board.symbols a.text.now e) c.refused-in-Refused-judge.ensures
+    (bytes_place a.board.symbols a.text.now e) c.refused-in-Err-judge.ensures
 
 -- its bytes are a formula, and so many
 record Sized (S : ℕ) (text : List ℕ) (size : ℕ) : Type 0 where
   pub reads : is_good (read_in S text) ≡ true
   pub long : size ≡ length (bytes_in text)
 
-sized : (c : tie.In-Used-judge) → Sized c.args.board.symbols c.args.text.now c.in-Used-judge.size
+sized : (c : tie.In-Used-judge) → Sized c.args.board.symbols c.args.text.now c.in-Ok-judge.size
 sized c =
     let a = c.args in
     let S = a.board.symbols in
-    let e = answer_good (read_in S a.text.now) (sym c.in-Used-judge.ensures) in
+    let e = answer_good (read_in S a.text.now) (sym c.in-Ok-judge.ensures) in
     record { reads = ap is_good e.1; long = whole_long S (bytes_in a.text.now) e.1 }
 
 returns_2 : tie.Need-returns-then-out-size

@@ -26,7 +26,7 @@ returns c =
 read : (c : tie.In-Used) → is_good (whole_of c.args.board.symbols c.args.bytes.now) ≡ true
 read c =
     let a = c.args in
-    ap is_good (answer_good (whole_of a.board.symbols a.bytes.now) (sym c.in-Used.ensures)).1
+    ap is_good (answer_good (whole_of a.board.symbols a.bytes.now) (sym c.in-Ok.ensures)).1
 
 write_formula_requires : tie.Need-write_formula-requires
 write_formula_requires c κs =
@@ -34,16 +34,16 @@ write_formula_requires c κs =
     let a = c.args in
     ((good_is a.table.now a.board (good t.before.before)).sound.symbols, read t)
 
-returns_2 : tie.Need-returns-in-Refused
+returns_2 : tie.Need-returns-in-Err
 unfolding write_text_outcome write_text_faults
 returns_2 c =
-    let w = c.in-Refused in
+    let w = c.in-Err in
     let a = c.args in
     let e = answer_bad (whole_of a.board.symbols a.bytes.now) (sym w.ensures) in
     write_refused a.table.now a.board a.bytes.now a.out.now w.why (rw (good c.before.before.before, e))
-    (place_told_lem a.board.symbols a.bytes.now e) c.refused-in-Refused.ensures
+    (place_told_lem a.board.symbols a.bytes.now e) c.refused-in-Err.ensures
 
-returns_3 : tie.Need-returns-in-Used
+returns_3 : tie.Need-returns-in-Ok
 unfolding write_text_answer write_text_bytes
 returns_3 c =
     let t = c.before.before.before.before in
