@@ -1,6 +1,6 @@
 // From bytes to a formula: how many bytes it takes, or the first fault and its place.
 
-ghost use Rattle.std.specs.Prelude.{◌≡◌, ◌+◌, ◌≤◌};
+ghost use Rattle.std.specs.Prelude.{◌≡◌, ◌+◌, ◌≤◌, Err};
 ghost use Rattle.formula.specs.Kinds.{kind_of};
 ghost use Rattle.formula.specs.Parse.{parse, symbol_at, whole_of};
 ghost use Rattle.formula.specs.Answers.{read_of, past, extent};
@@ -33,6 +33,13 @@ pub enum Kind {
 pub struct Break {
     pub why: Refusal,
     pub place: usize,
+}
+
+// The answer where a formula breaks.
+pub fn breaks(why: Refusal, place: usize) -> Result<usize, Break>
+    ensures { result ≡ Err (record { why = why; place = place }) }
+{
+    Err(Break { why, place })
 }
 
 pub fn kind_of(byte: u8) -> Kind
@@ -68,17 +75,11 @@ fn read_symbol(body: &[u8], symbols: usize) -> Result<usize, Break>
     ensures { result ≡ read_of (symbol_at symbols body.now) }
 {
     if body.len() == 0 {
-        return Err(Break {
-            why: Refusal::CutShort,
-            place: 1,
-        });
+        return breaks(Refusal::CutShort, 1);
     }
     let number = body[0] as usize;
     if number == 0 || symbols < number {
-        return Err(Break {
-            why: Refusal::BadLiteral,
-            place: 1,
-        });
+        return breaks(Refusal::BadLiteral, 1);
     }
     Ok(2)
 }
@@ -88,16 +89,10 @@ pub fn read(bytes: &[u8], symbols: usize, depth: usize) -> Result<usize, Break>
     ensures { result ≡ read_of (parse symbols depth bytes.now) }
 {
     if depth == 0 {
-        return Err(Break {
-            why: Refusal::TooDeep,
-            place: 0,
-        });
+        return breaks(Refusal::TooDeep, 0);
     }
     if bytes.len() == 0 {
-        return Err(Break {
-            why: Refusal::CutShort,
-            place: 0,
-        });
+        return breaks(Refusal::CutShort, 0);
     }
     let body = &bytes[1..];
     match kind_of(bytes[0]) {
@@ -107,10 +102,7 @@ pub fn read(bytes: &[u8], symbols: usize, depth: usize) -> Result<usize, Break>
             let count = past_by(1, read(body, symbols, depth - 1))?;
             past_by(count, read(&bytes[count..], symbols, depth - 1))
         }
-        Kind::Unknown => Err(Break {
-            why: Refusal::UnknownKind,
-            place: 0,
-        }),
+        Kind::Unknown => breaks(Refusal::UnknownKind, 0),
     }
 }
 
@@ -120,10 +112,7 @@ pub fn read_whole(bytes: &[u8], symbols: usize) -> Result<usize, Break>
 {
     let count = read(bytes, symbols, LEVELS)?;
     if count < bytes.len() {
-        return Err(Break {
-            why: Refusal::BytesLeftOver,
-            place: count,
-        });
+        return breaks(Refusal::BytesLeftOver, count);
     }
     Ok(count)
 }

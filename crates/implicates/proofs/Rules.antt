@@ -14,6 +14,7 @@ use Rattle.literals.specs.Row.{most_rules, of_rule}
 use Rattle.implicates.specs.Hits.{index, sat_of, hit_table, marked, prime_in, prime_table}
 use Rattle.implicates.specs.Appending.{rule_by, appended, fits, answer_of, table_of}
 use Rattle.std.specs.Prelude.{Ok, Err}
+use Rattle.literals.specs.declared.refusal.Refusal.TheVariants.{NoAssignment, TableFull}
 use Rattle.implicates.proofs.Numbers.{clauses_some, number_empty, table_marks}
 use Rattle.implicates.proofs.Table.{index_below}
 use Rattle.implicates.proofs.Lone.{prime_in_prime}
@@ -62,12 +63,12 @@ hits_last n truth whole {r} f e =
 -- ---- what is told, and the table after it, on each way out
 
 module _ (rule : Rule) (used rules lent : ℕ) (table : List ℤ) where
-  pub told_unsatisfiable : satisfiable rule ≡ false → ((Err NoAssignment) ≡ answer_of rule used rules lent) × (table ≡ table_of rule used rules lent table)
+  pub told_unsatisfiable : satisfiable rule ≡ false → (Err NoAssignment ≡ answer_of rule used rules lent) × (table ≡ table_of rule used rules lent table)
   unfolding answer_of table_of
   told_unsatisfiable s = rw s (refl, refl)
 
   pub told_full : satisfiable rule ≡ true → fits used rules lent (rows_of rule) ≡ false
-      → ((Err TableFull) ≡ answer_of rule used rules lent) × (table ≡ table_of rule used rules lent table)
+      → (Err TableFull ≡ answer_of rule used rules lent) × (table ≡ table_of rule used rules lent table)
   unfolding answer_of table_of
   told_full s h = rw (s, h) (refl, refl)
 

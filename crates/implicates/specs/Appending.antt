@@ -1,11 +1,11 @@
 -- What a rule appends to the table: its rows in order, each with the rule's number, and nothing else.
-use Rattle.std.specs.Prelude.{Bool, cond, not, ◌&&◌, List, [], ◌∷◌, ◌++◌, ℕ, suc, ◌+◌, ◌*◌, leb, eqb, ℤ, length, take, drop}
+use Rattle.std.specs.Prelude.{Result, Ok, Err, Bool, cond, not, ◌&&◌, List, [], ◌∷◌, ◌++◌, ℕ, suc, ◌+◌, ◌*◌, leb, eqb, ℤ, length, take, drop}
 use Rattle.meaning.specs.Formulae.{Rule}
 use Rattle.meaning.specs.Clauses.{rows_of, satisfiable}
 use Rattle.literals.specs.Row.{width, most_rules, Ruled, of_rule, numbered}
+use Rattle.literals.specs.declared.refusal.Refusal.{Refusal}
+use Rattle.literals.specs.declared.refusal.Refusal.TheVariants.{NoAssignment, TableFull}
 use Rattle.implicates.specs.Hits.{sat_of}
-use Rattle.implicates.specs.declared.Appended.{Appended}
-use Rattle.std.specs.Prelude.{Ok, Err}
 
 -- the rule that a truth table tells
 abbrev pub rule_by : List ℕ → List Bool → Rule
@@ -30,8 +30,9 @@ abbrev pub fits : (used rules lent : ℕ) → (rows : List (List ℕ)) → Bool
 fits used rules lent rows = leb (used + length rows) lent && not (eqb rules most_rules)
 
 -- how many rows the rule appended, where `rules` were accepted before it; or 8, "no assignment satisfies the rule"; or 9
-unfoldable pub answer_of : Rule → (used rules lent : ℕ) → Appended
-answer_of rule used rules lent = cond (satisfiable rule) (cond (fits used rules lent (rows_of rule)) (Ok (length (rows_of rule))) (Err TableFull)) (Err NoAssignment)
+unfoldable pub answer_of : Rule → (used rules lent : ℕ) → Result ℕ Refusal
+answer_of rule used rules lent =
+    cond (satisfiable rule) (cond (fits used rules lent (rows_of rule)) (Ok (length (rows_of rule))) (Err TableFull)) (Err NoAssignment)
 
 -- and the table after it: a refusal writes nothing
 unfoldable pub table_of : Rule → (used rules lent : ℕ) → List ℤ → List ℤ

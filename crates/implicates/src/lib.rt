@@ -11,17 +11,11 @@ ghost use Rattle.literals.specs.Row.{width, most_rules};
 ghost use Rattle.implicates.specs.Appending.{rule_by, answer_of, table_of};
 
 use literals::MOST_RULES;
-
-// What appending a rule comes to: how many rows it appended, or why none.
-#[derive(Clone, Copy)]
-pub enum Appended {
-    Rows(usize),
-    Unsatisfiable,
-    Full,
-}
+use literals::refusal::Refusal;
 
 // Appends the prime implicates of the rule with the given symbols and truth table, from row `used` on, if some assignment
-// satisfies it, they fit into `lent` rows, and the `rules` before it leave it a number. `board` has read the rule and tested the table.
+// satisfies it, they fit into `lent` rows, and the `rules` before it leave it a number. Gives how many rows that were. `board` has read the rule
+// and tested the table.
 pub fn append_rule(
     table: &mut [i16],
     used: usize,
@@ -29,7 +23,7 @@ pub fn append_rule(
     lent: usize,
     symbols: &[u8],
     truth: &[bool],
-) -> Appended
+) -> Result<usize, Refusal>
     requires symbols_len_bound { (length symbols.now ≤ 8) × (all (leb 1) symbols.now ≡ true) × (length truth.now ≡ 2 ^ length symbols.now) }
     requires used_le_lent { (used ≤ lent) × (lent ≤ 2048) × (width * lent ≤ length table.old) × (rules ≤ most_rules) }
     ensures value { result ≡ answer_of (rule_by symbols.now truth.now) used rules lent }

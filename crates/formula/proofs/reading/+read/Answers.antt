@@ -13,11 +13,11 @@ known : {depth : ℕ} {bytes : List ℕ} {told kind : Kind} → (depth ≡ 0 →
 known d l e is = record { deep = omega arith; long = omega arith; says = sym e ∙ is }
 
 pub returns-then-depth-eq0 : goal.returns-then-depth-eq0
-returns-then-depth-eq0 t c = sym (ap read_of (parse_deep c.args.symbols c.args.depth c.args.bytes.now c.if-depth-eq0.true))
+returns-then-depth-eq0 t c = c.breaks.ensures ∙ sym (ap read_of (parse_deep c.args.symbols c.args.depth c.args.bytes.now c.if-depth-eq0.true))
 
 pub returns-then-bytes-eq0 : goal.returns-then-bytes-eq0
 returns-then-bytes-eq0 t c =
-    sym (ap read_of (parse_short c.args.symbols c.args.depth c.args.bytes.now (omega arith) c.if-bytes-eq0.true))
+    c.breaks-then-bytes-eq0.ensures ∙ sym (ap read_of (parse_short c.args.symbols c.args.depth c.args.bytes.now (omega arith) c.if-bytes-eq0.true))
 
 pub past_by-requires : goal.past_by-requires
 past_by-requires t c =
@@ -92,4 +92,4 @@ returns-in_ok-count-in-Two t c =
 pub returns-in-Unknown : goal.returns-in-Unknown
 returns-in-Unknown t c =
     let k = known c.if-depth-eq0.false c.if-bytes-eq0.false c.kind_of.ensures c.in-Unknown.is in
-    sym (ap read_of (by_unknown c.args.symbols k))
+    c.breaks-in-Unknown.ensures ∙ sym (ap read_of (by_unknown c.args.symbols k))

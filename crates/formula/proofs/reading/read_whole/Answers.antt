@@ -1,5 +1,5 @@
 -- `reading::read_whole` meets its contract.
-use Rattle.meaning.proofs.Kit.{◌≡◌, ◌≤◌, ap, arith, length}
+use Rattle.meaning.proofs.Kit.{◌≡◌, ◌∙◌, ◌≤◌, ap, arith, length}
 use Rattle.std.proofs.lemmas.Result.{err_from_is_err_and}
 use Rattle.formula.proofs.Words.{extent, levels}
 use Rattle.formula.proofs.Extents.{parse_extent}
@@ -12,7 +12,7 @@ returns-in_err-count c =
     rw (p.1, p.2) (whole_bad c.args.symbols c.args.bytes.now c.read.ensures c.in_err-count.was)
 
 pub returns-then-count-bytes : goal.returns-then-count-bytes
-returns-then-count-bytes c = whole_more c.args.symbols c.args.bytes.now c.read.ensures c.in_ok-count.was c.if-count-bytes.true
+returns-then-count-bytes c = c.breaks.ensures ∙ whole_more c.args.symbols c.args.bytes.now c.read.ensures c.in_ok-count.was c.if-count-bytes.true
 
 pub returns : goal.returns
 returns c = whole_used c.args.symbols c.args.bytes.now c.read.ensures c.in_ok-count.was
