@@ -1,5 +1,5 @@
 -- From the bytes of a formula that was read to its rule: its symbols as they are listed, its truth table, and what adding comes to.
-use Rattle.meaning.proofs.Kit.{◌≡◌, ◌∙◌, sym, ap, refl, subst, ap₂, ⊎_elim, true, false, Bool, cond, List, ◌++◌, map, ◌≤◌, ℕ, ◌-◌, suc, ◌*◌, ◌^◌, ◌%◌}
+use Rattle.meaning.proofs.Kit.{◌≡◌, ◌∙◌, sym, ap, refl, subst, ap₂, ⊎_elim, ◌⊎◌, inl, inr, true, false, Bool, cond, List, ◌++◌, map, ◌≤◌, ℕ, ◌-◌, suc, ◌*◌, ◌^◌, ◌%◌}
 use Rattle.meaning.proofs.Kit.{one-mul, arith, eqb, leb, ℤ, pow_mono, length, take, replicate, length-append, take_at, le-leb, leb-true}
 use native.Mathlib.Nat.{mod-eq_of_lt}
 use Rattle.meaning.specs.Tests.{all, from}
@@ -9,14 +9,13 @@ use Rattle.meaning.proofs.Tests.{true_or_false, clash, all_of, keep_in, from_in}
 use Rattle.literals.specs.Row.{of_rule}
 use Rattle.literals.specs.Refusals.{number_of}
 use Rattle.literals.specs.declared.refusal.Refusal.{Refusal}
-use Rattle.literals.specs.declared.refusal.Refusal.TheVariants.{BytesLeftOver}
+use Rattle.literals.specs.declared.refusal.Refusal.TheVariants.{BytesLeftOver, NoAssignment, TableFull}
 use Rattle.formula.specs.Parse.{Parsed, good, bad, parse, levels, ended, whole_of}
 use Rattle.formula.specs.Answers.{is_good, padded, named, names_of, truth_of, formula_of}
 use Rattle.formula.specs.declared.naming.Names.{Names}
 use Rattle.formula.proofs.Faults.{whole_faults}
 use Rattle.implicates.specs.Appending.{rule_by, fits, appended, answer_of, table_of}
-use Rattle.implicates.specs.declared.Appended.{Appended}
-use Rattle.std.specs.Prelude.{Ok, Err}
+use Rattle.std.specs.Prelude.{Result, Ok, Err}
 use Rattle.implicates.proofs.Rules.{answer_by_table, append_by_table}
 use Rattle.board.specs.Faults.{first_fault}
 use Rattle.board.specs.Rules.{rule_faults, no_place, place_told, rows_of_bytes, with_rules, ruled, ruled_table}
@@ -112,7 +111,7 @@ module _ (S : ℕ) (bytes names : List ℕ) (truth : List Bool) (g : is_good (wh
   table_is : truth ≡ map rule.accepts (assignments (length rule.symbols))
   table_is = t ∙ ap₂ truth_of e (sym (whole_is S bytes g)) ∙ truth_is S (whole_of S bytes) g
 
-  pub answer_is : (used rules : ℕ) {lent all : ℕ} {answer : Appended} → lent ≡ all → answer ≡ answer_of (rule_by names truth) used rules lent
+  pub answer_is : (used rules : ℕ) {lent all : ℕ} {answer : Result ℕ Refusal} → lent ≡ all → answer ≡ answer_of (rule_by names truth) used rules lent
       → answer ≡ answer_of (rule_of S (formula_of (whole_of S bytes))) used rules all
   answer_is used rules {all = all} l a = a ∙ rw (l, e) (answer_by_table rule truth table_is used rules all)
 
@@ -124,20 +123,20 @@ module _ (S : ℕ) (bytes names : List ℕ) (truth : List Bool) (g : is_good (wh
 
 module _ (rule : Rule) (used rules lent : ℕ) where
   -- what is known of the rule's two tests after each answer
-  abbrev pub Because : Appended → Type 0
-  Because (Err NoAssignment) = satisfiable rule ≡ false
-  Because (Err TableFull) = (satisfiable rule ≡ true) × (fits used rules lent (rows_of rule) ≡ false)
+  abbrev pub Because : Result ℕ Refusal → Type 0
+  Because (Err why) = ((why ≡ NoAssignment) × (satisfiable rule ≡ false))
+      ⊎ ((why ≡ TableFull) × (satisfiable rule ≡ true) × (fits used rules lent (rows_of rule) ≡ false))
   Because (Ok n) = (satisfiable rule ≡ true) × (fits used rules lent (rows_of rule) ≡ true) × (n ≡ length (rows_of rule))
 
-  pub because : {answer : Appended} → answer_of rule used rules lent ≡ answer → Because answer
+  pub because : {answer : Result ℕ Refusal} → answer_of rule used rules lent ≡ answer → Because answer
   unfolding answer_of
   because {answer} e = subst Because e (go (satisfiable rule) (fits used rules lent (rows_of rule)) refl refl)
     where
       go : (s enough : Bool) → satisfiable rule ≡ s → fits used rules lent (rows_of rule) ≡ enough
           → Because (cond s (cond enough (Ok (length (rows_of rule))) (Err TableFull)) (Err NoAssignment))
       go true true s f = (s, f, refl)
-      go true false s f = (s, f)
-      go false enough s f = s
+      go true false s f = inr (refl, s, f)
+      go false enough s f = inl (refl, s)
 
 -- ---- the answer and the table after it, where adding is refused and where it is done
 
@@ -149,7 +148,7 @@ module _ (table : List ℤ) (b : Board) (bytes : List ℕ) where
   rule_refused why e p = rw (e, sym p) (refl, refl)
 
   pub rule_done : first_fault (rule_faults table b bytes) ≡ Ok tt → let rows = rows_of_bytes b.symbols bytes in
-      (record { outcome = (Ok tt); place = no_place; added = length rows; board = with_rules b (length rows) 1 } ≡ ruled table b bytes)
+      (record { outcome = Ok tt; place = no_place; added = length rows; board = with_rules b (length rows) 1 } ≡ ruled table b bytes)
       × (appended table b.rows (of_rule (suc b.rules) rows) ≡ ruled_table table b bytes)
   unfolding ruled ruled_table
   rule_done e = rw e (refl, refl)

@@ -13,7 +13,7 @@ use Rattle.board.specs.Faults.{Outcome}
 use Rattle.std.specs.Prelude.{Ok, Err}
 use Rattle.board.specs.declared.rules.Addition.{Addition}
 
-pub refused_not_done : {X : Type 0} {why : Refusal} → Err why ≡ Ok tt → X
+pub refused_not_done : {X : Type 0} {why : Refusal} → ◌≡◌ {A = Outcome} (Err why) (Ok tt) → X
 refused_not_done e = let z : ◌≡◌ {A = ℕ} 0 1 = cc in absurd (omega arith)
 
 -- the faults of two lists: the first of the first, and only where there is none the first of the second

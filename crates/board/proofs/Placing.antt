@@ -8,8 +8,7 @@ use Rattle.board.specs.Furnaces.{is_furnace}
 use Rattle.board.specs.Faults.{good_board, Fault, first_fault}
 use Rattle.board.specs.Placing.{placed}
 use Rattle.board.specs.declared.Board.{Board}
-use Rattle.std.specs.Prelude.{Ok, Err}
-use Rattle.board.specs.declared.testing.Placed.{Placed}
+use Rattle.std.specs.Prelude.{Result, Ok, Err}
 use Rattle.board.proofs.Goodness.{Good, good_is}
 use Rattle.literals.proofs.Arguments.{place_fits}
 
@@ -31,9 +30,9 @@ literal_faults table b furnace l own =
     ∷ own
 
 -- `answer` is what `place_on` ensures of the literal as the machine reads it back
-module _ (table : List ℤ) (b : Board) (furnace : ℕ) {l : ℤ} (f : SFits w16 l) {answer : Placed} (is : answer ≡ placed table b furnace (back l)) where
+module _ (table : List ℤ) (b : Board) (furnace : ℕ) {l : ℤ} (f : SFits w16 l) {answer : Result ℕ Refusal} (is : answer ≡ placed table b furnace (back l)) where
   -- what is placed where the three tests come out so
-  abbrev placed_if : (good furnace range : Bool) → Placed
+  abbrev placed_if : (good furnace range : Bool) → Result ℕ Refusal
   placed_if g h i =
       cond g (cond h (cond i (Ok (place_of l)) (Err BadLiteral)) (Err BadFurnace)) (Err BadBoard)
 

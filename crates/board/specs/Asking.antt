@@ -1,10 +1,11 @@
 -- Ask and explain.
-use Rattle.std.specs.Prelude.{ℕ, ◌+◌, ◌-◌, ◌*◌, ◌≡◌, Bool, cond, not, ◌&&◌, ◌||◌, List, [], ◌∷◌, ℤ, length, take, drop}
+use Rattle.std.specs.Prelude.{Result, Ok, Err, ℕ, ◌+◌, ◌-◌, ◌*◌, ◌≡◌, Bool, cond, not, ◌&&◌, ◌||◌, List, [], ◌∷◌, ℤ, length, take, drop}
 use Rattle.std.specs.Borrow.{Bor}
 use Rattle.meaning.specs.Tests.{none}
 use Rattle.meaning.specs.Literals.{opp, has, conflict}
 use Rattle.literals.specs.Literal.{in_range, place_of}
 use Rattle.literals.specs.Row.{width, numbers_at, rule_at, decode}
+use Rattle.literals.specs.declared.refusal.Refusal.{Refusal}
 use Rattle.literals.specs.declared.refusal.Refusal.TheVariants.{BadBoard, BadLiteral, NothingToShow, BadFurnace}
 use Rattle.board.specs.Furnaces.{is_furnace, held_by}
 use Rattle.board.specs.Faults.{good_board, Fault, first_fault, if_done}
@@ -12,7 +13,6 @@ use Rattle.board.specs.Ranking.{derived_on, rank_on, support_on}
 use Rattle.board.specs.declared.Board.{Board}
 use Rattle.board.specs.declared.asking.Standing.{Standing}
 use Rattle.board.specs.declared.asking.Standing.TheVariants.{Conflict, Stands, RuledOut, Open}
-use Rattle.std.specs.Prelude.{Err}
 use Rattle.board.specs.declared.asking.Reason.{Reason}
 
 -- ---- Ask. Here and in what follows, what is derived is so for the furnace that is named (02, Ticket 6).
@@ -34,15 +34,17 @@ standing_if clash derived opposed = cond clash Conflict (cond derived Stands (co
 abbrev pub standing : List Bool → ℕ → Standing
 standing known p = standing_if (has known p && has known (opp p)) (has known p) (has known (opp p))
 
-unfoldable pub asked : List ℤ → Board → (furnace : ℕ) → ℤ → Standing
-asked table b furnace l = if_done (first_fault (ask_faults table b furnace l)) (standing (derived_on table b furnace) (place_of l)) Err
+unfoldable pub asked : List ℤ → Board → (furnace : ℕ) → ℤ → Result Standing Refusal
+asked table b furnace l =
+    if_done (first_fault (ask_faults table b furnace l)) (Ok (standing (derived_on table b furnace) (place_of l))) (λ why. Err why)
 
 -- "The old answer stays as a second call": 01, "conflict, if the board is in conflict; else .."
 abbrev pub standing_whole : List Bool → ℕ → Standing
 standing_whole known p = standing_if (conflict known) (has known p) (has known (opp p))
 
-unfoldable pub asked_whole : List ℤ → Board → (furnace : ℕ) → ℤ → Standing
-asked_whole table b furnace l = if_done (first_fault (ask_faults table b furnace l)) (standing_whole (derived_on table b furnace) (place_of l)) Err
+unfoldable pub asked_whole : List ℤ → Board → (furnace : ℕ) → ℤ → Result Standing Refusal
+asked_whole table b furnace l =
+    if_done (first_fault (ask_faults table b furnace l)) (Ok (standing_whole (derived_on table b furnace) (place_of l))) (λ why. Err why)
 
 -- ---- "Explain returns the supporting row as that part of the caller's table, its literals without the zeros, with rank and row number."
 -- 02, Ticket 8: it "returns the rule's number besides the literals, 0 when refused"

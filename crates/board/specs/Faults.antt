@@ -1,12 +1,10 @@
 -- 01, "Numbers of the refusals": when each is given, and which comes first.
-use Rattle.std.specs.Prelude.{ℕ, ◌*◌, Bool, cond, not, ◌&&◌, List, [], ◌∷◌, leb, ℤ, drop}
+use Rattle.std.specs.Prelude.{Result, Ok, Err, ℕ, ◌*◌, Bool, cond, not, ◌&&◌, List, [], ◌∷◌, leb, ℤ, drop}
 use Rattle.meaning.specs.Tests.{any}
 use Rattle.literals.specs.Row.{most_rules, rows_lent, rows_sound}
 use Rattle.literals.specs.Refusals.{number_of}
 use Rattle.literals.specs.declared.refusal.Refusal.{Refusal}
 use Rattle.board.specs.declared.Board.{Board}
-use Rattle.board.specs.Faults.{Outcome}
-use Rattle.std.specs.Prelude.{Ok, Err}
 
 -- "a held premise is of a symbol beyond S"
 abbrev pub beyond : ℕ → List Bool → Bool
@@ -31,9 +29,13 @@ pub record Fault : Type 0 where
   pub given : Bool
   pub refusal : Refusal
 
+-- what a call comes to: it is done, or refused, and why
+abbrev pub Outcome : Type 0
+Outcome = Result (Unit {0}) Refusal
+
 -- the first case that is given; where none is, the call is done
 abbrev pub first_fault : List Fault → Outcome
-first_fault [] = (Ok tt)
+first_fault [] = Ok tt
 first_fault (f ∷ fs) = cond f.given (Err f.refusal) (first_fault fs)
 
 -- what a call answers: this if it is done, and otherwise that

@@ -1,6 +1,6 @@
 // Ask and explain: one literal at a time, nothing written.
 
-ghost use Rattle.std.specs.Prelude.{◌≡◌, cond, ◌*◌, ◌≤◌, nat_abs, length};
+ghost use Rattle.std.specs.Prelude.{◌≡◌, cond, ◌*◌, ◌≤◌, nat_abs, length, Err};
 ghost use Rattle.meaning.specs.Tests.{none};
 ghost use Rattle.meaning.specs.Literals.{has};
 ghost use Rattle.literals.specs.Literal.{place_of};
@@ -8,7 +8,7 @@ ghost use Rattle.findings.specs.Ranks.{below};
 ghost use Rattle.board.specs.Asking.{standing_if, standing, asked, standing_whole, asked_whole, explain_numbers, explain_part, IsPart};
 
 use crate::furnaces::premises;
-use crate::testing::{Placed, place_on};
+use crate::testing::place_on;
 use crate::{Board, Outcome};
 use findings::NONE;
 use literals::WIDTH;
@@ -75,38 +75,40 @@ fn standing_by(ranks: &[u16], l: i16, whole: bool) -> Standing
 }
 
 // The code behind both calls that ask: they differ in what is a conflict for the literal.
-fn answer(board: Board, table: &[i16], furnace: u8, l: i16, whole: bool) -> Standing
+fn answer(
+    board: Board,
+    table: &[i16],
+    furnace: u8,
+    l: i16,
+    whole: bool,
+) -> Result<Standing, Refusal>
     ensures { result ≡ cond whole (asked_whole table.now board furnace l) (asked table.now board furnace l) }
 {
-    match place_on(board, table, furnace, l) {
-        Err(why) => Err(why),
-        Ok(_) => {
-            let places = 2 * board.symbols;
-            let held = premises(&board.first, &board.second, furnace);
-            let mut ranks = [NONE; 400];
-            let mut none = [NONE; 1];
-            rounds::propagation::propagate(
-                table,
-                board.rows,
-                held,
-                &mut ranks[..places],
-                0,
-                &mut none[..0],
-            );
-            standing_by(&ranks[..places], l, whole)
-        }
-    }
+    place_on(board, table, furnace, l)?;
+    let places = 2 * board.symbols;
+    let held = premises(&board.first, &board.second, furnace);
+    let mut ranks = [NONE; 400];
+    let mut none = [NONE; 1];
+    rounds::propagation::propagate(
+        table,
+        board.rows,
+        held,
+        &mut ranks[..places],
+        0,
+        &mut none[..0],
+    );
+    Ok(standing_by(&ranks[..places], l, whole))
 }
 
 // Answers for one literal, by a furnace's premises: conflict only where the literal and its opposite are both derived.
-pub fn ask(board: Board, table: &[i16], furnace: u8, l: i16) -> Standing
+pub fn ask(board: Board, table: &[i16], furnace: u8, l: i16) -> Result<Standing, Refusal>
     ensures { result ≡ asked table.now board furnace l }
 {
     answer(board, table, furnace, l, false)
 }
 
 // The answer of the whole board: conflict for every literal where the furnace is in conflict anywhere.
-pub fn ask_whole(board: Board, table: &[i16], furnace: u8, l: i16) -> Standing
+pub fn ask_whole(board: Board, table: &[i16], furnace: u8, l: i16) -> Result<Standing, Refusal>
     ensures { result ≡ asked_whole table.now board furnace l }
 {
     answer(board, table, furnace, l, true)

@@ -1,11 +1,11 @@
 // Open, hold and withdraw: the calls that change the board and no table.
 
-ghost use Rattle.std.specs.Prelude.{◌≡◌, ◌<◌, set};
+ghost use Rattle.std.specs.Prelude.{◌≡◌, ◌<◌, set, Err};
 ghost use Rattle.board.specs.Furnaces.{held_by, with_held};
 ghost use Rattle.board.specs.Changes.{empty_board, opened, flag_changed, hold_answer, withdraw_answer};
 
 use crate::furnaces::premises;
-use crate::testing::{Placed, place_on};
+use crate::testing::place_on;
 use crate::{Board, Change, Outcome};
 use literals::refusal::Refusal;
 

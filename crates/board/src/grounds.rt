@@ -4,7 +4,7 @@ ghost use Rattle.std.specs.Prelude.{◌≡◌, ◌≤◌, ◌++◌, map, length,
 ghost use Rattle.board.specs.Grounds.{byte_of, ground_outcome, ground_marks, blame_outcome, blame_marks};
 
 use crate::furnaces::premises;
-use crate::testing::{Placed, good, is_furnace, place_on};
+use crate::testing::{good, is_furnace, place_on};
 use crate::{Board, Outcome};
 use findings::NONE;
 use literals::refusal::Refusal;
@@ -27,31 +27,27 @@ pub fn ground(board: Board, table: &[i16], furnace: u8, l: i16, marks: &mut [u8]
     ensures value { result ≡ ground_outcome table.now board furnace l marks.old }
     ensures marks_after { marks.new ≡ ground_marks table.now board furnace l marks.old }
 {
-    match place_on(board, table, furnace, l) {
-        Err(why) => Err(why),
-        Ok(p) => {
-            let places = 2 * board.symbols;
-            if marks.len() < places {
-                return Err(Refusal::TableTooShort);
-            }
-            let held = premises(&board.first, &board.second, furnace);
-            let mut ranks = [NONE; 400];
-            let mut reached = [false; 400];
-            rounds::propagation::trace(
-                table,
-                board.rows,
-                held,
-                &mut ranks[..places],
-                p,
-                &mut reached[..places],
-            );
-            if ranks[p] == NONE {
-                return Err(Refusal::NothingToShow);
-            }
-            write_marks(&reached[..places], marks);
-            Ok(())
-        }
+    let p = place_on(board, table, furnace, l)?;
+    let places = 2 * board.symbols;
+    if marks.len() < places {
+        return Err(Refusal::TableTooShort);
     }
+    let held = premises(&board.first, &board.second, furnace);
+    let mut ranks = [NONE; 400];
+    let mut reached = [false; 400];
+    rounds::propagation::trace(
+        table,
+        board.rows,
+        held,
+        &mut ranks[..places],
+        p,
+        &mut reached[..places],
+    );
+    if ranks[p] == NONE {
+        return Err(Refusal::NothingToShow);
+    }
+    write_marks(&reached[..places], marks);
+    Ok(())
 }
 
 // Marks the premises of a furnace that the symbol that blame takes stands on, by either of its literals: `trace`, given no place, finds it.

@@ -24,12 +24,8 @@ pub struct Board {
     pub second: [bool; 400],
 }
 
-// What a call comes to.
-#[derive(Clone, Copy)]
-pub enum Outcome {
-    Done,
-    Refused(Refusal),
-}
+// What a call comes to: it is done, or refused, and why.
+pub type Outcome = Result<(), Refusal>;
 
 // What open, hold and withdraw answer.
 #[derive(Clone, Copy)]

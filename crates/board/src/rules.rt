@@ -1,6 +1,6 @@
 // Adding a rule: from its bytes to rows in the caller's table.
 
-ghost use Rattle.std.specs.Prelude.{◌≡◌, true, ◌≤◌, length};
+ghost use Rattle.std.specs.Prelude.{◌≡◌, true, ◌≤◌, length, Err};
 ghost use Rattle.meaning.specs.Formulae.{symbols_of, rule_of};
 ghost use Rattle.literals.specs.Row.{most_rules, rows_lent};
 ghost use Rattle.formula.specs.Parse.{whole_of};
@@ -11,8 +11,6 @@ ghost use Rattle.board.specs.Rules.{ruled, ruled_table};
 
 use crate::testing::good;
 use crate::{Board, Outcome};
-use formula::reading::Answer;
-use implicates::Appended;
 use literals::refusal::Refusal;
 
 // What stands for a place where none is told: no bytes lent are so many that one of them has it.
@@ -48,7 +46,7 @@ fn append(
     bytes: &[u8],
     symbols: usize,
     names: &[u8],
-) -> Appended
+) -> Result<usize, Refusal>
     requires symbols_bound { (symbols ≤ 200) × (rules ≤ most_rules) × (rows ≤ rows_lent table.old) × (is_good (whole_of symbols bytes.now) ≡ true) }
     requires names_len_bound { (length names.now ≤ 8) × (names.now ≡ symbols_of symbols (formula_of (whole_of symbols bytes.now))) }
     ensures value { result ≡ answer_of (rule_of symbols (formula_of (whole_of symbols bytes.now))) rows rules (rows_lent table.old) }
@@ -84,8 +82,7 @@ fn add_formula(board: Board, table: &mut [i16], bytes: &[u8]) -> Addition
         board.symbols,
         &list[..count],
     ) {
-        Err(Refusal::NoAssignment) => refused(board, Refusal::NoAssignment, NO_PLACE),
-        Err(Refusal::TableFull) => refused(board, Refusal::TableFull, NO_PLACE),
+        Err(why) => refused(board, why, NO_PLACE),
         Ok(added) => {
             let mut next = board;
             next.rows = board.rows + added;
@@ -109,7 +106,7 @@ pub fn add_rule(board: Board, table: &mut [i16], bytes: &[u8]) -> Addition
         return refused(board, Refusal::BadBoard, NO_PLACE);
     }
     match formula::reading::read_whole(bytes, board.symbols) {
-        Err(Break { why, place }) => refused(board, why, place),
+        Err(at) => refused(board, at.why, at.place),
         Ok(_) => add_formula(board, table, bytes),
     }
 }

@@ -1,6 +1,6 @@
 // Settle: labels, ranks and supports into three lent tables.
 
-ghost use Rattle.std.specs.Prelude.{◌≡◌};
+ghost use Rattle.std.specs.Prelude.{◌≡◌, Ok};
 ghost use Rattle.board.specs.Settling.{settle_outcome, settled_labels, settled_ranks, settled_supports, RanksBounded};
 
 use crate::furnaces::premises;

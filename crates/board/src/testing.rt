@@ -9,13 +9,6 @@ ghost use Rattle.board.specs.Placing.{placed};
 use crate::Board;
 use literals::refusal::Refusal;
 
-// The place of a literal that a call for a furnace is given, or why it is refused: the board, the furnace or the literal.
-#[derive(Clone, Copy)]
-pub enum Placed {
-    At(usize),
-    Refused(Refusal),
-}
-
 // Whether a premise stands at `places` or beyond.
 fn held_beyond(held: &[bool], places: usize) -> bool
     ensures { result ≡ any (λ h. h) (drop places held.now) }
@@ -65,8 +58,8 @@ pub fn is_furnace(furnace: u8) -> bool
     furnace == 2
 }
 
-// The place of a literal of a good board, for a furnace.
-pub fn place_on(board: Board, table: &[i16], furnace: u8, l: i16) -> Placed
+// The place of a literal of a good board, for a furnace; or why the call is refused: the board, the furnace or the literal.
+pub fn place_on(board: Board, table: &[i16], furnace: u8, l: i16) -> Result<usize, Refusal>
     ensures { result ≡ placed table.now board furnace l }
 {
     if !good(board, table) {

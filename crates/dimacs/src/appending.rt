@@ -1,6 +1,6 @@
 // The clauses of a text that was surveyed, written as rows into the caller's table.
 
-ghost use Rattle.std.specs.Prelude.{◌≡◌, true, suc, ◌+◌, ◌*◌, ◌≤◌, ltb, length, take};
+ghost use Rattle.std.specs.Prelude.{◌≡◌, true, suc, ◌+◌, ◌*◌, ◌≤◌, ltb, length, take, Ok};
 ghost use Rattle.meaning.specs.Tests.{all};
 ghost use Rattle.meaning.specs.SecondWay.{rules_of};
 ghost use Rattle.literals.specs.Row.{most_literals, most_rules, of_rule, of_rules, rows_lent, width};

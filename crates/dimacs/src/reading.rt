@@ -1,6 +1,6 @@
 // Reading a text onto a board: all of its clauses or none.
 
-ghost use Rattle.std.specs.Prelude.{◌≡◌, true, ◌+◌, ◌≤◌, length};
+ghost use Rattle.std.specs.Prelude.{◌≡◌, true, ◌+◌, ◌≤◌, length, Ok, Err};
 ghost use Rattle.literals.specs.Row.{most_rules};
 ghost use Rattle.board.specs.Faults.{good_board};
 ghost use Rattle.board.specs.Rules.{with_rules};

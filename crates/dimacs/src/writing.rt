@@ -1,6 +1,6 @@
 // The rows in use as DIMACS text, in a buffer that is lent: first how long each piece is, then the pieces.
 
-ghost use Rattle.std.specs.Prelude.{◌≡◌, leb, ◌+◌, ◌*◌, ◌<◌, ◌≤◌, length};
+ghost use Rattle.std.specs.Prelude.{◌≡◌, leb, ◌+◌, ◌*◌, ◌<◌, ◌≤◌, length, Err};
 ghost use Rattle.literals.specs.Row.{width};
 ghost use Rattle.spelling.specs.Text.{literal, natural, Put};
 ghost use Rattle.dimacs.specs.Writing.{clause_at, clause_line, clause_lines, clauses_at, counts_line, text_of, write_answer, write_bytes};

@@ -1,6 +1,6 @@
 // The call: its tests in the order of the documents, then the search.
 
-ghost use Rattle.std.specs.Prelude.{◌≡◌, true, ◌*◌, ◌≤◌, ltb, length};
+ghost use Rattle.std.specs.Prelude.{◌≡◌, true, ◌*◌, ◌≤◌, ltb, length, Err};
 ghost use Rattle.meaning.specs.Tests.{all, none};
 ghost use Rattle.meaning.specs.Literals.{has};
 ghost use Rattle.literals.specs.Literal.{in_range};

@@ -1,6 +1,6 @@
 // What entering answers once all is added.
 
-ghost use Rattle.std.specs.Prelude.{◌≡◌, ◌+◌, ◌≤◌};
+ghost use Rattle.std.specs.Prelude.{◌≡◌, ◌+◌, ◌≤◌, Ok};
 ghost use Rattle.literals.specs.Row.{most_rules};
 ghost use Rattle.board.specs.Rules.{no_place, with_rules};
 

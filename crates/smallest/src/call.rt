@@ -1,6 +1,6 @@
 // The call: its tests in the order of the documents, then the search, and what it lists, counted and written.
 
-ghost use Rattle.std.specs.Prelude.{◌≡◌, true, false, ◌∷◌, ◌*◌, ◌^◌, ◌≤◌, length, ltb};
+ghost use Rattle.std.specs.Prelude.{◌≡◌, true, false, ◌∷◌, ◌*◌, ◌^◌, ◌≤◌, length, ltb, Err};
 ghost use Rattle.meaning.specs.Tests.{all};
 ghost use Rattle.literals.specs.Literal.{in_range};
 ghost use Rattle.board.specs.Faults.{good_board};

@@ -1,6 +1,6 @@
 // The four calls that are lent the record: open, withdraw, push and pop.
 
-ghost use Rattle.std.specs.Prelude.{◌≡◌};
+ghost use Rattle.std.specs.Prelude.{◌≡◌, Err};
 ghost use Rattle.stack.specs.Steps.{opened_with, withdrawn_with, pushed, popped};
 
 use crate::record::{empty_stacks, less_top, on_top, stack_of, top_of};

@@ -6,7 +6,7 @@ pub mod adding;
 pub mod reading;
 pub mod writing;
 
-ghost use Rattle.std.specs.Prelude.{◌≡◌};
+ghost use Rattle.std.specs.Prelude.{◌≡◌, Err};
 
 use board::Outcome;
 use literals::refusal::Refusal;

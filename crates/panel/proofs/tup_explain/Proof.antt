@@ -16,11 +16,11 @@ numbers : (c : tie.After-explain_numbers-reason)
 numbers c = rw (← c.board_in.ensures, ← to_z-of_z c.ranges.l) c.explain_numbers-reason.ensures
 
 -- where the call is done
-done : (c : tie.In-Done) → (explain_numbers c.args.table.now (board_in c.args.given) c.args.furnace c.args.l).outcome ≡ Ok tt
+done : (c : tie.In-Ok) → (explain_numbers c.args.table.now (board_in c.args.given) c.args.furnace c.args.l).outcome ≡ Ok tt
 done c = sym (ap (λ (r : Reason). r.outcome) (numbers c.before)) ∙ c.in-Ok.is
 
 -- the row is in the table
-inside : (c : tie.In-Done) → width * c.explain_numbers-reason.result.row + most_literals ≤ length c.args.table.now
+inside : (c : tie.In-Ok) → width * c.explain_numbers-reason.result.row + most_literals ≤ length c.args.table.now
 inside c =
     let used = row_used c.args.table.now (board_in c.args.given) c.args.furnace c.args.l (done c) in
     omega (arith, ap (λ (r : Reason). r.row) (numbers c.before), used.0, used.2)

@@ -22,7 +22,7 @@ outcome : (c : tie.After-explain_numbers-reason) → (reason c.before).outcome �
 outcome c = ap (λ (r : Reason). r.outcome) (sym (numbers c))
 
 -- the row is in the table
-inside : (c : tie.In-Done) → let n = c.before in let row = n.explain_numbers-reason.result.row in
+inside : (c : tie.In-Ok) → let n = c.before in let row = n.explain_numbers-reason.result.row in
     (row < 2048) × (width * row + width ≤ length n.before.args.table.now)
 inside c =
     let n = c.before in

@@ -29,18 +29,18 @@ held c = c.before.before.before.before.before
 abbrev chosen : tie.After-propagate → tie.After-premises-held
 chosen c = c.before.before.before
 
-abbrev tested : tie.After-premises-held → tie.In-At
+abbrev tested : tie.After-premises-held → tie.In-Ok
 tested c = c.before.before.before.before.before
 
-abbrev start : tie.In-At → tie.Start
+abbrev start : tie.In-Ok → tie.Start
 start c = c.before.before
 
 -- the place that the call looks at
-at : (c : tie.In-At) → let s = start c in
+at : (c : tie.In-Ok) → let s = start c in
     PlacedAt s.args.table.now s.args.board s.args.furnace s.args.l c.in-Ok.p
 at c = let s = start c in placed_at _ _ _ s.ranges.l c.place_on.ensures c.in-Ok.is
 
-small : (c : tie.In-At) → 2 * (start c).args.board.symbols < none
+small : (c : tie.In-Ok) → 2 * (start c).args.board.symbols < none
 small c = omega (arith, (at c).good.sound.symbols)
 
 -- the premises are the furnace's

@@ -8,18 +8,18 @@ use Rattle.board.proofs.changes.change_flag.Statement.{statement}
 use Rattle.board.proofs.changes.change_flag.Tie as tie
 
 -- where the tests have passed, and where the call began
-abbrev tested : tie.After-premises-held → tie.In-At
+abbrev tested : tie.After-premises-held → tie.In-Ok
 tested c = c.before.before.before.before.before
 
-abbrev start : tie.In-At → tie.Start
+abbrev start : tie.In-Ok → tie.Start
 start c = c.before.before
 
 -- the place that the call looks at
-at : (c : tie.In-At) → let s = start c in
+at : (c : tie.In-Ok) → let s = start c in
     PlacedAt s.args.table.now s.args.board s.args.furnace s.args.l c.in-Ok.p
 at c = let s = start c in placed_at _ _ _ s.ranges.l c.place_on.ensures c.in-Ok.is
 
-low : (c : tie.In-At) → c.in-Ok.p < 400
+low : (c : tie.In-Ok) → c.in-Ok.p < 400
 low c = let p = at c in omega (arith, p.low, p.good.sound.symbols)
 
 -- the premises are the furnace's

@@ -5,7 +5,7 @@ use Rattle.literals.proofs.Signed.{back_abs}
 use Rattle.board.specs.Furnaces.{is_furnace}
 use Rattle.board.specs.Faults.{good_board}
 use Rattle.board.specs.Placing.{placed}
-use Rattle.std.specs.Prelude.{Ok, Err}
+use Rattle.std.specs.Prelude.{Ok}
 use Rattle.board.proofs.Goodness.{good_is}
 use Rattle.literals.proofs.Arguments.{place_is, range_facts, range_is}
 use Rattle.board.proofs.testing.place_on.Statement.{statement}

@@ -42,12 +42,12 @@ found c =
     (rw c.before.rows_lent-lent.ensures at c.survey_clauses-found.ensures)
 
 -- nothing is at fault
-nothing : (c : tie.In-Done) → let s = start c.before in let b = s.args.board in
+nothing : (c : tie.In-Ok) → let s = start c.before in let b = s.args.board in
     first_fault (text_faults b.symbols b.rows b.rules (rows_lent s.args.table.now) (said s)) ≡ Ok tt
 nothing c = (found c.before).outcome ∙ c.in-Ok.is
 
 -- so there are as many clauses as the header counts
-whole : (c : tie.In-Done) → let s = start c.before in said s ≡ there s
+whole : (c : tie.In-Ok) → let s = start c.before in said s ≡ there s
 whole c =
     let s = start c.before in
     let b = s.args.board in

@@ -5,7 +5,7 @@ use Rattle.dimacs.proofs.Judging.{with_refused, with_fault, with_done}
 use Rattle.dimacs.proofs.survey.with_clause.Statement.{statement}
 use Rattle.dimacs.proofs.survey.with_clause.Tie as tie
 
-abbrev done : tie.After-judge → tie.In-Done
+abbrev done : tie.After-judge → tie.In-Ok
 done j = j.before.before.before
 
 abbrev start : tie.After-judge → tie.Start

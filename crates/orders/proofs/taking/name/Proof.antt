@@ -6,7 +6,7 @@ use Rattle.orders.proofs.Named.{named_fits, slot_written, unmade}
 use Rattle.orders.proofs.taking.name.Statement.{statement}
 use Rattle.orders.proofs.taking.name.Tie as tie
 
-fits : (c : tie.In-Done) → let a = c.args in (1 ≤ a.symbol) × (a.symbol ≤ 200)
+fits : (c : tie.In-Ok) → let a = c.args in (1 ≤ a.symbol) × (a.symbol ≤ 200)
 fits c = named_fits _ _ _ _ _ c.judge_name-judged.ensures c.in-Ok.is
 
 returns : tie.Need-returns-in-Ok

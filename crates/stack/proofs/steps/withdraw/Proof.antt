@@ -34,10 +34,10 @@ says : (c : tie.After-withdraw-change) → let a = (start c).args in
 says c = ap (λ r. r.outcome) (sym (same c))
 
 -- where it is done
-abbrev at : tie.In-Done → tie.After-withdraw-change
+abbrev at : tie.In-Ok → tie.After-withdraw-change
 at c = c.before
 
-done : (c : tie.In-Done) → let a = (start (at c)).args in (withdraw_answer a.table.now a.board a.furnace a.l).outcome ≡ Ok tt
+done : (c : tie.In-Ok) → let a = (start (at c)).args in (withdraw_answer a.table.now a.board a.furnace a.l).outcome ≡ Ok tt
 done c = says (at c) ∙ c.in-Ok.is
 
 -- whether it is stacked

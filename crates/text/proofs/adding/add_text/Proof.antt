@@ -7,7 +7,7 @@ use Rattle.text.proofs.adding.add_text.Statement.{statement}
 use Rattle.text.proofs.adding.add_text.Tie as tie
 
 -- the text keeps the form
-keeps : (c : tie.In-Used) → is_good (whole_text c.args.text.now) ≡ true
+keeps : (c : tie.In-Ok) → is_good (whole_text c.args.text.now) ≡ true
 keeps c = ap is_good (answer_good (whole_text c.args.text.now) (sym c.in-Ok.ensures)).1
 
 returns_2 : tie.Need-returns-in-Ok

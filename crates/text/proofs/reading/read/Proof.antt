@@ -35,7 +35,7 @@ returns_3 c =
     (text_place_lem a.board.symbols a.text.now e) c.refused-in-Err.ensures
 
 -- the text keeps the form
-keeps : (c : tie.In-Used) → is_good (whole_text c.args.text.now) ≡ true
+keeps : (c : tie.In-Ok) → is_good (whole_text c.args.text.now) ≡ true
 keeps c = ap is_good (answer_good (whole_text c.args.text.now) (sym c.in-Ok.ensures)).1
 
 returns_4 : tie.Need-returns-in-Err-judge
@@ -53,7 +53,7 @@ record Sized (S : ℕ) (text : List ℕ) (size : ℕ) : Type 0 where
   pub reads : is_good (read_in S text) ≡ true
   pub long : size ≡ length (bytes_in text)
 
-sized : (c : tie.In-Used-judge) → Sized c.args.board.symbols c.args.text.now c.in-Ok-judge.size
+sized : (c : tie.In-Ok-judge) → Sized c.args.board.symbols c.args.text.now c.in-Ok-judge.size
 sized c =
     let a = c.args in
     let S = a.board.symbols in

@@ -23,7 +23,7 @@ returns c =
     write_refused a.table.now a.board a.bytes.now a.out.now BadBoard (rw spoilt) refl c.refused.ensures
 
 -- the formula is read
-read : (c : tie.In-Used) → is_good (whole_of c.args.board.symbols c.args.bytes.now) ≡ true
+read : (c : tie.In-Ok) → is_good (whole_of c.args.board.symbols c.args.bytes.now) ≡ true
 read c =
     let a = c.args in
     ap is_good (answer_good (whole_of a.board.symbols a.bytes.now) (sym c.in-Ok.ensures)).1
