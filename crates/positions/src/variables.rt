@@ -14,7 +14,6 @@ use crate::testing::on_board;
 use board::Board;
 use board::rules::{Addition, NO_PLACE, refused};
 use board::testing::good;
-use implicates::Appended;
 use literals::refusal::Refusal;
 
 // Whether a variable may have so many positions: 2 to 7.
@@ -52,7 +51,7 @@ fn list_symbols(names: &mut [u8], first: usize)
 }
 
 // Appends the prime implicates of a variable's rule.
-fn append(table: &mut [i16], rows: usize, rules: usize, first: usize, count: usize) -> Appended
+fn append(table: &mut [i16], rows: usize, rules: usize, first: usize, count: usize) -> Result<usize, Refusal>
     requires { (1 ≤ first) × (first + count ≤ 201) × (count ≤ 7) × (rows ≤ rows_lent table.old) × (rules ≤ most_rules) }
     ensures value { result ≡ answer_of (rule_by (from first count) (only_one count)) rows rules (rows_lent table.old) }
     ensures table_after { table.new ≡ table_of (rule_by (from first count) (only_one count)) rows rules (rows_lent table.old)
@@ -74,8 +73,7 @@ fn enter(board: Board, table: &mut [i16], first: usize, count: usize) -> Additio
     ensures table_after { table.new ≡ entered_table table.old board (variable_of first count) }
 {
     match append(table, board.rows, board.rules, first, count) {
-        Err(Refusal::NoAssignment) => refused(board, Refusal::NoAssignment, NO_PLACE),
-        Err(Refusal::TableFull) => refused(board, Refusal::TableFull, NO_PLACE),
+        Err(why) => refused(board, why, NO_PLACE),
         Ok(added) => done(board, added, 1),
     }
 }
