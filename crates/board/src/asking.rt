@@ -21,7 +21,6 @@ pub enum Standing {
     Stands,
     RuledOut,
     Open,
-    Refused(Refusal),
 }
 
 // Why a literal stands: its rank and its supporting row, both 65535 where explain is refused, and the number of the rule that the row is from, 0

@@ -38,11 +38,14 @@ one_byte true = refl
 one_byte false = refl
 
 -- blame is done just where a conflict is left
-done_leaves : (c : Bool) → cond c (Ok tt) (Err NothingToShow) ≡ Ok tt → c ≡ true
+abbrev blamed_if : Bool → Outcome
+blamed_if c = cond c (Ok tt) (Err NothingToShow)
+
+done_leaves : (c : Bool) → blamed_if c ≡ Ok tt → c ≡ true
 done_leaves true e = refl
 done_leaves false e = refused_not_done e
 
-refused_ends : (c : Bool) {why : Refusal} → cond c (Ok tt) (Err NothingToShow) ≡ Err why → c ≡ false
+refused_ends : (c : Bool) {why : Refusal} → blamed_if c ≡ Err why → c ≡ false
 refused_ends true e = refused_not_done (sym e)
 refused_ends false e = refl
 
@@ -73,12 +76,12 @@ module _ (table : List ℤ) (b : Board) (furnace : ℕ) (places : List ℕ) (m :
 
       -- blame is refused just where no conflict is left
       pub blamed_left : blame_outcome table (struck_on b furnace places m) furnace marks
-          ≡ cond (leaves_conflict table b furnace (chosen places m)) (Ok tt) (Err NothingToShow)
+          ≡ blamed_if (leaves_conflict table b furnace (chosen places m))
       unfolding blame_outcome blame_faults
       blamed_left =
           rw (struck_good table b furnace places m low, good, named, room, same) (go (leaves_conflict table b furnace (chosen places m)))
         where
-          go : (c : Bool) → cond (not c) (Err NothingToShow) (Ok tt) ≡ cond c (Ok tt) (Err NothingToShow)
+          go : (c : Bool) → cond (not c) (Err NothingToShow) (Ok tt) ≡ blamed_if c
           go true = refl
           go false = refl
 
@@ -90,7 +93,7 @@ module _ (table : List ℤ) (b : Board) (furnace : ℕ) (places : List ℕ) (m :
       unfolding blame_marks struck_on with_held
       written c =
           ap (λ (o : Outcome). over o (map byte_of (blame b.symbols (rows_on table b) (held_by (struck_on b furnace places m) furnace))) marks)
-          (blamed_left ∙ ap (λ (t : Bool). cond t (Ok tt) (Err NothingToShow)) c)
+          (blamed_left ∙ ap blamed_if c)
           ∙ ap (λ (h : List Bool). over (Ok tt) (map byte_of (blame b.symbols (rows_on table b) h)) marks) (struck_held table b furnace places m named)
 
       -- and the candidates that it marks are the core
@@ -108,7 +111,7 @@ module _ (table : List ℤ) (b : Board) (furnace : ℕ) (places : List ℕ) (m :
       -- so what blame answers on the board with the set struck off tells the effect
       module _ {struck : Board} (is : struck ≡ struck_on b furnace places m) {o : Outcome}
           (answered : o ≡ blame_outcome table struck furnace marks) where
-        told : o ≡ cond (leaves_conflict table b furnace (chosen places m)) (Ok tt) (Err NothingToShow)
+        told : o ≡ blamed_if (leaves_conflict table b furnace (chosen places m))
         told = answered ∙ ap (λ (c : Board). blame_outcome table c furnace marks) is ∙ blamed_left
 
         pub leaves_told : o ≡ Ok tt → {now : List ℕ} → now ≡ blame_marks table struck furnace marks → {core : ℕ} → core ≡ marked_set now places

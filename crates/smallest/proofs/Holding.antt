@@ -2,6 +2,7 @@
 use Rattle.meaning.proofs.Kit.{◌≡◌, ◌∙◌, sym, ap, refl, inl, inr, ◌⊎◌, true, false, Bool, ◌&&◌, ◌||◌, or-false, or_assoc, List, [], ◌∷◌, In, ◌≤◌, ℕ}
 use Rattle.meaning.proofs.Kit.{◌<◌, suc, ◌*◌, zero, zero-le, arith, eqb, leb, ltb, ℤ, length, drop, replicate, set, length-set, length-replicate}
 use Rattle.meaning.proofs.Kit.{get_or-replicate, get_or-set_other, get_or-set_same, eq-eqb, eqb-true, eqb-false}
+use Rattle.std.specs.Prelude.{Ok}
 use Rattle.meaning.specs.Tests.{any, all, member}
 use Rattle.meaning.specs.Literals.{has}
 use Rattle.meaning.specs.Rounds.{derived}
@@ -94,8 +95,8 @@ module _ (table : List ℤ) (b : Board) (cands : List ℕ) (m : ℕ) (low : all 
       (2 * b.symbols)
 
   pub asked_alone : good_board table b ≡ true → (l : ℤ) → in_range b.symbols l ≡ true
-      → asked_whole table (alone_on b cands m) 1 l ≡ standing_whole (by_alone (2 * b.symbols) (rows_on table b) cands m) (place_of l)
+      → asked_whole table (alone_on b cands m) 1 l ≡ Ok (standing_whole (by_alone (2 * b.symbols) (rows_on table b) cands m) (place_of l))
   unfolding asked_whole ask_faults is_furnace held_by
   asked_alone g l r =
       rw (alone_good g, r)
-      (ap (λ (known : List Bool). standing_whole known (place_of l)) (derived_alone (omega (arith, (good_is table b g).sound.symbols))))
+      (ap (λ (known : List Bool). Ok (standing_whole known (place_of l))) (derived_alone (omega (arith, (good_is table b g).sound.symbols))))

@@ -14,6 +14,7 @@ use Rattle.candidates.proofs.ChosenSets.{fewer_inside, fewer_below, size_le}
 use Rattle.smallest.proofs.Smallest.{derives_more, clashes_more, one_fewer, of_carries}
 use Rattle.board.specs.Asking.{standing_whole}
 use Rattle.board.specs.declared.asking.Standing.TheVariants.{Conflict, Stands, RuledOut, Open}
+use Rattle.std.specs.Prelude.{Ok}
 use Rattle.smallest.specs.Search.{stops, note_of, notes_of, stops_fewer, standing_note, listed_in, listed_below}
 
 module _ (places : ℕ) (rows : List (List ℕ)) (cands : List ℕ) (p : ℕ) where
@@ -94,12 +95,12 @@ module _ (places : ℕ) (rows : List (List ℕ)) (cands : List ℕ) (p : ℕ) wh
 
   -- ---- the note
 
-  standing_noted : (m : ℕ) → smaller m ≡ false → standing_note (standing_whole (by_alone places rows cands m) p) ≡ note m
+  standing_noted : (m : ℕ) → smaller m ≡ false → standing_note (Ok (standing_whole (by_alone places rows cands m) p)) ≡ note m
   unfolding note_of carries derives clashes
   standing_noted m s =
       rw s (go (conflict (by_alone places rows cands m)) (has (by_alone places rows cands m) p) (has (by_alone places rows cands m) (opp p)))
     where
-      go : (c d o : Bool) → standing_note (cond c Conflict (cond d Stands (cond o RuledOut Open))) ≡ cond (d && (not c && true)) 2 (cond (c || d) 1 0)
+      go : (c d o : Bool) → standing_note (Ok (cond c Conflict (cond d Stands (cond o RuledOut Open)))) ≡ cond (d && (not c && true)) 2 (cond (c || d) 1 0)
       go true true o = refl
       go true false o = refl
       go false true o = refl
@@ -116,16 +117,16 @@ module _ (places : ℕ) (rows : List (List ℕ)) (cands : List ℕ) (p : ℕ) wh
         each i (inl e) = rw e (ap (λ (k : ℕ). not (eqb k 0)) (before (m - 2 ^ i) (fewer_below i m e)) ∙ stop_noted (m - 2 ^ i))
         each i (inr e) = rw e
 
-    pub note_is : cond (stops_fewer notes (length cands) m) 1 (standing_note (standing_whole (by_alone places rows cands m) p))
+    pub note_is : cond (stops_fewer notes (length cands) m) 1 (standing_note (Ok (standing_whole (by_alone places rows cands m) p)))
         ≡ note_of places rows cands p m
     note_is = ⊎_elim halted free (true_or_false (any (fewer m) (from 0 n)))
       where
         halted : any (fewer m) (from 0 n) ≡ true
-            → cond (stops_fewer notes n m) 1 (standing_note (standing_whole (by_alone places rows cands m) p)) ≡ note m
+            → cond (stops_fewer notes n m) 1 (standing_note (Ok (standing_whole (by_alone places rows cands m) p))) ≡ note m
         halted e = let r = stopped m l e in rw (fewer_noted, e) (sym (unfold note_of in rw (r.1, r.0)))
 
         free : any (fewer m) (from 0 n) ≡ false
-            → cond (stops_fewer notes n m) 1 (standing_note (standing_whole (by_alone places rows cands m) p)) ≡ note m
+            → cond (stops_fewer notes n m) 1 (standing_note (Ok (standing_whole (by_alone places rows cands m) p))) ≡ note m
         free e = rw (fewer_noted, e) (standing_noted m (gone_on m l e))
 
   -- ---- the list

@@ -1,6 +1,6 @@
 -- How the sets are searched, by number: a set that derives the literal, or is in conflict, stops the search, since no set that has it inside is
 -- listed. What is noted of each set tells which are.
-use Rattle.std.specs.Prelude.{ℕ, ◌-◌, ◌^◌, Bool, true, false, cond, not, ◌&&◌, ◌||◌, List, [], ◌∷◌, eqb, ℤ, length, get_or, set, replicate}
+use Rattle.std.specs.Prelude.{Result, Ok, Err, ℕ, ◌-◌, ◌^◌, Bool, true, false, cond, not, ◌&&◌, ◌||◌, List, [], ◌∷◌, eqb, ℤ, length, get_or, set, replicate}
 use Rattle.meaning.specs.Tests.{any, from, tabulate, bit}
 use Rattle.meaning.specs.BySize.{of_size, below_size}
 use Rattle.candidates.specs.Sets.{chosen, size, sets_of}
@@ -11,7 +11,7 @@ use Rattle.board.specs.declared.Board.{Board}
 use Rattle.board.specs.Faults.{Outcome}
 use Rattle.board.specs.declared.asking.Standing.{Standing}
 use Rattle.board.specs.declared.asking.Standing.TheVariants.{Conflict, Stands, RuledOut, Open}
-use Rattle.std.specs.Prelude.{Err}
+use Rattle.literals.specs.declared.refusal.Refusal.{Refusal}
 use Rattle.smallest.specs.Listing.{smallest_at, smallest_on, room_faults, candidate_faults, listed}
 use Rattle.smallest.specs.declared.Listing.{Listing}
 
@@ -50,11 +50,11 @@ unfoldable pub stops_fewer : List ℕ → (n m : ℕ) → Bool
 stops_fewer notes n m = any (λ i. bit i m && not (eqb (get_or notes (m - 2 ^ i) 0) 0)) (from 0 n)
 
 -- and by how the literal stands, of the whole board, with the set held alone
-abbrev pub standing_note : Standing → ℕ
-standing_note Conflict = 1
-standing_note Stands = 2
-standing_note RuledOut = 0
-standing_note Open = 0
+abbrev pub standing_note : Result Standing Refusal → ℕ
+standing_note (Ok Conflict) = 1
+standing_note (Ok Stands) = 2
+standing_note (Ok RuledOut) = 0
+standing_note (Ok Open) = 0
 standing_note (Err why) = 0
 
 -- ---- the sets listed, by their notes

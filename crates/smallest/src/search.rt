@@ -72,10 +72,10 @@ fn note(board: Board, table: &[i16], places: &[usize], l: i16, notes: &[u8], set
         return STOPS;
     }
     match ask_whole(alone(board, places, set), table, 1, l) {
-        Standing::Conflict => STOPS,
-        Standing::Stands => LISTED,
-        Standing::RuledOut => GOES_ON,
-        Standing::Open => GOES_ON,
+        Ok(Standing::Conflict) => STOPS,
+        Ok(Standing::Stands) => LISTED,
+        Ok(Standing::RuledOut) => GOES_ON,
+        Ok(Standing::Open) => GOES_ON,
         Err(_) => GOES_ON,
     }
 }
