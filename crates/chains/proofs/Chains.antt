@@ -2,7 +2,7 @@
 use Rattle.meaning.proofs.Kit.{◌≡◌, ◌∙◌, sym, ap, refl, true, false, List, [], ◌∷◌, ◌≤◌, ℕ, ◌<◌, ◌+◌, suc, add-zero, add-one, arith, length, get_or}
 use Rattle.meaning.proofs.Kit.{drop, list_get_or_eq_default, drop-cons, get_or-drop, drop-drop}
 use Rattle.chains.proofs.Words.{Refusal, Formula, goes_on, joined_by, Parsed, good, more, starts, starts_at, unit_at, chain_at, read_of, past}
-use Rattle.chains.proofs.Words.{extent, Answer, Used, Refused}
+use Rattle.chains.proofs.Words.{extent, Result, Break, Ok, Err, broken}
 use Rattle.formula.proofs.Parts.{onward, onward_drop, onward_length}
 use Rattle.formula.proofs.Parsing.{answer_good, answer_bad, past_after}
 use Rattle.formula.proofs.Walk.{never}
@@ -37,7 +37,7 @@ one_way (leads {used = used} {c = c} {text = text} {rest = r} {p = p} e d g m) (
 
 module _ (unit : List ℕ → Parsed) where
   -- what is read from here on, where `join` is what joins the units so far
-  abbrev pub from : ℕ → List ℕ → Answer
+  abbrev pub from : ℕ → List ℕ → Result ℕ Break
   from join text = read_of (more unit (suc (length text)) join (λ f. f) text)
 
   reads : (join : ℕ) (text : List ℕ) {wrap : Formula → Formula} {ts : List (List ℕ)} {p : Parsed} → Chain unit join wrap text ts p
@@ -47,18 +47,18 @@ module _ (unit : List ℕ → Parsed) where
 -- ---- the same at a place of the whole text, from the answer of the unit there
 
 -- what is read from place `at` on, as the whole's answer
-abbrev pub from_at_lem : ℕ → List ℕ → (at join : ℕ) → Answer
+abbrev pub from_at_lem : ℕ → List ℕ → (at join : ℕ) → Result ℕ Break
 from_at_lem b text at join = past at (from (λ l. unit_at b l) join (drop at text))
 
 pub chain_starts : (b : ℕ) (text : List ℕ) → read_of (chain_at b text) ≡ from_at_lem b text 0 0
 chain_starts b text = past_zero (read_of (chain_at b text))
 
 -- the answer of the unit at place `at`, where `join` is what joins the units before it
-pub record UnitRead (b : ℕ) (text : List ℕ) (at join : ℕ) (answer : Answer) : Type 0 where
+pub record UnitRead (b : ℕ) (text : List ℕ) (at join : ℕ) (answer : Result ℕ Break) : Type 0 where
   pub inside : at ≤ length text
   pub read : answer ≡ read_of (unit_at b (onward at text))
 
-module _ {b : ℕ} {text : List ℕ} {at join : ℕ} {answer : Answer} (u : UnitRead b text at join answer) where
+module _ {b : ℕ} {text : List ℕ} {at join : ℕ} {answer : Result ℕ Break} (u : UnitRead b text at join answer) where
   there : read_of (unit_at b (drop at text)) ≡ answer
   there = ap (λ l. read_of (unit_at b l)) (sym (onward_drop at text)) ∙ sym u.read
 
@@ -66,30 +66,30 @@ module _ {b : ℕ} {text : List ℕ} {at join : ℕ} {answer : Answer} (u : Unit
   seen = omega (arith, u.inside, ap extent u.read, unit_within b (onward at text), onward_length at text)
 
   -- where the units from there on start, and what is read
-  abbrev Tells : List (List ℕ) → Answer → Type 0
+  abbrev Tells : List (List ℕ) → Result ℕ Break → Type 0
   Tells ts a = (starts_at b join (drop at text) ≡ drop at text ∷ ts) × (from_at_lem b text at join ≡ a)
 
-  pub chain_fault : {why : Refusal} {place : ℕ} → answer ≡ Refused why place → Tells [] (Refused why (at + place))
+  pub chain_fault : {b : Break} → answer ≡ Err b → Tells [] (broken b.why (at + b.place))
   chain_fault r =
       let e = answer_bad (unit_at b (drop at text)) (there ∙ r) in
       let h = reads (λ l. unit_at b l) join (drop at text) (fault {join = join} {wrap = λ f. f} e) in
       (h.0, ap (past at) h.1)
 
-  module _ {count : ℕ} (r : answer ≡ Used count) where
+  module _ {count : ℕ} (r : answer ≡ Ok count) where
     unit_good : (f : Formula) × (unit_at b (drop at text) ≡ good f count)
     unit_good = answer_good (unit_at b (drop at text)) (there ∙ r)
 
     pub used_within : at + count ≤ length text
     used_within = omega (arith, ap extent r, seen)
 
-    pub chain_stops : goes_on join (get_or text (at + count) 0) ≡ false → Tells [] (Used (at + count))
+    pub chain_stops : goes_on join (get_or text (at + count) 0) ≡ false → Tells [] (Ok (at + count))
     chain_stops e =
         let here : get_or (drop count (drop at text)) 0 0 ≡ get_or text (at + count) 0 = rw (get_or-drop, get_or-drop, add-zero) in
         let m = last {join = join} {wrap = λ f. f} unit_good.1 (ap (goes_on join) here ∙ e) in
         let h = reads (λ l. unit_at b l) join (drop at text) m in
         (h.0, ap (past at) h.1)
 
-    pub chain_ends : at + count ≡ length text → Tells [] (Used (at + count))
+    pub chain_ends : at + count ≡ length text → Tells [] (Ok (at + count))
     chain_ends e = chain_stops (ap (goes_on join) (list_get_or_eq_default text 0 {n = at + count} (omega arith)))
 
     pub chain_goes : at + count < length text → goes_on join (get_or text (at + count) 0) ≡ true

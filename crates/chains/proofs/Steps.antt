@@ -1,7 +1,7 @@
 -- A text byte by byte: a byte leads on from a state or offends there, and from every state some bytes lead to the end of a text.
 use Rattle.meaning.proofs.Kit.{◌≡◌, ap, refl, subst, true, false, Bool, cond, ◌&&◌, List, [], ◌∷◌, ◌++◌, ◌≤◌, ℕ, ◌<◌, ◌+◌, suc, zero, arith, eqb}
 use Rattle.meaning.proofs.Kit.{length, take, replicate}
-use Rattle.chains.proofs.Words.{Refusal, BadText, is_digit, past, Answer, Used, Refused, goes_on}
+use Rattle.chains.proofs.Words.{Refusal, BadText, is_digit, past, Result, Break, Ok, Err, broken, goes_on}
 
 -- a unit is due, or one was had, `digits` where more of them would belong to it; with what joins the units of its chain so far, how many brackets may
 -- still be opened, and the joins of the chains round it
@@ -34,19 +34,19 @@ step (due join left outer) c =
 step (had digits join left outer) c =
     cond (digits && is_digit c) (on (had true join left outer)) (cond (eqb c 32) (on (had false join left outer)) (marked join left outer c))
 
-abbrev pub ends : List ℕ → Answer
-ends [] = Used 0
-ends (join ∷ outer) = Refused BadText 0
+abbrev pub ends : List ℕ → Result ℕ Break
+ends [] = Ok 0
+ends (join ∷ outer) = broken BadText 0
 
-abbrev pub ending : State → Answer
-ending (due join left outer) = Refused BadText 0
+abbrev pub ending : State → Result ℕ Break
+ending (due join left outer) = broken BadText 0
 ending (had digits join left outer) = ends outer
 
-abbrev pub follow : (State → Answer) → Next → Answer
+abbrev pub follow : (State → Result ℕ Break) → Next → Result ℕ Break
 follow rest (on s) = past 1 (rest s)
-follow rest off = Refused BadText 0
+follow rest off = broken BadText 0
 
-unfoldable pub run : State → List ℕ → Answer
+unfoldable pub run : State → List ℕ → Result ℕ Break
 run s [] = ending s
 run s (c ∷ rest) = follow (λ t. run t rest) (step s c)
 
@@ -54,11 +54,11 @@ run s (c ∷ rest) = follow (λ t. run t rest) (step s c)
 
 -- a text is gone through from a state to its end
 pub record Goes (s : State) (text : List ℕ) : Type 0 where
-  pub all : run s text ≡ Used (length text)
+  pub all : run s text ≡ Ok (length text)
 
 goes_on_lem : {s t : State} {c : ℕ} {rest : List ℕ} → step s c ≡ on t → Goes t rest → Goes s (c ∷ rest)
 unfolding run
-goes_on_lem {rest = rest} e g = let long : 1 + length rest ≡ suc (length rest) = omega arith in record { all = rw (e, g.all) (ap Used long) }
+goes_on_lem {rest = rest} e g = let long : 1 + length rest ≡ suc (length rest) = omega arith in record { all = rw (e, g.all) (ap Ok long) }
 
 -- a closing mark for each bracket
 closes : (digits : Bool) (join left : ℕ) (outer : List ℕ) → Goes (had digits join left outer) (replicate (length outer) 41)
@@ -79,9 +79,9 @@ pub data Met : State → List ℕ → ℕ → Type 0 where
   byte : {s : State} {c : ℕ} {rest : List ℕ} → step s c ≡ off → Met s (c ∷ rest) 0
   later : {s t : State} {c at : ℕ} {rest : List ℕ} → step s c ≡ on t → Met t rest at → Met s (c ∷ rest) (1 + at)
 
-abbrev Told : State → List ℕ → Answer → Type 0
-Told s text (Used count) = Unit {0}
-Told s text (Refused why at) = (why ≡ BadText) × Met s text at
+abbrev Told : State → List ℕ → Result ℕ Break → Type 0
+Told s text (Ok count) = Unit {0}
+Told s text (Err b) = (b.why ≡ BadText) × Met s text b.place
 
 end_told : (s : State) → Told s [] (ending s)
 end_told (due join left outer) = (refl, cut)
@@ -93,15 +93,15 @@ unfolding run
 told s [] = end_told s
 told s (c ∷ rest) = by (step s c) refl (λ t. told t rest)
   where
-    on_told : {t : State} → step s c ≡ on t → (a : Answer) → Told t rest a → Told s (c ∷ rest) (past 1 a)
-    on_told e (Used count) m = tt
-    on_told e (Refused why at) m = (m.0, later e m.1)
+    on_told : {t : State} → step s c ≡ on t → (a : Result ℕ Break) → Told t rest a → Told s (c ∷ rest) (past 1 a)
+    on_told e (Ok count) m = tt
+    on_told e (Err b) m = (m.0, later e m.1)
 
     by : (x : Next) → step s c ≡ x → ((t : State) → Told t rest (run t rest)) → Told s (c ∷ rest) (follow (λ t. run t rest) x)
     by (on t) e inner = on_told e (run t rest) (inner t)
     by off e inner = (refl, byte e)
 
-pub met : (s : State) (text : List ℕ) {why : Refusal} {at : ℕ} → run s text ≡ Refused why at → (why ≡ BadText) × Met s text at
+pub met : (s : State) (text : List ℕ) {b : Break} → run s text ≡ Err b → (b.why ≡ BadText) × Met s text b.place
 met s text e = subst (Told s text) e (told s text)
 
 pub met_within : {s : State} {text : List ℕ} {at : ℕ} → Met s text at → at ≤ length text
@@ -118,7 +118,7 @@ front (suc n) h (later {t = t} e m) = let r = front {s = t} n (omega arith) m in
 
 -- and with its byte it is met again, whatever follows
 pub again : {s : State} {text : List ℕ} {at : ℕ} (n : ℕ) (more : List ℕ) → at < n → n ≤ length text → Met s text at
-    → run s (take n text ++ more) ≡ Refused BadText at
+    → run s (take n text ++ more) ≡ broken BadText at
 unfolding run
 again n more h within cut = absurd (omega arith)
 again zero more h within (byte e) = absurd (omega arith)

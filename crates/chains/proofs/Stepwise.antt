@@ -1,7 +1,7 @@
 -- Reading a text is going through it byte by byte.
 use Rattle.meaning.proofs.Kit.{◌≡◌, ◌∙◌, sym, ap, refl, true, false, Bool, cond, List, [], ◌∷◌, ◌≤◌, ℕ, ◌+◌, suc, zero, add-zero, zero-add, arith}
 use Rattle.meaning.proofs.Kit.{eqb, length, get_or, drop, length-drop, drop-drop, ne_eqb, eq-eqb}
-use Rattle.chains.proofs.Words.{BadText, Formula, neg, is_digit, Parsed, good, bad, after, read_of, past, extent, Answer, Used, Refused, goes_on}
+use Rattle.chains.proofs.Words.{BadText, Formula, neg, is_digit, Parsed, good, bad, after, read_of, past, extent, Result, Break, Ok, Err, broken, goes_on}
 use Rattle.chains.proofs.Words.{lead, number_end, by_start, unit_of, at_close, closed, bracket_at, unit_at, chain_at, most_open, alone, whole_text}
 use Rattle.chains.proofs.Words.{Blank, Number, Digits, Bracket, Neither}
 use Rattle.chains.proofs.Answering.{past_zero, past_past}
@@ -10,25 +10,25 @@ use Rattle.chains.proofs.Going.{Chain, fault, last, leads, chain_read}
 use Rattle.chains.proofs.Steps.{State, due, had, Next, on, off, opening, closing, marked, ends, follow, run}
 
 -- from a byte's step on
-abbrev going : List ℕ → Next → Answer
+abbrev going : List ℕ → Next → Result ℕ Break
 going rest x = follow (λ t. run t rest) x
 
 -- past a unit and its spaces
-abbrev at_mark_lem : (join left : ℕ) → List ℕ → List ℕ → Answer
+abbrev at_mark_lem : (join left : ℕ) → List ℕ → List ℕ → Result ℕ Break
 at_mark_lem join left outer [] = ends outer
 at_mark_lem join left outer (c ∷ rest) = going rest (marked join left outer c)
 
 -- past a chain
-abbrev at_end : (left : ℕ) → List ℕ → List ℕ → Answer
+abbrev at_end : (left : ℕ) → List ℕ → List ℕ → Result ℕ Break
 at_end left outer [] = ends outer
 at_end left outer (c ∷ rest) = going rest (closing left outer c)
 
 -- what a part of the text says, and then how it goes on from there
-abbrev onto : (List ℕ → Answer) → List ℕ → Parsed → Answer
+abbrev onto : (List ℕ → Result ℕ Break) → List ℕ → Parsed → Result ℕ Break
 onto next text (good f used) = past used (next (drop used text))
-onto next text (bad why at) = Refused why at
+onto next text (bad why at) = broken why at
 
-onto_after : (next : List ℕ → Answer) (k : ℕ) (text : List ℕ) (wrap : Formula → Formula) (p : Parsed)
+onto_after : (next : List ℕ → Result ℕ Break) (k : ℕ) (text : List ℕ) (wrap : Formula → Formula) (p : Parsed)
     → past k (onto next (drop k text) p) ≡ onto next text (after k wrap p)
 onto_after next k text wrap (good f used) = rw (drop-drop used k text) (past_past k used (k + used) (next (drop (k + used) text)) refl)
 onto_after next k text wrap (bad why at) = refl
@@ -40,10 +40,10 @@ past_next used c text e = sym (drop-drop 1 used text) ∙ ap (drop 1) e
 
 module _ (join left : ℕ) (outer : List ℕ) where
   -- going on as it does past n bytes, where a mark is looked for
-  abbrev Passes : (n : ℕ) → List ℕ → Answer → Type 0
+  abbrev Passes : (n : ℕ) → List ℕ → Result ℕ Break → Type 0
   Passes n l a = a ≡ past n (at_mark_lem join left outer (drop n l))
 
-  passed_one : (n c : ℕ) (rest : List ℕ) {a : Answer} → Passes n rest a → Passes (suc n) (c ∷ rest) (past 1 a)
+  passed_one : (n c : ℕ) (rest : List ℕ) {a : Result ℕ Break} → Passes n rest a → Passes (suc n) (c ∷ rest) (past 1 a)
   passed_one n c rest e = ap (past 1) e ∙ past_past 1 n (suc n) (at_mark_lem join left outer (drop n rest)) (omega arith)
 
   blanks : (l : List ℕ) → Passes (lead Blank l) l (run (had false join left outer) l)
@@ -128,7 +128,7 @@ module _ (join left : ℕ) (outer inner : List ℕ) where
   close_steps : (f : Formula) (used : ℕ) (rest : List ℕ) → drop used inner ≡ rest
       → past used (at_end left (join ∷ outer) rest) ≡ onto (at_mark_lem join (suc left) outer) inner (at_close f used rest)
   unfolding at_close
-  close_steps f used [] e = ap (Refused BadText) (add-zero used)
+  close_steps f used [] e = ap (broken BadText) (add-zero used)
   close_steps f used (c ∷ rest) e = by (eqb c 41)
     where
       by : (b : Bool) → past used (going rest (cond b (on (had false join (suc left) outer)) off))
@@ -139,7 +139,7 @@ module _ (join left : ℕ) (outer inner : List ℕ) where
           rw (there, blanks join (suc left) outer rest)
           (past_past used 1 (used + 1) (past n (at_mark_lem join (suc left) outer (drop n rest))) refl
           ∙ past_past (used + 1) n (used + 1 + n) (at_mark_lem join (suc left) outer (drop n rest)) refl)
-      by false = ap (Refused BadText) (add-zero used)
+      by false = ap (broken BadText) (add-zero used)
 
   closed_steps : (p : Parsed) → onto (at_end left (join ∷ outer)) inner p ≡ onto (at_mark_lem join (suc left) outer) inner (closed inner p)
   unfolding closed
@@ -167,9 +167,9 @@ alone_steps left text (good f used) h = by (drop used text) refl
   where
     by : (rest : List ℕ) → drop used text ≡ rest
         → past used (at_end left [] rest) ≡ read_of (cond (eqb used (length text)) (good f used) (bad BadText used))
-    by [] e = rw (eq-eqb used (length text) (omega (arith, ap length e, length-drop used text))) (ap Used (add-zero used))
+    by [] e = rw (eq-eqb used (length text) (omega (arith, ap length e, length-drop used text))) (ap Ok (add-zero used))
     by (c ∷ rest) e =
-        rw (ne_eqb used (length text) (λ same. omega (arith, ap length e, length-drop used text))) (ap (Refused BadText) (add-zero used))
+        rw (ne_eqb used (length text) (λ same. omega (arith, ap length e, length-drop used text))) (ap (broken BadText) (add-zero used))
 alone_steps left text (bad why at) h = refl
 
 abbrev pub start : State

@@ -2,7 +2,7 @@
 use Rattle.meaning.proofs.Kit.{◌≡◌, ◌∙◌, sym, ap, refl, List, [], ◌∷◌, ◌≤◌, ℕ, ◌<◌, ◌-◌, ◌+◌, suc, zero, sub-one, arith, length, drop, take}
 use Rattle.meaning.proofs.Kit.{length-drop}
 use Rattle.chains.proofs.Words.{BadText, start_of, bad, lead, number_end, by_start, closed, bracket_at, unit_at, chain_at, read_of, past}
-use Rattle.chains.proofs.Words.{closed_answer, Blank, Denial, Number, Start, Digits, Bracket, Neither, Answer, Used, Refused}
+use Rattle.chains.proofs.Words.{closed_answer, Blank, Denial, Number, Start, Digits, Bracket, Neither, Result, Break, Ok, Err, broken}
 use Rattle.formula.proofs.Parts.{onward, onward_drop}
 use Rattle.chains.proofs.Runs.{lead_extent, denied, unit_run}
 use Rattle.formula.proofs.Parsing.{past_after}
@@ -40,19 +40,19 @@ module _ (b : ℕ) (text : List ℕ) {skipped : ℕ} (k : skipped ≡ lead Denia
 
 module _ (b : ℕ) (text : List ℕ) {skipped : ℕ} (k : skipped ≡ lead Denial text) where
   pub by_digits : start_of (onward skipped text) ≡ Digits → {end : ℕ} → end ≡ number_end (onward skipped text)
-      → Used (skipped + end) ≡ read_of (unit_at b text)
-  by_digits s e = ap (λ (n : ℕ). Used (skipped + n)) e ∙ sym (by_start_lem b text k s)
+      → Ok (skipped + end) ≡ read_of (unit_at b text)
+  by_digits s e = ap (λ (n : ℕ). Ok (skipped + n)) e ∙ sym (by_start_lem b text k s)
 
-  pub by_neither : start_of (onward skipped text) ≡ Neither → Refused BadText skipped ≡ read_of (unit_at b text)
-  by_neither s = let e : skipped ≡ skipped + 0 = omega arith in ap (Refused BadText) e ∙ sym (by_start_lem b text k s)
+  pub by_neither : start_of (onward skipped text) ≡ Neither → broken BadText skipped ≡ read_of (unit_at b text)
+  by_neither s = let e : skipped ≡ skipped + 0 = omega arith in ap (broken BadText) e ∙ sym (by_start_lem b text k s)
 
   module _ (s : start_of (onward skipped text) ≡ Bracket) where
-    pub by_seventeenth : b ≡ 0 → Refused BadText skipped ≡ read_of (unit_at b text)
+    pub by_seventeenth : b ≡ 0 → broken BadText skipped ≡ read_of (unit_at b text)
     by_seventeenth z =
         let e : skipped ≡ skipped + 0 = omega arith in
-        ap (Refused BadText) e ∙ sym (by_start_lem b text k s ∙ ap (λ p. past skipped (read_of p)) (bracket_none b (onward skipped text) z))
+        ap (broken BadText) e ∙ sym (by_start_lem b text k s ∙ ap (λ p. past skipped (read_of p)) (bracket_none b (onward skipped text) z))
 
-    pub by_bracket : 0 < b → {one two : Answer} → one ≡ read_of (chain_at (b - 1) (onward 1 (onward skipped text)))
+    pub by_bracket : 0 < b → {one two : Result ℕ Break} → one ≡ read_of (chain_at (b - 1) (onward 1 (onward skipped text)))
         → two ≡ closed_answer (onward 1 (onward skipped text)) one → past (skipped + 1) two ≡ read_of (unit_at b text)
     by_bracket h {one} {two} r q =
         let body = onward skipped text in

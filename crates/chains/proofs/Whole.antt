@@ -1,20 +1,21 @@
 -- Laws of the whole text: nothing may follow its chain.
-use Rattle.meaning.proofs.Kit.{◌≡◌, ◌∙◌, sym, ap, refl, true, false, Bool, cond, List, ℕ, eqb, length, ne_eqb, eq-eqb, eqb-true}
+use Rattle.meaning.proofs.Kit.{◌≡◌, ◌∙◌, sym, ap, refl, arith, ◌≤◌, ◌<◌, true, false, Bool, cond, List, ℕ, eqb, length, ne_eqb, eq-eqb, eqb-true}
 use Rattle.chains.proofs.Words.{Formula, Refusal, BadText, chain_at, most_open, alone, whole_text, Parsed, good, bad, read_of, is_good, used_of}
-use Rattle.chains.proofs.Words.{Answer, Used, Refused}
+use Rattle.chains.proofs.Extents.{chain_within}
+use Rattle.chains.proofs.Words.{extent, Result, Break, Ok, Err, broken}
 use Rattle.formula.proofs.Parsing.{answer_good, answer_bad}
 use Rattle.formula.proofs.Walk.{never}
 
-module _ (text : List ℕ) {answer : Answer} (read : answer ≡ read_of (chain_at most_open text)) where
-  pub whole_used : {count : ℕ} → answer ≡ Used count → count ≡ length text → Used count ≡ read_of (whole_text text)
+module _ (text : List ℕ) {answer : Result ℕ Break} (read : answer ≡ read_of (chain_at most_open text)) where
+  pub whole_used : {count : ℕ} → answer ≡ Ok count → length text ≤ count → Ok count ≡ read_of (whole_text text)
   unfolding whole_text
-  whole_used {count} r h = rw ((answer_good (chain_at most_open text) (sym read ∙ r)).1, eq-eqb count (length text) h)
+  whole_used {count} r h = rw ((answer_good (chain_at most_open text) (sym read ∙ r)).1, eq-eqb count (length text) (omega (arith, ap extent r, ap extent read, chain_within most_open text)))
 
-  pub whole_more : {count : ℕ} → answer ≡ Used count → (count ≡ length text → ⊥) → Refused BadText count ≡ read_of (whole_text text)
+  pub whole_more : {count : ℕ} → answer ≡ Ok count → count < length text → broken BadText count ≡ read_of (whole_text text)
   unfolding whole_text
-  whole_more {count} r h = rw ((answer_good (chain_at most_open text) (sym read ∙ r)).1, ne_eqb count (length text) h)
+  whole_more {count} r h = rw ((answer_good (chain_at most_open text) (sym read ∙ r)).1, ne_eqb count (length text) (λ e. omega arith))
 
-  pub whole_bad : {why : Refusal} {at : ℕ} → answer ≡ Refused why at → Refused why at ≡ read_of (whole_text text)
+  pub whole_bad : {at : Break} → answer ≡ Err at → Err at ≡ read_of (whole_text text)
   unfolding whole_text
   whole_bad r = rw (answer_bad (chain_at most_open text) (sym read ∙ r))
 

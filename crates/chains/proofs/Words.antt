@@ -1,12 +1,12 @@
 -- The words of the definitions that the proofs speak of texts in, with those of formulae and of spelling: a proof takes them from here.
 pub use Rattle.formula.proofs.Words.{Formula, neg, symbol, and, or, imp, same, Refusal, joined, Parsed, good, bad, levels, number_byte, read_of, past}
-pub use Rattle.formula.proofs.Words.{is_good, used_of, extent, formula_of, number_of, after}
+pub use Rattle.formula.proofs.Words.{is_good, broken, used_of, extent, formula_of, number_of, after}
 pub use Rattle.formula.specs.declared.reading.Join.{Join}
 pub use Rattle.formula.specs.declared.reading.Join.TheVariants.{And, Or, Implies, Same}
 pub use Rattle.formula.specs.declared.reading.Kind.{Kind}
 pub use Rattle.formula.specs.declared.reading.Kind.TheVariants.{Symbol, Not, Two, Unknown}
-pub use Rattle.formula.specs.declared.reading.Answer.{Answer}
-pub use Rattle.std.specs.Prelude.{Ok, Err}
+pub use Rattle.formula.specs.declared.reading.Break.{Break}
+pub use Rattle.std.specs.Prelude.{Result, Ok, Err}
 unfoldable pub use Rattle.formula.proofs.Words.{whole_of, parse, body_of, symbol_at, second_of, bytes_of}
 pub use Rattle.literals.specs.declared.refusal.Refusal.TheVariants.{BadText}
 pub use Rattle.chains.specs.Signs.{belongs, start_of, goes_on, joined_by}

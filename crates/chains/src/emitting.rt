@@ -15,7 +15,6 @@ ghost use Rattle.chains.specs.Emitting.{minuses_of, capped, kind_for, mark_at, j
 use crate::reading::{MOST_OPEN, unit};
 use crate::signs::{Class, Start, goes_on, run, start_of};
 use crate::storing::put;
-use formula::reading::Answer;
 
 // The same byte n times.
 fn fill(out: &mut [u8], at: usize, n: usize, byte: u8)

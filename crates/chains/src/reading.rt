@@ -7,7 +7,7 @@ ghost use Rattle.chains.specs.Form.{number_end, unit_at, chain_at, whole_text};
 ghost use Rattle.chains.specs.Answers.{closed_answer};
 
 use crate::signs::{Class, Start, goes_on, run, start_of};
-use formula::reading::{Answer, past_by};
+use formula::reading::{Break, breaks, past_by};
 use literals::refusal::Refusal;
 
 // So many brackets may be open at once, and no more.
@@ -22,18 +22,18 @@ fn number(body: &[u8]) -> usize
 }
 
 // The answer of a bracket past its opening mark, from that of the chain in it: the closing mark is due, then spaces.
-fn closed(inner: &[u8], answer: Answer) -> Answer
+fn closed(inner: &[u8], answer: Result<usize, Break>) -> Result<usize, Break>
     requires { extent answer ≤ length inner.now }
     ensures { result ≡ closed_answer inner.now answer }
 {
     match answer {
-        Err(Break { why, place }) => Err(Break { why: why, place: place }),
+        Err(at) => Err(at),
         Ok(count) => {
             if count == inner.len() {
-                return Err(Break { why: Refusal::BadText, place: count });
+                return breaks(Refusal::BadText, count);
             }
             if inner[count] != b')' {
-                return Err(Break { why: Refusal::BadText, place: count });
+                return breaks(Refusal::BadText, count);
             }
             Ok(count + 1 + run(&inner[count + 1..], Class::Blank))
         }
@@ -42,7 +42,7 @@ fn closed(inner: &[u8], answer: Answer) -> Answer
 
 // Reads a unit and the spaces after it.
 #[cycle(chain_unit)]
-pub fn unit(text: &[u8], brackets: usize) -> Answer
+pub fn unit(text: &[u8], brackets: usize) -> Result<usize, Break>
     ensures { result ≡ read_of (unit_at brackets text.now) }
 {
     let skipped = run(text, Class::Denial);
@@ -51,26 +51,26 @@ pub fn unit(text: &[u8], brackets: usize) -> Answer
         Start::Digits => Ok(skipped + number(body)),
         Start::Bracket => {
             if brackets == 0 {
-                return Err(Break { why: Refusal::BadText, place: skipped });
+                return breaks(Refusal::BadText, skipped);
             }
             let inner = &body[1..];
             past_by(skipped + 1, closed(inner, chain(inner, brackets - 1)))
         }
-        Start::Neither => Err(Break { why: Refusal::BadText, place: skipped }),
+        Start::Neither => breaks(Refusal::BadText, skipped),
     }
 }
 
 // Reads a chain: units until none is joined.
 #[cycle(chain_unit)]
-pub fn chain(text: &[u8], brackets: usize) -> Answer
+pub fn chain(text: &[u8], brackets: usize) -> Result<usize, Break>
     ensures { result ≡ read_of (chain_at brackets text.now) }
 {
     let mut at = 0;
     let mut join = 0u8;
     loop {
         match unit(&text[at..], brackets) {
-            Err(Break { why, place }) => {
-                return Err(Break { why: why, place: at + place });
+            Err(b) => {
+                return breaks(b.why, at + b.place);
             }
             Ok(count) => {
                 at += count;
@@ -89,17 +89,12 @@ pub fn chain(text: &[u8], brackets: usize) -> Answer
 }
 
 // Reads the whole text: a chain that nothing follows.
-pub fn read_text(text: &[u8]) -> Answer
+pub fn read_text(text: &[u8]) -> Result<usize, Break>
     ensures { result ≡ read_of (whole_text text.now) }
 {
-    match chain(text, MOST_OPEN) {
-        Ok(count) => {
-            if count == text.len() {
-                Ok(count)
-            } else {
-                Err(Break { why: Refusal::BadText, place: count })
-            }
-        }
-        Err(Break { why, place }) => Err(Break { why: why, place: place }),
+    let count = chain(text, MOST_OPEN)?;
+    if count < text.len() {
+        return breaks(Refusal::BadText, count);
     }
+    Ok(count)
 }

@@ -9,7 +9,7 @@ pub use Rattle.formula.specs.Parse.{good, bad, Parsed, levels, ended, after}
 unfoldable pub use Rattle.formula.specs.Parse.{parse, body_of, symbol_at, second_of, whole_of}
 pub use Rattle.formula.specs.Bytes.{number_byte}
 unfoldable pub use Rattle.formula.specs.Bytes.{bytes_of}
-pub use Rattle.formula.specs.Answers.{is_good, read_of, extent, used_of, marks_of, holds_of, past, valued_of, formula_of}
+pub use Rattle.formula.specs.Answers.{is_good, broken, read_of, extent, used_of, marks_of, holds_of, past, valued_of, formula_of}
 unfoldable pub use Rattle.formula.specs.Answers.{bits, truth_of, padded, named, marked, names_of}
 pub use Rattle.formula.specs.declared.reading.Join.{Join}
 pub use Rattle.formula.specs.declared.reading.Join.TheVariants.{And, Or, Implies, Same}

@@ -3,6 +3,7 @@ use Rattle.std.specs.Prelude.{ℕ, zero, suc, ◌+◌, ◌-◌, ◌/◌, ◌%◌
 use Rattle.meaning.specs.Formulae.{Formula, symbol, neg, and, or, imp, same, value, symbols_of, look}
 use Rattle.meaning.specs.Clauses.{assignments}
 use Rattle.formula.specs.Parse.{Parsed, good, bad}
+use Rattle.literals.specs.declared.refusal.Refusal.{Refusal}
 use Rattle.formula.specs.declared.reading.Break.{Break}
 use Rattle.std.specs.Prelude.{Result, Ok, Err}
 use Rattle.formula.specs.declared.naming.Names.{Names}
@@ -10,14 +11,18 @@ use Rattle.formula.specs.declared.truth.Valued.{Valued}
 
 -- ---- reading
 
+-- the answer where a formula breaks
+abbrev pub broken : Refusal → (place : ℕ) → Result ℕ Break
+broken why place = Err (record { why = why; place = place })
+
 abbrev pub read_of : Parsed → Result ℕ Break
 read_of (good f used) = Ok used
-read_of (bad why at) = Err (record { why = why; place = at })
+read_of (bad why at) = broken why at
 
 -- an answer whose part starts `skipped` bytes into the whole
 abbrev pub past : ℕ → Result ℕ Break → Result ℕ Break
 past skipped (Ok count) = Ok (skipped + count)
-past skipped (Err b) = Err (record { why = b.why; place = skipped + b.place })
+past skipped (Err b) = broken b.why (skipped + b.place)
 
 -- how many bytes an answer looks back on
 abbrev pub extent : Result ℕ Break → ℕ

@@ -1,9 +1,9 @@
 // From bytes to a formula: how many bytes it takes, or the first fault and its place.
 
-ghost use Rattle.std.specs.Prelude.{◌≡◌, ◌+◌, ◌≤◌, Err};
+ghost use Rattle.std.specs.Prelude.{◌≡◌, ◌+◌, ◌≤◌};
 ghost use Rattle.formula.specs.Kinds.{kind_of};
 ghost use Rattle.formula.specs.Parse.{parse, symbol_at, whole_of};
-ghost use Rattle.formula.specs.Answers.{read_of, past, extent};
+ghost use Rattle.formula.specs.Answers.{broken, read_of, past, extent};
 
 use literals::refusal::Refusal;
 
@@ -37,7 +37,7 @@ pub struct Break {
 
 // The answer where a formula breaks.
 pub fn breaks(why: Refusal, place: usize) -> Result<usize, Break>
-    ensures { result ≡ Err (record { why = why; place = place }) }
+    ensures { result ≡ broken why place }
 {
     Err(Break { why, place })
 }

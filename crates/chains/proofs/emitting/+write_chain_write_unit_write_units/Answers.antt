@@ -1,6 +1,6 @@
 -- `emitting::write_chain`, `emitting::write_units` and `emitting::write_unit` call each other, and meet their contracts.
 use Rattle.meaning.proofs.Kit.{◌≡◌, ◌∙◌, sym, List, ◌≤◌, ℕ, ◌+◌, arith, length, get_or, length-take-le}
-use Rattle.chains.proofs.Words.{Answer, unit_at, read_of, Denial}
+use Rattle.chains.proofs.Words.{Result, Break, unit_at, read_of, Denial}
 use Rattle.formula.proofs.Parts.{onward, onward_length}
 use Rattle.chains.proofs.Runs.{lead_extent}
 use Rattle.chains.proofs.Units.{start_long}
@@ -84,7 +84,7 @@ write_unit-returns-in-Neither t c =
 -- ---- the units
 
 -- a unit is read from here on
-unit_read : {b : ℕ} {text : List ℕ} {at : ℕ} (join : ℕ) {answer : Answer} → at ≤ length text → answer ≡ read_of (unit_at b (onward at text))
+unit_read : {b : ℕ} {text : List ℕ} {at : ℕ} (join : ℕ) {answer : Result ℕ Break} → at ≤ length text → answer ≡ read_of (unit_at b (onward at text))
     → UnitRead b text at join answer
 unit_read join h e = record { inside = h; read = e }
 

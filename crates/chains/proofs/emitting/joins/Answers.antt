@@ -1,12 +1,12 @@
 -- `emitting::joins` meets its contract.
 use Rattle.meaning.proofs.Kit.{◌≡◌, ◌∙◌, sym, ap, ◌≤◌, ℕ, List, arith, length}
-use Rattle.chains.proofs.Words.{Answer, unit_at, read_of}
+use Rattle.chains.proofs.Words.{Result, Break, unit_at, read_of}
 use Rattle.formula.proofs.Parts.{onward}
 use Rattle.chains.proofs.Chains.{UnitRead, used_within, chain_fault, chain_ends, chain_stops, chain_goes}
 use Rattle.chains.proofs.emitting.joins.Goals as goal
 
 -- a unit is read from here on
-unit_read : {b : ℕ} {text : List ℕ} {at : ℕ} (join : ℕ) {answer : Answer} → at ≤ length text → answer ≡ read_of (unit_at b (onward at text))
+unit_read : {b : ℕ} {text : List ℕ} {at : ℕ} (join : ℕ) {answer : Result ℕ Break} → at ≤ length text → answer ≡ read_of (unit_at b (onward at text))
     → UnitRead b text at join answer
 unit_read join h e = record { inside = h; read = e }
 

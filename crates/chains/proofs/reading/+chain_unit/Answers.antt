@@ -1,6 +1,6 @@
 -- `reading::chain` and `reading::unit` call each other, and meet their contracts.
 use Rattle.meaning.proofs.Kit.{◌≡◌, ◌∙◌, sym, ap, List, ◌≤◌, ℕ, ◌-◌, ◌+◌, arith, length}
-use Rattle.chains.proofs.Words.{Answer, chain_at, unit_at, start_of, read_of, extent, closed_answer, Denial, Bracket}
+use Rattle.chains.proofs.Words.{Result, Break, chain_at, unit_at, start_of, read_of, extent, closed_answer, Denial, Bracket}
 use Rattle.formula.proofs.Parts.{onward, onward_length}
 use Rattle.chains.proofs.Runs.{lead_extent}
 use Rattle.chains.proofs.Answering.{closed_read}
@@ -12,50 +12,50 @@ use Rattle.chains.proofs.reading.+chain_unit.Goals as goal
 -- ---- the chain
 
 -- a unit is read from here on
-unit_read : {b : ℕ} {text : List ℕ} {at : ℕ} (join : ℕ) {answer : Answer} → at ≤ length text → answer ≡ read_of (unit_at b (onward at text))
+unit_read : {b : ℕ} {text : List ℕ} {at : ℕ} (join : ℕ) {answer : Result ℕ Break} → at ≤ length text → answer ≡ read_of (unit_at b (onward at text))
     → UnitRead b text at join answer
 unit_read join h e = record { inside = h; read = e }
 
-pub chain-loop-why-init : goal.chain-loop-why-init
-chain-loop-why-init t c = (omega arith, chain_starts c.args.brackets c.args.text.now)
+pub chain-loop-b-init : goal.chain-loop-b-init
+chain-loop-b-init t c = (omega arith, chain_starts c.args.brackets c.args.text.now)
 
-pub chain-overflow_add-result : goal.chain-overflow_add-result
-chain-overflow_add-result t c =
-    let u = unit_read c.loop-why.join c.loop-why.invariant.0 c.unit.ensures in
+pub chain-overflow_add-at : goal.chain-overflow_add-at
+chain-overflow_add-at t c =
+    let u = unit_read c.loop-b.join c.loop-b.invariant.0 c.unit.ensures in
     omega (arith, ap extent c.in-Err.is, seen u, c.well_formed.0.1)
 
 pub chain-returns-in-Err : goal.chain-returns-in-Err
 chain-returns-in-Err t c =
-    let u = unit_read c.loop-why.join c.loop-why.invariant.0 c.unit.ensures in
-    sym (c.loop-why.invariant.1 ∙ (chain_fault u c.in-Err.is).1)
+    let u = unit_read c.loop-b.join c.loop-b.invariant.0 c.unit.ensures in
+    c.breaks.ensures ∙ sym (c.loop-b.invariant.1 ∙ (chain_fault u c.in-Err.is).1)
 
-pub chain-overflow_add-at : goal.chain-overflow_add-at
-chain-overflow_add-at t c =
-    let u = unit_read c.loop-why.join c.loop-why.invariant.0 c.unit.ensures in
+pub chain-overflow_add-at-in-Ok : goal.chain-overflow_add-at-in-Ok
+chain-overflow_add-at-in-Ok t c =
+    let u = unit_read c.loop-b.join c.loop-b.invariant.0 c.unit.ensures in
     omega (arith, used_within u c.in-Ok.is, c.well_formed.0.1)
 
 pub chain-returns-then-at-text : goal.chain-returns-then-at-text
 chain-returns-then-at-text t c =
-    let u = unit_read c.loop-why.join c.loop-why.invariant.0 c.unit.ensures in
-    sym (c.loop-why.invariant.1 ∙ (chain_ends u c.in-Ok.is c.if-at-text.true).1)
+    let u = unit_read c.loop-b.join c.loop-b.invariant.0 c.unit.ensures in
+    sym (c.loop-b.invariant.1 ∙ (chain_ends u c.in-Ok.is c.if-at-text.true).1)
 
 pub chain-bounds-text-at : goal.chain-bounds-text-at
 chain-bounds-text-at t c =
-    let u = unit_read c.loop-why.join c.loop-why.invariant.0 c.unit.ensures in
+    let u = unit_read c.loop-b.join c.loop-b.invariant.0 c.unit.ensures in
     omega (arith, used_within u c.in-Ok.is)
 
 pub chain-returns-then-not-goes_on : goal.chain-returns-then-not-goes_on
 chain-returns-then-not-goes_on t c =
-    let u = unit_read c.loop-why.join c.loop-why.invariant.0 c.unit.ensures in
+    let u = unit_read c.loop-b.join c.loop-b.invariant.0 c.unit.ensures in
     let stops = sym c.goes_on.ensures ∙ c.if-not-goes_on.true in
-    sym (c.loop-why.invariant.1 ∙ (chain_stops u c.in-Ok.is stops).1)
+    sym (c.loop-b.invariant.1 ∙ (chain_stops u c.in-Ok.is stops).1)
 
-pub chain-loop-why-preserved : goal.chain-loop-why-preserved
-chain-loop-why-preserved t c =
-    let u = unit_read c.loop-why.join c.loop-why.invariant.0 c.unit.ensures in
+pub chain-loop-b-preserved : goal.chain-loop-b-preserved
+chain-loop-b-preserved t c =
+    let u = unit_read c.loop-b.join c.loop-b.invariant.0 c.unit.ensures in
     let used = used_within u c.in-Ok.is in
     let goes = sym c.goes_on.ensures ∙ c.if-not-goes_on.false in
-    (omega (arith, used), c.loop-why.invariant.1 ∙ (chain_goes u c.in-Ok.is (omega (arith, used)) goes).1)
+    (omega (arith, used), c.loop-b.invariant.1 ∙ (chain_goes u c.in-Ok.is (omega (arith, used)) goes).1)
 
 -- ---- the unit
 
@@ -79,7 +79,7 @@ unit-overflow_add-result t c =
 pub unit-returns-then-brackets-eq0 : goal.unit-returns-then-brackets-eq0
 unit-returns-then-brackets-eq0 t c =
     let s = sym c.start_of.ensures ∙ c.in-Bracket.is in
-    by_seventeenth c.args.brackets c.args.text.now c.run-skipped.ensures s c.if-brackets-eq0.true
+    c.breaks.ensures ∙ by_seventeenth c.args.brackets c.args.text.now c.run-skipped.ensures s c.if-brackets-eq0.true
 
 pub unit-closed-requires : goal.unit-closed-requires
 unit-closed-requires t c =
@@ -112,4 +112,4 @@ unit-returns-else-brackets-eq0 t c =
 pub unit-returns-in-Neither : goal.unit-returns-in-Neither
 unit-returns-in-Neither t c =
     let s = sym c.start_of.ensures ∙ c.in-Neither.is in
-    by_neither c.args.brackets c.args.text.now c.run-skipped.ensures s
+    c.breaks-in-Neither.ensures ∙ by_neither c.args.brackets c.args.text.now c.run-skipped.ensures s

@@ -11,8 +11,8 @@ decreases-chain l = 2 * length l.text.now + 1
 abbrev pub decreases-unit : goal.decreases-unit
 decreases-unit l = 2 * length l.text.now
 
-abbrev pub invariant-chain-loop-why : goal.invariant-chain-loop-why
-invariant-chain-loop-why l = (l.at ≤ length l.text) × (read_of (chain_at l.brackets l.text) ≡ from_at_lem l.brackets l.text l.at l.join)
+abbrev pub invariant-chain-loop-b : goal.invariant-chain-loop-b
+invariant-chain-loop-b l = (l.at ≤ length l.text) × (read_of (chain_at l.brackets l.text) ≡ from_at_lem l.brackets l.text l.at l.join)
 
-abbrev pub decreases-chain-loop-why : goal.decreases-chain-loop-why
-decreases-chain-loop-why l = length l.text - l.at
+abbrev pub decreases-chain-loop-b : goal.decreases-chain-loop-b
+decreases-chain-loop-b l = length l.text - l.at
