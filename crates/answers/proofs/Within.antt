@@ -11,7 +11,7 @@ use Rattle.smallest.specs.Listing.{smallest_on, smallest_answer, smallest_sets, 
 use Rattle.smallest.specs.declared.Listing.{Listing}
 
 within : (o : Outcome) (list out : List ℕ) → if_done o (length list) (λ _. 0) ≤ length (over o list out)
-within (Ok tt) list out = omega (arith, length-append list (drop (length list) out))
+within (Ok _) list out = omega (arith, length-append list (drop (length list) out))
 within (Err why) list out = omega arith
 
 -- `out` and `sets` are the places lent, and `after` what they are then

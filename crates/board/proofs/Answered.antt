@@ -30,7 +30,7 @@ first_append (f ∷ fs) gs = go f.given (first_append fs gs)
 -- an answer made by `if_done` tells the outcome it was made by, if both its parts do
 pub told_by_lem : {A : Type 0} (tell : A → Outcome) (done : A) (refused : Refusal → A) (o : Outcome) → (o ≡ Ok tt → tell done ≡ o)
     → ((why : Refusal) → o ≡ Err why → tell (refused why) ≡ o) → tell (if_done o done refused) ≡ o
-told_by_lem tell done refused (Ok tt) d r = d refl
+told_by_lem tell done refused (Ok _) d r = d refl
 told_by_lem tell done refused (Err why) d r = r why refl
 
 pub rule_told : (table : List ℤ) (b : Board) (bytes : List ℕ) → (ruled table b bytes).outcome ≡ first_fault (rule_faults table b bytes)
@@ -45,12 +45,12 @@ rule_place table b bytes = go (first_fault (rule_faults table b bytes)) refl
   where
     go : (o : Outcome) → first_fault (rule_faults table b bytes) ≡ o
         → (ruled table b bytes).place ≡ place_told (ruled table b bytes).outcome (whole_of b.symbols bytes)
-    go (Ok tt) e = rw e
+    go (Ok _) e = rw e
     go (Err why) e = rw e
 
 -- 0 is the number of a call that is done and of no other
 pub done_alone : (o : Outcome) → number_in o ≡ 0 → o ≡ Ok tt
-done_alone (Ok tt) e = refl
+done_alone (Ok _) e = refl
 done_alone (Err why) e = let some = number_some why in absurd (omega arith)
 
 -- where a call is done, no fault is given

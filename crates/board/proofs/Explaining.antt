@@ -30,7 +30,7 @@ module _ (table : List ℤ) (b : Board) (furnace : ℕ) (l : ℤ) where
     where
       go : (o : Outcome) → first_fault (explain_faults table b furnace l) ≡ o
           → (explain_numbers table b furnace l).outcome ≡ first_fault (explain_faults table b furnace l)
-      go (Ok tt) e = rw e
+      go (Ok _) e = rw e
       go (Err why) e = rw e
 
   pub nothing_shown : {why : Refusal} → (explain_numbers table b furnace l).outcome ≡ Err why

@@ -40,7 +40,7 @@ first_fault (f ∷ fs) = cond f.given (Err f.refusal) (first_fault fs)
 
 -- what a call answers: this if it is done, and otherwise that
 abbrev pub if_done : {A : Type 0} → Outcome → A → (Refusal → A) → A
-if_done (Ok tt) good refused = good
+if_done (Ok _) good refused = good
 if_done (Err why) good refused = refused why
 
 -- the number that a call answers by: 0 for a call that is done, else the refusal's in 01's table

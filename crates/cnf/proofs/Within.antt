@@ -33,12 +33,12 @@ rows_within table b out = go (write_outcome table b out)
   where
     go : (o : Outcome)
         → Fits (length (over o (text_on table b) out)) (if_done o (Text (if_done o (length (text_on table b)) (λ _. 0))) (λ why. NotMade why 0))
-    go (Ok tt) = omega (arith, length-append (text_on table b) (drop (length (text_on table b)) out))
+    go (Ok _) = omega (arith, length-append (text_on table b) (drop (length (text_on table b)) out))
     go (Err why) = omega arith
 
 -- of a call that is done and of one that is refused
 either_within : (o : Outcome) (m : Made) (other : Refusal → Made) → Within m → ((why : Refusal) → Within (other why)) → Within (if_done o m other)
-either_within (Ok tt) m other done refused = done
+either_within (Ok _) m other done refused = done
 either_within (Err why) m other done refused = refused why
 
 read_within : (table : List ℤ) (b : Board) (text out : List ℕ) → Within (read_made table b text out)

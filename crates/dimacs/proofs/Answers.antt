@@ -89,7 +89,7 @@ module _ (table : List ℤ) (b : Board) (text : List ℕ) where
 
     pub read_done : {clauses added : ℕ} → first_fault (text_faults b.symbols b.rows b.rules (rows_lent table) p) ≡ Ok tt
         → clauses ≡ length (clauses_of p) → added ≡ length (rows_of_text b.symbols p)
-        → (record { outcome = (Ok tt); clauses = clauses; added = added; board = with_rules b added clauses } ≡ read_answer table b text)
+        → (record { outcome = Ok tt; clauses = clauses; added = added; board = with_rules b added clauses } ≡ read_answer table b text)
         × (appended table b.rows (numbered_rows b.symbols b.rules p) ≡ read_table table b text)
     unfolding read_answer read_table
     read_done e c a =

@@ -27,7 +27,7 @@ passed_most S used rules lent (c ∷ cs) =
     go (first_fault (clause_faults S used rules lent c)) (passed_most S (used + length (rows_of_clause S c)) (suc rules) lent cs)
   where
     go : (o : Outcome) {n : ℕ} → n ≤ length cs → if_done o (suc n) (λ _. 0) ≤ suc (length cs)
-    go (Ok tt) h = omega arith
+    go (Ok _) h = omega arith
     go (Err why) h = omega arith
 
 -- ---- no header counts more than 32,767 clauses
@@ -72,7 +72,7 @@ module _ (table : List ℤ) (b : Board) (text : List ℕ) where
   clauses_told = go (first_fault (read_faults table b text)) refl
     where
       go : (o : Outcome) → first_fault (read_faults table b text) ≡ o → (read_answer table b text).clauses ≡ cond (good_board table b) before 0
-      go (Ok tt) e = rw e
+      go (Ok _) e = rw e
       go (Err why) e = rw e
 
   -- so none tells more than a header can count

@@ -22,7 +22,7 @@ done_append : (fs gs : List Fault) → first_fault (fs ++ gs) ≡ Ok tt → (fir
 done_append fs gs e = go (first_fault fs) (sym (first_append fs gs) ∙ e)
   where
     go : (o : Outcome) → if_done o (first_fault gs) (λ why. Err why) ≡ Ok tt → (o ≡ Ok tt) × (first_fault gs ≡ Ok tt)
-    go (Ok tt) h = (refl, h)
+    go (Ok _) h = (refl, h)
     go (Err why) h = refused_not_done h
 
 -- ---- one clause

@@ -122,7 +122,7 @@ module _ {found : Survey} {k : Kept} {used rules lent : ℕ} where
 
     pub with_done : Fault found k used rules lent (Ok tt)
         → Surveys found k used rules lent
-        (record { outcome = (Ok tt); clauses = found.clauses + 1; added = found.added + bool_byte (not k.always) })
+        (record { outcome = Ok tt; clauses = found.clauses + 1; added = found.added + bool_byte (not k.always) })
     with_done j = record {
       with_clause =
           λ S o row h.

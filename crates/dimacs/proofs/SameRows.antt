@@ -107,7 +107,7 @@ module _ (table : List ℤ) (b : Board) (new : List ℤ) (fine : good_board tabl
   passed_all = clauses_passed S 0 0 (rows_lent new) clauses faultless ∙ count_clauses table used
 
   -- so these are the answer and the table after it
-  answer : read_answer new (empty_board S) text ≡ record { outcome = (Ok tt); clauses = used; added = used; board = with_rules (empty_board S) used used }
+  answer : read_answer new (empty_board S) text ≡ record { outcome = Ok tt; clauses = used; added = used; board = with_rules (empty_board S) used used }
   unfolding read_answer
   answer = rw (done, new_good, text_is, added_is, passed_all, count_clauses table used)
 

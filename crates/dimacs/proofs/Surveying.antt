@@ -22,7 +22,7 @@ use Rattle.dimacs.proofs.Tested.{by_test}
 
 -- before any clause
 abbrev pub nothing : Survey
-nothing = record { outcome = (Ok tt); clauses = 0; added = 0 }
+nothing = record { outcome = Ok tt; clauses = 0; added = 0 }
 
 module _ (S used rules lent : ℕ) where
   -- with clauses more, one after the other
@@ -83,19 +83,19 @@ module _ (S used rules lent : ℕ) where
   module _ (one : 1 ≤ S) where
     -- what is found clause by clause is what is meant
     found_by : (k added : ℕ) (cs : List (List ℤ))
-        → with_clauses (record { outcome = (Ok tt); clauses = k; added = added }) cs ≡ comes_to (used + added) k added cs
+        → with_clauses (record { outcome = Ok tt; clauses = k; added = added }) cs ≡ comes_to (used + added) k added cs
     unfolding with_clauses clauses_faults passed
     found_by k added [] = rw (add-zero k, add-zero added)
     found_by k added (c ∷ cs) = go (found_fault S (used + added) (rules + k) lent c) refl (λ m a. found_by m a cs)
       where
         go : (o : Outcome) → found_fault S (used + added) (rules + k) lent c ≡ o
-            → ((m a : ℕ) → with_clauses (record { outcome = (Ok tt); clauses = m; added = a }) cs ≡ comes_to (used + a) m a cs)
+            → ((m a : ℕ) → with_clauses (record { outcome = Ok tt; clauses = m; added = a }) cs ≡ comes_to (used + a) m a cs)
             → with_clauses
-            (if_done o (record { outcome = (Ok tt); clauses = k + 1; added = added + length (gathered_rows c) })
+            (if_done o (record { outcome = Ok tt; clauses = k + 1; added = added + length (gathered_rows c) })
             (λ why. stopped why k))
             cs
             ≡ comes_to (used + added) k added (c ∷ cs)
-        go (Ok tt) e ih =
+        go (Ok _) e ih =
             let n = length (gathered_rows c) in
             let s = faultless S (used + added) (rules + k) lent c e in
             let rows = ap length (clause_rows S c s.range s.some) in
@@ -141,14 +141,14 @@ module _ (S used rules lent : ℕ) where
   fits_more found c h = go found.outcome (found_fault S (used + found.added) (rules + found.clauses) lent c) refl
     where
       more : Survey
-      more = record { outcome = (Ok tt); clauses = found.clauses + 1; added = found.added + length (gathered_rows c) }
+      more = record { outcome = Ok tt; clauses = found.clauses + 1; added = found.added + length (gathered_rows c) }
 
       go : (o p : Outcome) → found_fault S (used + found.added) (rules + found.clauses) lent c ≡ p
           → Fits (if_done o (if_done p more (λ why. stopped why found.clauses)) (λ why. found))
-      go (Ok tt) (Ok tt) e =
+      go (Ok _) (Ok _) e =
           let f = faultless S (used + found.added) (rules + found.clauses) lent c e in
           (omega (arith, f.room), omega (arith, h.1, f.number))
-      go (Ok tt) (Err why) e = (omega (arith, h.0), h.1)
+      go (Ok _) (Err why) e = (omega (arith, h.0), h.1)
       go (Err why) p e = h
 
 -- ---- so far

@@ -100,7 +100,7 @@ three_says = refl
 abbrev lent : List ℤ
 lent = replicate 18 (pos 0)
 
-counts : read_answer lent (empty_board 2) three ≡ record { outcome = (Ok tt); clauses = 3; added = 2; board = with_rules (empty_board 2) 2 3 }
+counts : read_answer lent (empty_board 2) three ≡ record { outcome = Ok tt; clauses = 3; added = 2; board = with_rules (empty_board 2) 2 3 }
 unfolding read_answer read_faults text_faults clauses_faults clause_faults passed one_of good_board premises_fit rows_sound
     symbols_of occurs value hit implicate prime of_size
 counts = rw three_says refl
@@ -123,7 +123,7 @@ record Limit : Type 0 where
 
 abbrev limits : List Limit
 limits =
-    record { rules = 32765; second = pos 2 ∷ []; outcome = (Ok tt); before = 2 }
+    record { rules = 32765; second = pos 2 ∷ []; outcome = Ok tt; before = 2 }
     ∷ record { rules = 32766; second = pos 2 ∷ []; outcome = Err TableFull; before = 1 }
     ∷ record { rules = 32766; second = pos 1 ∷ negsuc 0 ∷ []; outcome = Err TableFull; before = 1 }
     ∷ record { rules = 32767; second = pos 2 ∷ []; outcome = Err TableFull; before = 0 }

@@ -14,7 +14,7 @@ module _ (table : List ℤ) (b : Board) (out : List ℕ) where
   write_refused why e is = (is ∙ rw e, rw e)
 
   pub write_done : {after : List ℕ} {next : ℕ} → write_outcome table b out ≡ Ok tt → length (text_on table b) ≤ length out
-      → Put out after 0 (text_on table b) next → (record { outcome = (Ok tt); bytes = next } ≡ write_answer table b out) × (after ≡ write_bytes table b out)
+      → Put out after 0 (text_on table b) next → (record { outcome = Ok tt; bytes = next } ≡ write_answer table b out) × (after ≡ write_bytes table b out)
   unfolding write_answer write_bytes
   write_done {after} {next} e fits p =
       let text = text_on table b in

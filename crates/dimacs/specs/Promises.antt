@@ -47,7 +47,7 @@ abbrev pub SameRows : Type 0
 SameRows =
     (table : List ℤ) (b : Board) (new : List ℤ) → good_board table b ≡ true → b.rows ≤ rows_lent new
     → let S = b.symbols in let r = b.rows in
-    (read_answer new (empty_board S) (text_on table b) ≡ record { outcome = (Ok tt); clauses = r; added = r; board = with_rules (empty_board S) r r })
+    (read_answer new (empty_board S) (text_on table b) ≡ record { outcome = Ok tt; clauses = r; added = r; board = with_rules (empty_board S) r r })
     × (read_table new (empty_board S) (text_on table b) ≡ appended new 0 (tabulate r (λ i. record { rule = suc i; row = decode (numbers_at table i) })))
 
 -- no text is longer: a header of 15 bytes, and 2,048 lines of eight literals of five bytes, 0 and a line feed

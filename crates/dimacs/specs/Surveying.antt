@@ -17,7 +17,7 @@ abbrev pub with_clause : (S used rules lent : ℕ) → Survey → List ℤ → S
 with_clause S used rules lent found c =
     if_done found.outcome
     (if_done (found_fault S (used + found.added) (rules + found.clauses) lent c)
-    (record { outcome = (Ok tt); clauses = found.clauses + 1; added = found.added + length (gathered_rows c) })
+    (record { outcome = Ok tt; clauses = found.clauses + 1; added = found.added + length (gathered_rows c) })
     (λ why. record { outcome = Err why; clauses = found.clauses; added = 0 }))
     (λ why. found)
 

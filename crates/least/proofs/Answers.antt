@@ -26,7 +26,7 @@ module _ (table : List ℤ) (b : Board) (furnace : ℕ) (places : List ℕ) wher
   stays e = rw e
 
   pub ended : leaves_conflict table b furnace places ≡ false → {set : ℕ} → set ≡ least_at table b furnace places
-      → record { outcome = (Ok tt); set = set } ≡ stay_answer table b furnace places
+      → record { outcome = Ok tt; set = set } ≡ stay_answer table b furnace places
   ended e {set} is = rw (e, is)
 
 -- ---- 17, 11, or those

@@ -57,7 +57,7 @@ module _ (b : Board) (table : List ℤ) (body : List ℕ) where
 -- however a call ends, its command takes as many bytes
 ending_used : (o : Outcome) (b : Board) (used : ℕ) (text : List ℕ) (other : Refusal → Said) → ((why : Refusal) → (other why).used ≡ used)
     → (if_done o (accepted b used text) other).used ≡ used
-ending_used (Ok tt) b used text other h = refl
+ending_used (Ok _) b used text other h = refl
 ending_used (Err why) b used text other h = h why
 
 change_used : (used : ℕ) (c : Change) → (change_said used c).used ≡ used

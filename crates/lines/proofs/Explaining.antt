@@ -20,5 +20,5 @@ part_most table b furnace l =
     go : (o : Outcome) (start count : ℕ) → count ≤ 8
         → (if_done {A = Span} o (record { start = start; stop = start + count }) (λ _. record { start = 0; stop = 0 })).stop
         - (if_done {A = Span} o (record { start = start; stop = start + count }) (λ _. record { start = 0; stop = 0 })).start ≤ 8
-    go (Ok tt) start count h = omega arith
+    go (Ok _) start count h = omega arith
     go (Err why) start count h = omega arith

@@ -20,7 +20,7 @@ did_run s (opening S) = go (outcome s.world (opens S)) _ refl
   where
     go : (o : Outcome) (next : State) → next.world ≡ after s.world (opens S)
         → (if_done o next (λ _. s)).world ≡ run s.world (if_done o (opens S ∷ []) (λ _. []))
-    go (Ok tt) next e = e
+    go (Ok _) next e = e
     go (Err why) next e = refl
 did_run s (naming n word) = ⊎_elim (λ e. rw e) (λ e. rw e) (true_or_false (is_made (tells s (naming n word)).reply))
 did_run s (working f) = refl

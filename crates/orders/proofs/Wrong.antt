@@ -109,12 +109,12 @@ same_reply (of_listing a sets) = refl
 same_reply (of_withdrawal a) = refl
 
 call_leaves : (w : World) (c : Call) → not_open c ≡ true → (o : Outcome) → outcome w c ≡ o → is_made (reply_of o) ≡ false → after w c ≡ w
-call_leaves w c own (Ok tt) e h = absurd (true≢false h)
+call_leaves w c own (Ok _) e h = absurd (true≢false h)
 call_leaves w c own (Err why) e h = refused_untouched w c why e ∙ rw own
 
 module _ (s : State) where
   open_leaves : (S : ℕ) (next : State) (o : Outcome) → is_made (reply_of o) ≡ false → if_done o next (λ _. s) ≡ s
-  open_leaves S next (Ok tt) h = absurd (true≢false h)
+  open_leaves S next (Ok _) h = absurd (true≢false h)
   open_leaves S next (Err why) h = refl
 
   work_leaves : (f : ℕ) (b : Bool) → is_furnace f ≡ b → is_made (work_reply f) ≡ false → worked s.furnace f ≡ s.furnace

@@ -35,7 +35,7 @@ ordered s line = line_of (length s.world.table) s.furnace s.names line
 -- ---- what a line comes to
 
 abbrev pub reply_of : Outcome → Reply
-reply_of (Ok tt) = Made
+reply_of (Ok _) = Made
 reply_of (Err why) = Denied why
 
 abbrev pub simply : Reply → Told

@@ -28,7 +28,7 @@ use Rattle.text.specs.Adding.{text_refused, ruled_text}
 use Rattle.panel.specs.Crossing.{Narrow}
 
 narrow_changed : (o : Outcome) (given next : Board) → Narrow given → Narrow next → Narrow (changed o given next).board
-narrow_changed (Ok tt) given next n m = m
+narrow_changed (Ok _) given next n m = m
 narrow_changed (Err why) given next n m = n
 
 pub narrow_opened : (S : ℕ) (s : Stacks) → S < 65536 → Narrow (opened_with S s).change.board
@@ -79,7 +79,7 @@ module _ (table : List ℤ) (b : Board) (n : Narrow b) where
   narrow_ruled bytes = go (first_fault (rule_faults table b bytes)) refl
     where
       go : (o : Outcome) → first_fault (rule_faults table b bytes) ≡ o → Few (ruled table b bytes)
-      go (Ok tt) e =
+      go (Ok _) e =
           let few = few_rows bytes e in
           rw e (record { symbols = n.symbols; rows = omega (arith, few.0); rules = omega (arith, few.1) }, omega (arith, few.0))
       go (Err why) e = rw e (n, omega arith)
@@ -103,7 +103,7 @@ module _ (table : List ℤ) (b : Board) (n : Narrow b) where
     where
       go : (o : Outcome) → first_fault (read_faults table b text) ≡ o
           → Narrow (read_answer table b text).board × ((read_answer table b text).added < 65536)
-      go (Ok tt) e =
+      go (Ok _) e =
           let fits = read_fits table b text e in
           rw e (record { symbols = n.symbols; rows = omega arith; rules = omega (arith, read_rules table b text e) }, omega arith)
       go (Err why) e = rw e (n, omega arith)
@@ -118,7 +118,7 @@ module _ (table : List ℤ) (b : Board) (n : Narrow b) where
   narrow_entered e = go (first_fault (entry_faults table b e)) refl
     where
       go : (o : Outcome) → first_fault (entry_faults table b e) ≡ o → Few (entered table b e)
-      go (Ok tt) d =
+      go (Ok _) d =
           let p = entry_passed table b e d in
           rw d (record { symbols = n.symbols; rows = omega (arith, p.rows); rules = omega (arith, p.rules) }, omega (arith, p.rows))
       go (Err why) d = rw d (n, omega arith)

@@ -85,7 +85,7 @@ module _ (table : List ℤ) (b : Board) (e : Entry) where
 
       pub told_done : fits_wholly b.symbols b.rows b.rules (rows_lent table) e ≡ true
           → let added = length (rows_of_entry b.symbols e) in
-          Told (record { outcome = (Ok tt); place = no_place; added = added; board = with_rules b added (length (formulae_of e)) })
+          Told (record { outcome = Ok tt; place = no_place; added = added; board = with_rules b added (length (formulae_of e)) })
           (appended table b.rows (of_rules (suc b.rules) (rules_of b.symbols (formulae_of e))))
       unfolding entry_faults entered entered_table
       told_done f =

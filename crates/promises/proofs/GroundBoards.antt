@@ -36,7 +36,7 @@ its_ground = grounds lent 2 (pos 3) (blank 8)
 
 -- it stands at this rank by this row, which has two literals, of this rule
 abbrev by : (rank row rule : ℕ) → Answer
-by rank row rule = of_explain (record { outcome = (Ok tt); rank = rank; row = row; rule = rule }) (record { start = width * row; stop = width * row + 2 })
+by rank row rule = of_explain (record { outcome = Ok tt; rank = rank; row = row; rule = rule }) (record { start = width * row; stop = width * row + 2 })
 
 abbrev nothing : Answer
 nothing = of_explain (record { outcome = Err NothingToShow; rank = none; row = none; rule = 0 }) (record { start = 0; stop = 0 })

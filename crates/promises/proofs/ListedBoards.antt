@@ -25,7 +25,7 @@ twelve = pos 1 ∷ pos 2 ∷ pos 3 ∷ pos 4 ∷ pos 5 ∷ pos 6 ∷ negsuc 0 �
 
 -- these are written, and so many places beyond them stay
 abbrev listed : List ℕ → (beyond : ℕ) → Answer
-listed list beyond = of_listing (record { outcome = (Ok tt); count = length list }) (list ++ blank beyond)
+listed list beyond = of_listing (record { outcome = Ok tt; count = length list }) (list ++ blank beyond)
 
 -- it is refused, and so many places stay
 abbrev refused : Refusal → (places : ℕ) → Answer

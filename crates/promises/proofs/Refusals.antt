@@ -168,7 +168,7 @@ refused_untouched w (writes_text lent bytes out) why e = refl
 
 -- a call is done or refused
 pub done_or_refused : (o : Outcome) → (o ≡ Ok tt) ⊎ ((why : Refusal) × (o ≡ Err why))
-done_or_refused (Ok tt) = inl refl
+done_or_refused (Ok _) = inl refl
 done_or_refused (Err why) = inr (why, refl)
 
 -- a refused call but an open leaves all as it was

@@ -52,7 +52,7 @@ step : (w : World) (entries : List Entry) → Suited w entries → (c : Call) �
 step w entries k c = go (not_open c) refl
   where
     told : (o : Outcome) → outcome w c ≡ o → Suited w (if_done o (entries ++ entry_of c) (λ _. entries))
-    told (Ok tt) d = rw (all_append (suits w.board.symbols) entries (entry_of c), k, own_suits w (kind c) d)
+    told (Ok _) d = rw (all_append (suits w.board.symbols) entries (entry_of c), k, own_suits w (kind c) d)
     told (Err why) d = k
 
     go : (t : Bool) → not_open c ≡ t → Suited (after w c) (entries_after w entries c)

@@ -24,7 +24,7 @@ abbrev least_of : (furnace : ℕ) → List ℤ → Call
 least_of furnace cands = asks_least lent furnace cands
 
 abbrev this : (set : ℕ) → Answer
-this set = of_withdrawal (record { outcome = (Ok tt); set = set })
+this set = of_withdrawal (record { outcome = Ok tt; set = set })
 
 abbrev refused : Refusal → Answer
 refused why = of_withdrawal (record { outcome = Err why; set = 65535 })

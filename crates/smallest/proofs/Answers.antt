@@ -41,7 +41,7 @@ module _ (list lent : List ℕ) where
   pub told_short : length lent < length list → Told (by_room list lent) list lent lent (record { outcome = Err TableTooShort; count = 0 })
   told_short h = told_refused TableTooShort list lent (rw (lt-leb (length list) (length lent) h))
 
-  pub told_list : length list ≤ length lent → Told (by_room list lent) list lent (sets lent 0 list) (record { outcome = (Ok tt); count = length list })
+  pub told_list : length list ≤ length lent → Told (by_room list lent) list lent (sets lent 0 list) (record { outcome = Ok tt; count = length list })
   told_list h =
       let e = le-leb (length list) (length lent) h in
       let from_front : 0 + length list ≡ length list = omega arith in

@@ -29,7 +29,7 @@ module _ (table : List ℤ) (b : Board) where
   few bytes = go (first_fault (rule_faults table b bytes)) refl
     where
       go : (o : Outcome) → first_fault (rule_faults table b bytes) ≡ o → width * (ruled table b bytes).added ≤ length table
-      go (Ok tt) e = rw e (omega (arith, enough bytes e))
+      go (Ok _) e = rw e (omega (arith, enough bytes e))
       go (Err why) e = rw e (omega arith)
 
   pub rows_within : (text : List ℕ) {told : Addition} → is_good (whole_text text) ≡ true → told ≡ ruled_text table b text

@@ -27,7 +27,7 @@ module _ (table : List ℤ) (b : Board) (text out : List ℕ) {answer : Spelling
   read_refused why e p a = (a ∙ rw (e, sym p), rw e)
 
   pub read_done : read_text_outcome table b text out ≡ Ok tt → length (bytes_in text) ≤ length out → {after : List ℕ} {size : ℕ}
-      → Put out after 0 (bytes_in text) size → answer ≡ record { outcome = (Ok tt); place = no_place; bytes = size }
+      → Put out after 0 (bytes_in text) size → answer ≡ record { outcome = Ok tt; place = no_place; bytes = size }
       → (answer ≡ read_text_answer table b text out) × (after ≡ read_text_bytes table b text out)
   unfolding read_text_answer read_text_bytes
   read_done e fits {size = size} p a =

@@ -21,7 +21,7 @@ module _ (S : ℕ) (bytes out : List ℕ) {answer : Spelling} where
   too_short h a = let small = lt-leb (length (text_in S bytes)) (length out) h in (a ∙ rw small, rw small)
 
   pub fitting : {after : List ℕ} {size : ℕ} → length (text_in S bytes) ≤ length out → Put out after 0 (text_in S bytes) size
-      → answer ≡ record { outcome = (Ok tt); place = no_place; bytes = size }
+      → answer ≡ record { outcome = Ok tt; place = no_place; bytes = size }
       → (answer ≡ spelled_answer (outcome S bytes out) S bytes) × (after ≡ over (outcome S bytes out) (text_in S bytes) out)
   fitting {size = size} h p a =
       let text = text_in S bytes in

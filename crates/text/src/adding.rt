@@ -13,7 +13,6 @@ use board::rules::{Addition, NO_PLACE, add_rule, refused};
 use board::testing::good;
 use chains::emitting::emit;
 use chains::reading::read_text;
-use formula::reading::Answer;
 use literals::refusal::Refusal;
 
 // Adds the rule of a short text.
@@ -58,9 +57,9 @@ pub fn add_text(board: Board, table: &mut [i16], text: &[u8]) -> Addition
 {
     match read_text(text) {
         Ok(_) => add_formula(board, table, text),
-        Err(Break { why, place }) => {
+        Err(at) => {
             if good(board, table) {
-                return refused(board, why, place);
+                return refused(board, at.why, at.place);
             }
             refused(board, Refusal::BadBoard, NO_PLACE)
         }

@@ -11,7 +11,7 @@ use board::testing::good;
 use board::{Board, Outcome};
 use chains::emitting::emit;
 use chains::reading::read_text;
-use formula::reading::{Answer, read_whole};
+use formula::reading::{Break, read_whole};
 use literals::refusal::Refusal;
 
 // A text of so many bytes has no more than twice as many formula bytes, and they stand in a short buffer.
@@ -21,7 +21,7 @@ pub const SHORT: usize = 128;
 pub const ENOUGH: usize = 98304;
 
 // What the byte reader answers of a short text's bytes.
-fn judge_short(text: &[u8], symbols: usize) -> Answer
+fn judge_short(text: &[u8], symbols: usize) -> Result<usize, Break>
     requires { (length text.now ≤ 128) × (is_good (whole_text text.now) ≡ true) }
     ensures { result ≡ read_of (read_in symbols text.now) }
 {
@@ -31,7 +31,7 @@ fn judge_short(text: &[u8], symbols: usize) -> Answer
 }
 
 // And of any text's: bytes that do not fit are not looked at.
-fn judge_long(text: &[u8], symbols: usize) -> Answer
+fn judge_long(text: &[u8], symbols: usize) -> Result<usize, Break>
     requires { is_good (whole_text text.now) ≡ true }
     ensures { result ≡ read_of (read_in symbols text.now) }
 {
@@ -41,7 +41,7 @@ fn judge_long(text: &[u8], symbols: usize) -> Answer
     read_whole(&room[..kept], symbols)
 }
 
-fn judge(text: &[u8], symbols: usize) -> Answer
+fn judge(text: &[u8], symbols: usize) -> Result<usize, Break>
     requires { is_good (whole_text text.now) ≡ true }
     ensures { result ≡ read_of (read_in symbols text.now) }
 {
@@ -60,9 +60,9 @@ pub fn read(board: Board, table: &[i16], text: &[u8], out: &mut [u8]) -> Spellin
         return refused(Refusal::BadBoard, NO_PLACE);
     }
     match read_text(text) {
-        Err(Break { why, place }) => refused(why, place),
+        Err(at) => refused(at.why, at.place),
         Ok(_) => match judge(text, board.symbols) {
-            Err(Break { why, place }) => refused(why, place),
+            Err(at) => refused(at.why, at.place),
             Ok(size) => {
                 if out.len() < size {
                     return refused(Refusal::TableTooShort, NO_PLACE);

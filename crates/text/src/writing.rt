@@ -12,7 +12,7 @@ use board::rules::NO_PLACE;
 use board::testing::good;
 use board::{Board, Outcome};
 use chains::wording::spell;
-use formula::reading::{Answer, read_whole};
+use formula::reading::read_whole;
 use literals::refusal::Refusal;
 
 // Writes the text of a formula that was read, and nothing where it does not fit. An empty buffer is written first, to measure it.
@@ -45,7 +45,7 @@ pub fn write(board: Board, table: &[i16], bytes: &[u8], out: &mut [u8]) -> Spell
         return refused(Refusal::BadBoard, NO_PLACE);
     }
     match read_whole(bytes, board.symbols) {
-        Err(Break { why, place }) => refused(why, place),
+        Err(at) => refused(at.why, at.place),
         Ok(_) => write_formula(bytes, board.symbols, out),
     }
 }

@@ -157,7 +157,7 @@ returns_4 c =
     let p = at w in
     let table = (start w).args.table.now in
     rw (p.is_good_lem, p.is_furnace, p.in_range_lem, ← p.place, shows c.before, c.rule_at.ensures)
-    (ap₂ (λ (rank row : ℕ). record { outcome = (Ok tt); rank = rank; row = row; rule = rule_at table row }) (rank r) (support r))
+    (ap₂ (λ (rank row : ℕ). record { outcome = Ok tt; rank = rank; row = row; rule = rule_at table row }) (rank r) (support r))
 
 mul_rank : tie.Need-offset_bounds-ranks-p
 mul_rank c = let p = at (tested (chosen c.before.before)) in omega (arith, p.low, p.good.sound.symbols)

@@ -70,7 +70,7 @@ returns_2 c =
     let n = noting e.before in
     let lent = (start n).args.sets.now in
     let t = told_list (list n) lent (fits e) in (
-      ap (λ (k : ℕ). record { outcome = (Ok tt); count = k }) (count_is e.before) ∙ t.answered,
+      ap (λ (k : ℕ). record { outcome = Ok tt; count = k }) (count_is e.before) ∙ t.answered,
       w.write_listed.ensures ∙ ap (sets lent 0) (written n) ∙ t.written,
     )
 

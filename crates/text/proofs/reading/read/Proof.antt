@@ -28,9 +28,9 @@ returns_3 : tie.Need-returns-in-Err
 unfolding read_text_outcome read_text_faults
 returns_3 c =
     let a = c.args in
-    let why = c.in-Err.why in
+    let why = c.in-Err.at.why in
     let e = answer_bad (whole_text a.text.now) (sym c.in-Err.ensures) in
-    let only = (first_offence a.text.now why c.in-Err.place e).0 in
+    let only = (first_offence a.text.now why c.in-Err.at.place e).0 in
     read_refused a.table.now a.board a.text.now a.out.now why (rw (good c.before.before.before, e) (ap Err (sym only)))
     (text_place_lem a.board.symbols a.text.now e) c.refused-in-Err.ensures
 
@@ -45,7 +45,7 @@ returns_4 c =
     let t = c.before.before.before in
     let a = c.args in
     let e = answer_bad (read_in a.board.symbols a.text.now) (sym w.ensures) in
-    read_refused a.table.now a.board a.text.now a.out.now w.why (rw (good t.before.before, keeps t, e))
+    read_refused a.table.now a.board a.text.now a.out.now w.at.why (rw (good t.before.before, keeps t, e))
     (bytes_place a.board.symbols a.text.now e) c.refused-in-Err-judge.ensures
 
 -- its bytes are a formula, and so many

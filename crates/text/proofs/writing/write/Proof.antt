@@ -40,7 +40,7 @@ returns_2 c =
     let w = c.in-Err in
     let a = c.args in
     let e = answer_bad (whole_of a.board.symbols a.bytes.now) (sym w.ensures) in
-    write_refused a.table.now a.board a.bytes.now a.out.now w.why (rw (good c.before.before.before, e))
+    write_refused a.table.now a.board a.bytes.now a.out.now w.at.why (rw (good c.before.before.before, e))
     (place_told_lem a.board.symbols a.bytes.now e) c.refused-in-Err.ensures
 
 returns_3 : tie.Need-returns-in-Ok
