@@ -11,7 +11,8 @@ use Rattle.literals.specs.Literal.{in_range, place_of}
 use Rattle.board.specs.Furnaces.{held_by}
 use Rattle.board.specs.Faults.{good_board}
 use Rattle.board.specs.Asking.{ask_faults, standing_if, standing, asked, asked_whole}
-use Rattle.std.specs.Prelude.{Ok, Err}
+use Rattle.std.specs.Prelude.{Result, Ok, Err}
+use Rattle.literals.specs.declared.refusal.Refusal.{Refusal}
 use Rattle.board.specs.declared.asking.Standing.{Standing}
 use Rattle.board.specs.declared.asking.Standing.TheVariants.{Conflict, Stands, RuledOut, Open}
 use Rattle.literals.proofs.Arguments.{range_facts}
@@ -25,23 +26,23 @@ use Rattle.promises.proofs.Spared.{Kept, spared}
 -- ---- how a literal stands, and its symbol's label
 
 -- the one by the other, where `this` is the label of only this literal derived, and `other` that of only its opposite
-abbrev said : (this other label : ℕ) → Standing
-said this other label = cond (eqb label 3) Conflict (cond (eqb label this) Stands (cond (eqb label other) RuledOut Open))
+abbrev said : (this other label : ℕ) → Result Standing Refusal
+said this other label = Ok (cond (eqb label 3) Conflict (cond (eqb label this) Stands (cond (eqb label other) RuledOut Open)))
 
-abbrev labelled : (this other : ℕ) → Standing → ℕ
-labelled this other Conflict = 3
-labelled this other Stands = this
-labelled this other RuledOut = other
-labelled this other Open = 0
+abbrev labelled : (this other : ℕ) → Result Standing Refusal → ℕ
+labelled this other (Ok Conflict) = 3
+labelled this other (Ok Stands) = this
+labelled this other (Ok RuledOut) = other
+labelled this other (Ok Open) = 0
 labelled this other (Err why) = 0
 
-exactly : (this other : ℕ) {how : Standing} {label : ℕ} → (how ≡ said this other label) × (label ≡ labelled this other how)
-    → (x : Standing) (n : ℕ) → said this other n ≡ x → labelled this other x ≡ n → (how ≡ x) ↔ (label ≡ n)
+exactly : (this other : ℕ) {how : Result Standing Refusal} {label : ℕ} → (how ≡ said this other label) × (label ≡ labelled this other how)
+    → (x : Result Standing Refusal) (n : ℕ) → said this other n ≡ x → labelled this other x ≡ n → (how ≡ x) ↔ (label ≡ n)
 exactly this other is x n s t = (λ e. is.1 ∙ ap (labelled this other) e ∙ t, λ e. is.0 ∙ ap (said this other) e ∙ s)
 
 -- by what is derived: the literal, its opposite
-abbrev stood : (derived opposed : Bool) → Standing
-stood derived opposed = standing_if (derived && opposed) derived opposed
+abbrev stood : (derived opposed : Bool) → Result Standing Refusal
+stood derived opposed = Ok (standing_if (derived && opposed) derived opposed)
 
 plus_said : (a b : Bool) → (stood a b ≡ said 1 2 (label_of a b)) × (label_of a b ≡ labelled 1 2 (stood a b))
 plus_said true true = (refl, refl)
@@ -55,25 +56,25 @@ minus_said true false = (refl, refl)
 minus_said false true = (refl, refl)
 minus_said false false = (refl, refl)
 
-by_label : (l : ℤ) (known : List Bool) → ByLabel (standing known (place_of l)) l (label known (nat_abs l))
+by_label : (l : ℤ) (known : List Bool) → ByLabel (Ok (standing known (place_of l))) l (label known (nat_abs l))
 unfolding place_of
 by_label (pos s) known =
     let r = plus_said (has known (place s true)) (has known (place s false)) in
     rw (opp_place s true)
     (record {
-      conflict = exactly 1 2 r Conflict 3 refl refl;
-      stands = exactly 1 2 r Stands 1 refl refl;
-      ruled_out = exactly 1 2 r RuledOut 2 refl refl;
-      is_open = exactly 1 2 r Open 0 refl refl;
+      conflict = exactly 1 2 r (Ok Conflict) 3 refl refl;
+      stands = exactly 1 2 r (Ok Stands) 1 refl refl;
+      ruled_out = exactly 1 2 r (Ok RuledOut) 2 refl refl;
+      is_open = exactly 1 2 r (Ok Open) 0 refl refl;
     })
 by_label (negsuc k) known =
     let r = minus_said (has known (place (suc k) true)) (has known (place (suc k) false)) in
     rw (opp_place (suc k) false)
     (record {
-      conflict = exactly 2 1 r Conflict 3 refl refl;
-      stands = exactly 2 1 r Stands 2 refl refl;
-      ruled_out = exactly 2 1 r RuledOut 1 refl refl;
-      is_open = exactly 2 1 r Open 0 refl refl;
+      conflict = exactly 2 1 r (Ok Conflict) 3 refl refl;
+      stands = exactly 2 1 r (Ok Stands) 2 refl refl;
+      ruled_out = exactly 2 1 r (Ok RuledOut) 1 refl refl;
+      is_open = exactly 2 1 r (Ok Open) 0 refl refl;
     })
 
 pub ask_by_label : AskByLabel
@@ -86,12 +87,12 @@ ask_by_label w lent some furnace l labels ranks supports e d =
 
 -- ---- a mark that stands, with rules and premises more
 
-derived_if : (a b : Bool) → stood a b ≡ Stands → a ≡ true
+derived_if : (a b : Bool) → stood a b ≡ Ok Stands → a ≡ true
 derived_if true b e = refl
 derived_if false true e = let z = ap (labelled 1 2) e in absurd (omega arith)
 derived_if false false e = let z = ap (labelled 1 2) e in absurd (omega arith)
 
-module _ (w : World) (lent furnace : ℕ) (l : ℤ) (e : asked (front w lent) w.board furnace l ≡ Stands) where
+module _ (w : World) (lent furnace : ℕ) (l : ℤ) (e : asked (front w lent) w.board furnace l ≡ Ok Stands) where
   done : outcome w (asks lent furnace l) ≡ Ok tt
   unfolding answer outcome
   done = ap ask_outcome e
@@ -131,7 +132,7 @@ module _ (w : World) (lent furnace : ℕ) (l : ℤ) where
       rw (rows_read w lent (ap not g), quiet, none_here (derived_set w furnace) (place_of l) quiet))
       (λ g. rw g) (true_or_false (good_board (front w lent) w.board))
 
-  hidden : conflict (derived_set w furnace) ≡ true → outcome w (asks_whole lent furnace l) ≡ Ok tt → answer w (asks_whole lent furnace l) ≡ of_ask Conflict
+  hidden : conflict (derived_set w furnace) ≡ true → outcome w (asks_whole lent furnace l) ≡ Ok tt → answer w (asks_whole lent furnace l) ≡ of_ask (Ok Conflict)
   unfolding answer
   hidden c e = ap of_ask (ask_whole_tells w lent furnace l e ∙ rw c)
 

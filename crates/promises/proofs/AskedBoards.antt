@@ -3,7 +3,7 @@
 use Rattle.meaning.proofs.Kit.{refl, List, [], ◌∷◌, ◌++◌, map, ℕ, ℤ, pos, negsuc}
 use Rattle.meaning.specs.Tests.{none}
 use Rattle.literals.specs.declared.refusal.Refusal.TheVariants.{BadBoard, BadLiteral, BadFurnace}
-use Rattle.std.specs.Prelude.{Ok, Err}
+use Rattle.std.specs.Prelude.{Result, Ok, Err}
 use Rattle.board.specs.declared.asking.Standing.{Standing}
 use Rattle.board.specs.declared.asking.Standing.TheVariants.{Conflict, Stands, RuledOut, Open}
 use Rattle.spelling.proofs.Ascii.{ascii}
@@ -30,7 +30,7 @@ ask_whole furnace l = asks_whole lent furnace l
 
 -- what a call answers of literals
 abbrev told : (ℤ → Call) → List (ℤ × Standing) → List (Call × Answer)
-told call how = map (λ q. (call q.0, of_ask q.1)) how
+told call how = map (λ q. (call q.0, of_ask (Ok q.1))) how
 
 -- how the literals stand, where 3 stands so and −3 so
 abbrev standings : (plus minus : Standing) → List (ℤ × Standing)
@@ -61,8 +61,8 @@ settled =
 -- literals that are none, and a number of no furnace, for either call
 abbrev refusals : (ℤ → Call) → (ℤ → Call) → List (Call × Answer)
 refusals good misnamed =
-    told good ((pos 0, Err BadLiteral) ∷ (pos 6, Err BadLiteral) ∷ (negsuc 5, Err BadLiteral) ∷ [])
-    ++ told misnamed ((pos 1, Err BadFurnace) ∷ (pos 6, Err BadFurnace) ∷ [])
+    map (λ l. (good l, of_ask (Err BadLiteral))) (pos 0 ∷ pos 6 ∷ negsuc 5 ∷ [])
+    ++ map (λ l. (misnamed l, of_ask (Err BadFurnace))) (pos 1 ∷ pos 6 ∷ [])
 
 abbrev boards : List (List Call × List (Call × Answer))
 boards =
@@ -79,7 +79,7 @@ boards =
     )
     -- both are refused alike, in a conflict too: 16 ahead of 2, and 1 ahead of both
     ∷ (clashing, refusals (ask 1) (ask 3) ++ refusals (ask_whole 1) (ask_whole 3))
-    ∷ ([], told (ask 3) ((pos 6, Err BadBoard) ∷ []) ++ told (ask_whole 3) ((pos 6, Err BadBoard) ∷ []))
+    ∷ ([], (ask 3 (pos 6), of_ask (Err BadBoard)) ∷ (ask_whole 3 (pos 6), of_ask (Err BadBoard)) ∷ [])
     ∷ []
 
 asked_boards_hold : FreshHold answer boards

@@ -1,5 +1,7 @@
 -- 01's boards "Marked P: to be proved", together: what 01 says of each, and that the calls come to the same; and those of 02's Tickets 1, 2, 4
 -- and 5. Rules are given as 01's bytes or as text, each board is opened over a table of 8 rows of zeros, and the premises are furnace 1's.
+use Rattle.literals.specs.declared.refusal.Refusal.{Refusal}
+use Rattle.std.specs.Prelude.{Result, Ok, Err}
 use Rattle.meaning.proofs.Kit.{◌≡◌, refl, List, [], ◌∷◌, ◌++◌, map, ℕ, ◌*◌, ℤ, pos, negsuc, take, replicate}
 use Rattle.board.specs.Faults.{number_in}
 use Rattle.board.specs.Changes.{empty_board}
@@ -52,7 +54,10 @@ data Answer : Type 0 where
   stopped : (refusal clauses : ℕ) → Answer
   appended_rows : List (List ℕ) → Answer
   bytes : List ℕ → Answer
-  standing : Standing → Answer
+  asked_is : Result Standing Refusal → Answer
+
+abbrev standing : Standing → Answer
+standing how = asked_is (Ok how)
 
 -- ---- the answers by the calls
 
@@ -78,7 +83,7 @@ tell w (breaks formula) = let a = ruled w.table w.board formula in refused_at_le
 tell w (breaks-text text) = let a = ruled_text w.table w.board text in refused_at_lem (number_in a.outcome) a.place
 tell w rows = appended_rows (rows_of_world w)
 tell w labels = let S = w.board.symbols in bytes (settled_labels w.table w.board furnace (blank S) (blank (2 * S)) (blank (2 * S)))
-tell w (ask l) = standing (asked w.table w.board furnace l)
+tell w (ask l) = asked_is (asked w.table w.board furnace l)
 tell w (rank l) = number (explain_numbers w.table w.board furnace l).rank
 tell w marks = bytes (blame_marks w.table w.board furnace (blank (2 * w.board.symbols)))
 tell w (stops text) = let a = read_answer w.table w.board text in stopped (number_in a.outcome) a.clauses

@@ -4,7 +4,7 @@ use Rattle.meaning.proofs.Kit.{refl, List, [], ◌∷◌, ℕ, ◌+◌, ◌*◌,
 use Rattle.meaning.specs.Tests.{none}
 use Rattle.literals.specs.Row.{width}
 use Rattle.literals.specs.declared.refusal.Refusal.TheVariants.{NothingToShow}
-use Rattle.std.specs.Prelude.{Ok, Err}
+use Rattle.std.specs.Prelude.{Result, Ok, Err}
 use Rattle.board.specs.declared.asking.Standing.TheVariants.{Conflict, Stands, Open}
 use Rattle.spelling.proofs.Ascii.{ascii}
 use Rattle.promises.specs.Calls.{Call, opens, holds, withdraws, asks, explains, grounds, reads, Answer, of_ask, of_explain, of_marks, answer}
@@ -49,13 +49,13 @@ abbrev on_2 : Answer
 on_2 = of_marks (Ok tt) (0 ∷ 0 ∷ 1 ∷ 0 ∷ 0 ∷ 0 ∷ 0 ∷ 0 ∷ [])
 
 abbrev conflict : Answer
-conflict = of_ask Conflict
+conflict = of_ask (Ok Conflict)
 
 abbrev stands : Answer
-stands = of_ask Stands
+stands = of_ask (Ok Stands)
 
 abbrev is_open : Answer
-is_open = of_ask Open
+is_open = of_ask (Ok Open)
 
 -- ---- calls that are made, and what others then answer
 

@@ -38,13 +38,6 @@ use Rattle.promises.proofs.RuleTexts.{rule_text_told}
 
 -- ---- what a call answers
 
--- how a literal stands is of a call that is done
-stands_done : (clash derived opposed : Bool) → ask_outcome (standing_if clash derived opposed) ≡ Ok tt
-stands_done true derived opposed = refl
-stands_done false true opposed = refl
-stands_done false false true = refl
-stands_done false false false = refl
-
 pub first_case : (w : World) (c : Call) → outcome w c ≡ first_fault (faults w c)
 unfolding answer outcome faults opened_with opened entered flag_changed withdrawn_with pushed popped asked asked_whole explain_numbers settle_outcome
     ground_outcome blame_outcome smallest_answer smallest_outcome least_answer read_answer write_answer write_outcome read_text_answer read_text_outcome
@@ -59,14 +52,10 @@ first_case w (pushes lent furnace l) = refl
 first_case w (pops lent furnace) = refl
 first_case w (asks lent furnace l) =
     told_by_lem ask_outcome _ _ (first_fault (ask_faults (front w lent) w.board furnace l))
-    (λ e. (let known = derived_on (front w lent) w.board furnace in let p = place_of l in
-    stands_done (has known p && has known (opp p)) (has known p) (has known (opp p)) ∙ sym e))
-    (λ why e. sym e)
+    (λ e. sym e) (λ why e. sym e)
 first_case w (asks_whole lent furnace l) =
     told_by_lem ask_outcome _ _ (first_fault (ask_faults (front w lent) w.board furnace l))
-    (λ e. (let known = derived_on (front w lent) w.board furnace in let p = place_of l in
-    stands_done (conflict known) (has known p) (has known (opp p)) ∙ sym e))
-    (λ why e. sym e)
+    (λ e. sym e) (λ why e. sym e)
 first_case w (explains lent furnace l) =
     told_by_lem (λ (r : Reason). r.outcome) _ _ (first_fault (explain_faults (front w lent) w.board furnace l)) (λ e. refl) (λ why e. refl)
 first_case w (settles lent furnace labels ranks supports) = refl

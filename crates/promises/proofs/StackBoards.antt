@@ -4,7 +4,7 @@ use Rattle.meaning.proofs.Kit.{◌≡◌, refl, true, List, [], ◌∷◌, ◌++
 use Rattle.literals.specs.declared.refusal.Refusal.{Refusal}
 use Rattle.literals.specs.declared.refusal.Refusal.TheVariants.{BadBoard, BadLiteral, AlreadyHeld, NotHeld, BadFurnace, EmptyStack, StackedPremise}
 use Rattle.board.specs.Changes.{empty_board, with_flag}
-use Rattle.std.specs.Prelude.{Ok, Err}
+use Rattle.std.specs.Prelude.{Result, Ok, Err}
 use Rattle.board.specs.declared.asking.Standing.{Standing}
 use Rattle.board.specs.declared.asking.Standing.TheVariants.{Conflict, Stands, RuledOut, Open}
 use Rattle.spelling.proofs.Ascii.{ascii}
@@ -34,7 +34,7 @@ abbrev withdraw : (furnace : ℕ) → ℤ → Call
 withdraw furnace l = withdraws lent furnace l
 
 abbrev stand : (furnace : ℕ) → ℤ → Standing → Call × Answer
-stand furnace l how = (asks lent furnace l, of_ask how)
+stand furnace l how = (asks lent furnace l, of_ask (Ok how))
 
 abbrev good : Call → Call × Answer
 good c = (c, of_change (Ok tt))

@@ -4,7 +4,7 @@ use Rattle.meaning.specs.Tests.{none}
 use Rattle.board.specs.Furnaces.{held_by}
 use Rattle.board.specs.Faults.{number_in}
 use Rattle.board.specs.Changes.{empty_board, with_flag}
-use Rattle.std.specs.Prelude.{Ok}
+use Rattle.std.specs.Prelude.{Result, Ok, Err}
 use Rattle.board.specs.declared.asking.Standing.{Standing}
 use Rattle.board.specs.declared.asking.Standing.TheVariants.{Conflict, Stands, Open}
 use Rattle.positions.specs.Entering.{variable_of}
@@ -61,7 +61,7 @@ abbrev settle : (furnace : ℕ) → Question
 settle furnace = all_told (settles lent furnace (blank 2) (blank 4) (blank 4))
 
 abbrev standing : Standing → Found
-standing how = told (of_ask how)
+standing how = told (of_ask (Ok how))
 
 -- each call that names a furnace, with a literal where it takes one, and so many places in each table that is written
 abbrev named : (furnace : ℕ) → ℤ → (places : ℕ) → List Call

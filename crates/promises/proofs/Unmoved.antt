@@ -34,7 +34,7 @@ use Rattle.promises.proofs.Fewer.{Fewer, fewer}
 use Rattle.promises.proofs.Spared.{spared}
 
 -- how a literal stands that was derived and still is, where what is a conflict for it now was one before
-kept_but : (before now : Bool) → (now ≡ true → before ≡ true) → KeptBut (of_ask (cond before Conflict Stands)) (of_ask (cond now Conflict Stands))
+kept_but : (before now : Bool) → (now ≡ true → before ≡ true) → KeptBut (of_ask (Ok (cond before Conflict Stands))) (of_ask (Ok (cond now Conflict Stands)))
 kept_but true true more = inl refl
 kept_but true false more = inr (refl, refl)
 kept_but false true more = clash (more refl) refl
@@ -148,9 +148,9 @@ module _ (w : World) (lent furnace : ℕ) (l : ℤ) (marks : List ℕ) (e : outc
         (λ g read. rw (good_same some, g, f.symbols, f.rows, f.table, read, u.derived, is_derived, u.ground))
 
     -- both calls that ask are refused as before; where they are done, they answer by the rows of the table
-    told_kept : (some : ℕ) (before now : Standing) → (rows_on (front w some) w.board ≡ rows → KeptBut (of_ask before) (of_ask now))
-        → KeptBut (of_ask (if_done (first_fault (ask_faults (front w some) w.board furnace l)) before Err))
-        (of_ask (if_done (first_fault (ask_faults (front v some) v.board furnace l)) now Err))
+    told_kept : (some : ℕ) (before now : Standing) → (rows_on (front w some) w.board ≡ rows → KeptBut (of_ask (Ok before)) (of_ask (Ok now)))
+        → KeptBut (of_ask (if_done (first_fault (ask_faults (front w some) w.board furnace l)) (Ok before) (λ why. Err why)))
+        (of_ask (if_done (first_fault (ask_faults (front v some) v.board furnace l)) (Ok now) (λ why. Err why)))
     unfolding ask_faults
     told_kept some before now kept =
         ⊎_elim
@@ -180,7 +180,7 @@ module _ (w : World) (lent furnace : ℕ) (l : ℤ) (marks : List ℕ) (e : outc
 
     -- where the board was good, what either call tells now is how the literal stands
     told_now : (some : ℕ) (now : Standing) → good_board (front w some) w.board ≡ true
-        → of_ask (if_done (first_fault (ask_faults (front v some) v.board furnace l)) now Err) ≡ of_ask now
+        → of_ask (if_done (first_fault (ask_faults (front v some) v.board furnace l)) (Ok now) (λ why. Err why)) ≡ of_ask (Ok now)
     unfolding ask_faults
     told_now some now g = rw (good_same some, g, named, f.symbols, range)
 
@@ -191,7 +191,7 @@ module _ (w : World) (lent furnace : ℕ) (l : ℤ) (marks : List ℕ) (e : outc
         (none_given (ask_faults (front w some) w.board furnace l) (sym (ap first_fault e) ∙ cases w c d) 0)
 
     stands_now : (some : ℕ) → has (derived_set v furnace) (opp p) ≡ false → outcome w (asks some furnace l) ≡ Ok tt
-        → answer v (asks some furnace l) ≡ of_ask Stands
+        → answer v (asks some furnace l) ≡ of_ask (Ok Stands)
     unfolding answer asked faults held_by
     stands_now some alone d =
         let g = was_good some (asks some furnace l) refl d in
@@ -200,7 +200,7 @@ module _ (w : World) (lent furnace : ℕ) (l : ℤ) (marks : List ℕ) (e : outc
         ∙ rw (f.symbols, f.rows, f.table, rows_read w some (ap not g), u.derived, still)
 
     stands_whole_now : (some : ℕ) → conflict (derived_set v furnace) ≡ false → outcome w (asks_whole some furnace l) ≡ Ok tt
-        → answer v (asks_whole some furnace l) ≡ of_ask Stands
+        → answer v (asks_whole some furnace l) ≡ of_ask (Ok Stands)
     unfolding answer asked_whole faults held_by
     stands_whole_now some quiet d =
         let g = was_good some (asks_whole some furnace l) refl d in

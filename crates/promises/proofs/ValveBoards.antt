@@ -125,37 +125,37 @@ boards =
     (
       fresh,
       opens 4 ∷ unlike_valves (hold (pos 1) ∷ []),
-      (ask (pos 2), of_ask RuledOut)
-          ∷ (ask (pos 3), of_ask RuledOut)
-          ∷ (ask (pos 4), of_ask Stands)
-          ∷ (ask_whole (pos 3), of_ask RuledOut)
-          ∷ (asks lent 1 (pos 3), of_ask Open)
+      (ask (pos 2), of_ask (Ok RuledOut))
+          ∷ (ask (pos 3), of_ask (Ok RuledOut))
+          ∷ (ask (pos 4), of_ask (Ok Stands))
+          ∷ (ask_whole (pos 3), of_ask (Ok RuledOut))
+          ∷ (asks lent 1 (pos 3), of_ask (Ok Open))
           ∷ [],
     )
     -- "−s its own": the valve is in its other position
     ∷ (
       fresh,
       opens 4 ∷ unlike_valves (hold (negsuc 0) ∷ []),
-      (ask (pos 1), of_ask RuledOut) ∷ (ask (pos 4), of_ask RuledOut) ∷ (ask (pos 3), of_ask Stands) ∷ [],
+      (ask (pos 1), of_ask (Ok RuledOut)) ∷ (ask (pos 4), of_ask (Ok RuledOut)) ∷ (ask (pos 3), of_ask (Ok Stands)) ∷ [],
     )
     -- both valves in their first position: that empties them, as "holding both" does
     ∷ (
       fresh,
       opens 4 ∷ unlike_valves (hold (pos 1) ∷ hold (pos 3) ∷ []),
-      (ask_whole (pos 2), of_ask Conflict) ∷ (asks_whole lent 1 (pos 2), of_ask Open) ∷ [],
+      (ask_whole (pos 2), of_ask (Ok Conflict)) ∷ (asks_whole lent 1 (pos 2), of_ask (Ok Open)) ∷ [],
     )
-    ∷ (fresh, opens 4 ∷ unlike_valves (hold (pos 4) ∷ hold (negsuc 3) ∷ []), (ask_whole (pos 1), of_ask Conflict) ∷ [])
+    ∷ (fresh, opens 4 ∷ unlike_valves (hold (pos 4) ∷ hold (negsuc 3) ∷ []), (ask_whole (pos 1), of_ask (Ok Conflict)) ∷ [])
     -- a position without an allowed partner is ruled out with nothing held
     ∷ (
       fresh,
       opens 4 ∷ enter (valve 1) ∷ enter (valve 3) ∷ enter (pairs_of 1 2 3 2 1) ∷ [],
-      (ask (pos 2), of_ask RuledOut) ∷ (ask (pos 4), of_ask RuledOut) ∷ (ask (pos 1), of_ask Stands) ∷ [],
+      (ask (pos 2), of_ask (Ok RuledOut)) ∷ (ask (pos 4), of_ask (Ok RuledOut)) ∷ (ask (pos 1), of_ask (Ok Stands)) ∷ [],
     )
     -- the last valve of the chain is in its second position, and so are all
     ∷ (
       chain_table,
       chain,
-      (asks chain_lent 2 (pos 1), of_ask RuledOut) ∷ (asks chain_lent 2 (pos 2), of_ask Stands) ∷ (asks chain_lent 2 (pos 3), of_ask RuledOut) ∷ [],
+      (asks chain_lent 2 (pos 1), of_ask (Ok RuledOut)) ∷ (asks chain_lent 2 (pos 2), of_ask (Ok Stands)) ∷ (asks chain_lent 2 (pos 3), of_ask (Ok RuledOut)) ∷ [],
     )
     -- the refusals; on a board that is not opened; and for eight positions, which takes more symbols
     ∷ (fresh, two_valves, refusals ++ in_order_lem)

@@ -13,7 +13,9 @@ use Rattle.literals.specs.Literal.{place_of}
 use Rattle.board.specs.Faults.{first_fault, if_done}
 use Rattle.board.specs.Asking.{standing_if, standing}
 use Rattle.board.specs.Faults.{Outcome}
-use Rattle.std.specs.Prelude.{Ok, Err}
+use Rattle.std.specs.Prelude.{Result, Ok, Err}
+use Rattle.literals.specs.declared.refusal.Refusal.{Refusal}
+use Rattle.board.specs.declared.asking.Standing.{Standing}
 use Rattle.board.specs.declared.asking.Standing.TheVariants.{Conflict, RuledOut}
 use Rattle.positions.specs.Entering.{entry_faults, entered}
 use Rattle.promises.specs.Calls.{Call, opens, World, front, outcome, after, run, not_open, entry_of, entries_after, entries_after_all}
@@ -78,7 +80,7 @@ valves_remove w₀ S calls furnace only fit =
 -- ---- and what the calls tell of it
 
 -- of the whole board, conflict is told exactly where there is one;
-conflict_told : (clashes derived opposed : Bool) → (standing_if clashes derived opposed ≡ Conflict) ↔ (clashes ≡ true)
+conflict_told : (clashes derived opposed : Bool) → (◌≡◌ {A = Result Standing Refusal} (Ok (standing_if clashes derived opposed)) (Ok Conflict)) ↔ (clashes ≡ true)
 conflict_told true derived opposed = (λ e. refl, λ e. refl)
 conflict_told false true opposed = (λ e. cc, λ e. clash e refl)
 conflict_told false false true = (λ e. cc, λ e. clash e refl)
@@ -86,7 +88,7 @@ conflict_told false false false = (λ e. cc, λ e. clash e refl)
 
 -- and where a literal and its opposite are not both derived, it is ruled out exactly where its opposite is
 ruled_out_told : (derived opposed : Bool) → derived && opposed ≡ false
-    → (standing_if (derived && opposed) derived opposed ≡ RuledOut) ↔ (opposed ≡ true)
+    → (◌≡◌ {A = Result Standing Refusal} (Ok (standing_if (derived && opposed) derived opposed)) (Ok RuledOut)) ↔ (opposed ≡ true)
 ruled_out_told true true quiet = clash refl quiet
 ruled_out_told true false quiet = (λ e. cc, λ e. clash e refl)
 ruled_out_told false true quiet = (λ e. refl, λ e. refl)
@@ -94,7 +96,7 @@ ruled_out_told false false quiet = (λ e. cc, λ e. clash e refl)
 
 -- the positive literal of a symbol
 plus_ruled_out : (known : List Bool) (s : ℕ) → conflict known ≡ false
-    → (standing known (place_of (pos s)) ≡ RuledOut) ↔ (has known (place s false) ≡ true)
+    → (◌≡◌ {A = Result Standing Refusal} (Ok (standing known (place_of (pos s)))) (Ok RuledOut)) ↔ (has known (place s false) ≡ true)
 unfolding place_of
 plus_ruled_out known s quiet =
     rw (opp_place s true)

@@ -62,16 +62,16 @@ boards =
     -- "Nothing is changed": after the call the furnace is in conflict, and holds what the set has
     ∷ (
       against (least_of 1 (pos 4 ∷ pos 3 ∷ pos 2 ∷ pos 1 ∷ []) ∷ []),
-      (asks_whole lent 1 (pos 4), of_ask Conflict) ∷ (withdraws lent 1 (pos 1), of_change (Ok tt)) ∷ (
+      (asks_whole lent 1 (pos 4), of_ask (Ok Conflict)) ∷ (withdraws lent 1 (pos 1), of_change (Ok tt)) ∷ (
         holds lent 1 (pos 1),
         of_change (Err AlreadyHeld),
       ) ∷ [],
     )
     -- once the set is withdrawn there is no conflict, and the empty set is the answer; once a part of it is, the conflict is left
-    ∷ (against (withdraws lent 1 (pos 1) ∷ []), (asks_whole lent 1 (pos 4), of_ask Stands) ∷ (least_of 1 (pos 4 ∷ pos 3 ∷ []), this 0) ∷ [])
+    ∷ (against (withdraws lent 1 (pos 1) ∷ []), (asks_whole lent 1 (pos 4), of_ask (Ok Stands)) ∷ (least_of 1 (pos 4 ∷ pos 3 ∷ []), this 0) ∷ [])
     ∷ (
       against (withdraws lent 1 (pos 2) ∷ []),
-      (asks_whole lent 1 (pos 4), of_ask Conflict) ∷ (least_of 1 (pos 4 ∷ pos 3 ∷ []), this 2) ∷ (
+      (asks_whole lent 1 (pos 4), of_ask (Ok Conflict)) ∷ (least_of 1 (pos 4 ∷ pos 3 ∷ []), this 2) ∷ (
         least_of 1 (pos 2 ∷ pos 3 ∷ []),
         refused NotHeld,
       ) ∷ [],

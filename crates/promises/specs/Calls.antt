@@ -1,6 +1,6 @@
 -- "After every sequence of calls": the calls with all that each is lent, and what they do to the board, the caller's table and the record of the
 -- stacks, by the very definitions that the contracts of `board`, `stack`, `positions`, `smallest`, `least`, `dimacs` and `text` cite.
-use Rattle.std.specs.Prelude.{ℕ, Bool, true, false, cond, not, ◌&&◌, List, [], ◌∷◌, ◌++◌, eqb, ℤ, length, take, drop}
+use Rattle.std.specs.Prelude.{Result, Ok, Err, ℕ, Bool, true, false, cond, not, ◌&&◌, List, [], ◌∷◌, ◌++◌, eqb, ℤ, length, take, drop}
 use Rattle.meaning.specs.Tests.{keep}
 use Rattle.meaning.specs.Formulae.{Formula}
 use Rattle.positions.specs.Positions.{Entry, formulae_of}
@@ -25,12 +25,11 @@ use Rattle.chains.specs.Form.{whole_text}
 use Rattle.text.specs.Reading.{read_text_faults, read_text_answer, read_text_bytes}
 use Rattle.text.specs.Adding.{rule_text_faults, ruled_text, ruled_text_table}
 use Rattle.text.specs.Writing.{write_text_faults, write_text_answer, write_text_bytes}
+use Rattle.literals.specs.declared.refusal.Refusal.{Refusal}
 use Rattle.board.specs.declared.Board.{Board}
 use Rattle.board.specs.Faults.{Outcome}
-use Rattle.std.specs.Prelude.{Ok, Err}
 use Rattle.board.specs.declared.asking.Reason.{Reason}
 use Rattle.board.specs.declared.asking.Standing.{Standing}
-use Rattle.board.specs.declared.asking.Standing.TheVariants.{Conflict, Stands, RuledOut, Open}
 use Rattle.stack.specs.declared.Stacks.{Stacks}
 use Rattle.stack.specs.declared.Step.{Step}
 use Rattle.smallest.specs.declared.Listing.{Listing}
@@ -93,11 +92,8 @@ faults w (adds_text lent text) = rule_text_faults (front w lent) w.board text
 faults w (writes_text lent bytes out) = write_text_faults (front w lent) w.board bytes (length out)
 
 -- the two calls that ask answer by a standing alone: how the literal stands, which is of a call that is done, or why it is refused
-abbrev pub ask_outcome : Standing → Outcome
-ask_outcome Conflict = (Ok tt)
-ask_outcome Stands = (Ok tt)
-ask_outcome RuledOut = (Ok tt)
-ask_outcome Open = (Ok tt)
+abbrev pub ask_outcome : Result Standing Refusal → Outcome
+ask_outcome (Ok how) = Ok tt
 ask_outcome (Err why) = Err why
 
 -- all that a call tells: what it hands back, but for the board and the clause table, which `after` has, and what it leaves in the other tables that
@@ -109,7 +105,7 @@ pub data Answer : Type 0 where
   of_writing : Writing → (out : List ℕ) → Answer
   of_spelling : Spelling → (out : List ℕ) → Answer
   of_settle : Outcome → (labels ranks supports : List ℕ) → Answer
-  of_ask : Standing → Answer
+  of_ask : Result Standing Refusal → Answer
   of_explain : Reason → Span → Answer
   of_marks : Outcome → (marks : List ℕ) → Answer
   of_listing : Listing → (sets : List ℕ) → Answer

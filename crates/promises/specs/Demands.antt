@@ -31,7 +31,7 @@ use Rattle.board.specs.Settling.{settled_labels, settled_ranks, settled_supports
 use Rattle.board.specs.Ranking.{rows_on, derived_on, rank_on, support_on}
 use Rattle.board.specs.Asking.{asked, standing, asked_whole, standing_whole, explain_numbers, explain_part}
 use Rattle.board.specs.Grounds.{byte_of, ground_marks, blame_marks}
-use Rattle.std.specs.Prelude.{Ok, Err}
+use Rattle.std.specs.Prelude.{Result, Ok, Err}
 use Rattle.board.specs.declared.asking.Standing.{Standing}
 use Rattle.board.specs.declared.asking.Standing.TheVariants.{Conflict, Stands, RuledOut, Open}
 use Rattle.stack.specs.Stacking.{on_stack, top, on_top, less_top, empty_stacks, stack_of, with_stack, stacked, good_stacks}
@@ -352,12 +352,12 @@ SettleSpares =
 abbrev pub AskTells : Type 0
 AskTells =
     (w : World) (lent furnace : ℕ) (l : ℤ) → outcome w (asks lent furnace l) ≡ Ok tt
-    → asked (front w lent) w.board furnace l ≡ standing (derived_set w furnace) (place_of l)
+    → asked (front w lent) w.board furnace l ≡ Ok (standing (derived_set w furnace) (place_of l))
 
 abbrev pub AskWholeTells : Type 0
 AskWholeTells =
     (w : World) (lent furnace : ℕ) (l : ℤ) → outcome w (asks_whole lent furnace l) ≡ Ok tt
-    → asked_whole (front w lent) w.board furnace l ≡ standing_whole (derived_set w furnace) (place_of l)
+    → asked_whole (front w lent) w.board furnace l ≡ Ok (standing_whole (derived_set w furnace) (place_of l))
 
 -- the rank, the row number, the number of that row's rule, and the literals of that row
 pub record Explains (w : World) (lent furnace : ℕ) (l : ℤ) : Type 0 where
@@ -615,7 +615,7 @@ GroundAlone =
 
 -- how a literal stands is what it was, refusals included, or it was in conflict and stands now
 abbrev pub KeptBut : (before now : Answer) → Type 0
-KeptBut before now = (now ≡ before) ⊎ ((before ≡ of_ask Conflict) × (now ≡ of_ask Stands))
+KeptBut before now = (now ≡ before) ⊎ ((before ≡ of_ask (Ok Conflict)) × (now ≡ of_ask (Ok Stands)))
 
 -- a mark that can't move: what the furnace is told of the literal in v is what it was told in w, refusals included, but for a conflict that was ended
 pub record CannotMove (w v : World) (furnace : ℕ) (l : ℤ) : Type 0 where
@@ -633,11 +633,11 @@ pub record CannotMove (w v : World) (furnace : ℕ) (l : ℤ) : Type 0 where
   -- how it stands, by its symbol: where it stood it stands, and it stands wherever its opposite is not derived now
   pub ask : (lent : ℕ) → KeptBut (answer w (asks lent furnace l)) (answer v (asks lent furnace l))
   pub stands : (lent : ℕ) → has (derived_set v furnace) (opp (place_of l)) ≡ false → outcome w (asks lent furnace l) ≡ Ok tt
-      → answer v (asks lent furnace l) ≡ of_ask Stands
+      → answer v (asks lent furnace l) ≡ of_ask (Ok Stands)
   -- the same of the whole board, where no conflict is left; none comes up
   pub ask_whole : (lent : ℕ) → KeptBut (answer w (asks_whole lent furnace l)) (answer v (asks_whole lent furnace l))
   pub stands_whole : (lent : ℕ) → conflict (derived_set v furnace) ≡ false → outcome w (asks_whole lent furnace l) ≡ Ok tt
-      → answer v (asks_whole lent furnace l) ≡ of_ask Stands
+      → answer v (asks_whole lent furnace l) ≡ of_ask (Ok Stands)
   pub no_conflict : conflict (derived_set w furnace) ≡ false → conflict (derived_set v furnace) ≡ false
 
 -- the call, if it is done, brings this furnace no rule and no premise
@@ -731,11 +731,11 @@ only_opposite (pos s) = 2
 only_opposite (negsuc k) = 1
 
 -- how a literal stands is what its symbol's label says
-pub record ByLabel (how : Standing) (l : ℤ) (label : ℕ) : Type 0 where
-  pub conflict : (how ≡ Conflict) ↔ (label ≡ 3)
-  pub stands : (how ≡ Stands) ↔ (label ≡ only_this l)
-  pub ruled_out : (how ≡ RuledOut) ↔ (label ≡ only_opposite l)
-  pub is_open : (how ≡ Open) ↔ (label ≡ 0)
+pub record ByLabel (how : Result Standing Refusal) (l : ℤ) (label : ℕ) : Type 0 where
+  pub conflict : (how ≡ Ok Conflict) ↔ (label ≡ 3)
+  pub stands : (how ≡ Ok Stands) ↔ (label ≡ only_this l)
+  pub ruled_out : (how ≡ Ok RuledOut) ↔ (label ≡ only_opposite l)
+  pub is_open : (how ≡ Ok Open) ↔ (label ≡ 0)
 
 -- "By default ask shall answer conflict only where the literal and its opposite are both derived; otherwise stands, ruled out or open": on every
 -- board, in conflict or not, by the label that settle writes for the symbol
@@ -750,11 +750,11 @@ AskByLabel =
 -- whatever else is called, a literal that stands for it stands on, until its opposite is derived too; then it is in conflict
 abbrev pub StandsOn : Type 0
 StandsOn =
-    (w : World) (lent some furnace : ℕ) (l : ℤ) (calls : List Call) → asked (front w lent) w.board furnace l ≡ Stands
+    (w : World) (lent some furnace : ℕ) (l : ℤ) (calls : List Call) → asked (front w lent) w.board furnace l ≡ Ok Stands
     → Each (Spares furnace (λ h. has (premises_of w furnace) h ≡ true)) w calls
     → let v = run w calls in
     outcome v (asks some furnace l) ≡ Ok tt
-    → asked (front v some) v.board furnace l ≡ cond (has (derived_set v furnace) (opp (place_of l))) Conflict Stands
+    → asked (front v some) v.board furnace l ≡ Ok (cond (has (derived_set v furnace) (opp (place_of l))) Conflict Stands)
 
 -- "The old answer stays as a second call."
 pub record SecondCall (w : World) (lent furnace : ℕ) (l : ℤ) : Type 0 where
@@ -764,7 +764,7 @@ pub record SecondCall (w : World) (lent furnace : ℕ) (l : ℤ) : Type 0 where
   pub alike : conflict (derived_set w furnace) ≡ false → answer w (asks_whole lent furnace l) ≡ answer w (asks lent furnace l)
   -- in one it answers conflict for every literal for which it is not refused
   pub hides : conflict (derived_set w furnace) ≡ true → outcome w (asks_whole lent furnace l) ≡ Ok tt
-      → answer w (asks_whole lent furnace l) ≡ of_ask Conflict
+      → answer w (asks_whole lent furnace l) ≡ of_ask (Ok Conflict)
 
 abbrev pub OldAnswer : Type 0
 OldAnswer = (w : World) (lent furnace : ℕ) (l : ℤ) → SecondCall w lent furnace l
@@ -860,11 +860,11 @@ ValvesRemove =
 -- and as the calls tell it: ask, of the whole board, a conflict; and otherwise ask, of a position, that it is ruled out
 pub record ToldOfValves (w : World) (lent furnace : ℕ) (entries : List Entry) : Type 0 where
   pub conflict : (l : ℤ) → outcome w (asks_whole lent furnace l) ≡ Ok tt
-      → (asked_whole (front w lent) w.board furnace l ≡ Conflict) ↔ Emptied entries (premises_of w furnace)
+      → (asked_whole (front w lent) w.board furnace l ≡ Ok Conflict) ↔ Emptied entries (premises_of w furnace)
   pub ruled_out : ¬ Emptied entries (premises_of w furnace) → (x : Variable) (i : ℕ) → In (positions x) entries → i < x.count
       → let l = pos (symbol_at x i) in
       outcome w (asks lent furnace l) ≡ Ok tt
-      → (asked (front w lent) w.board furnace l ≡ RuledOut) ↔ Removed entries (premises_of w furnace) x i
+      → (asked (front w lent) w.board furnace l ≡ Ok RuledOut) ↔ Removed entries (premises_of w furnace) x i
 
 abbrev pub ValvesTold : Type 0
 ValvesTold =
