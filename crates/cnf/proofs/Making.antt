@@ -13,7 +13,7 @@ use Rattle.dimacs.specs.declared.header.Counts.TheVariants.{Of, Broken}
 use Rattle.dimacs.specs.declared.reading.Reading.{Reading}
 use Rattle.dimacs.specs.declared.writing.Writing.{Writing}
 use Rattle.cnf.specs.Rewriting.{Made, made, read_made, rows_made}
-use Rattle.cnf.specs.declared.Rewritten.TheVariants.{Text, NoBoard, Err as NotMade}
+use Rattle.cnf.specs.declared.Rewritten.TheVariants.{Text, NoBoard, Refused as NotMade}
 
 module _ (table : List ℤ) (b : Board) (out : List ℕ) {w : Writing} {after : List ℕ}
     (w-is : w ≡ write_answer table b out) (after_is : after ≡ write_bytes table b out) where

@@ -16,7 +16,7 @@ use Rattle.dimacs.specs.declared.header.Counts.TheVariants.{Of, Broken}
 use Rattle.dimacs.proofs.ClauseCount.{told_few}
 use Rattle.cnf.specs.Rewriting.{Made, made, made_by, read_made, rows_made}
 use Rattle.cnf.specs.declared.Rewritten.{Rewritten}
-use Rattle.cnf.specs.declared.Rewritten.TheVariants.{Text, NoBoard, Err as NotMade}
+use Rattle.cnf.specs.declared.Rewritten.TheVariants.{Text, NoBoard, Refused as NotMade}
 
 -- a text has at most so many bytes; and few clauses are told
 abbrev pub Fits : ℕ → Rewritten → Type 0

@@ -3,7 +3,7 @@
 ghost use Rattle.std.specs.Prelude.{◌≡◌, ◌≤◌, length};
 ghost use Rattle.lines.specs.Commands.{body_length, command_of, formula_length, literal_in};
 
-use formula::reading::{Answer, LEVELS};
+use formula::reading::LEVELS;
 
 // What the kind byte of a command says.
 #[derive(Clone, Copy)]

@@ -113,16 +113,16 @@ fn say_change(change: Change, used: usize, out: &mut [u8], at: usize) -> Progres
 }
 
 // Ask.
-fn say_standing(board: Board, standing: Standing, out: &mut [u8], at: usize) -> Progress
+fn say_standing(board: Board, standing: Result<Standing, Refusal>, out: &mut [u8], at: usize) -> Progress
     requires { at + 128 ≤ length out.old }
     ensures did { Did (ask_said board standing) result out.old out.new at }
     ensures written_bound { result.written ≤ at + 128 }
 {
     match standing {
-        Standing::Conflict => accept(board, 3, b" conflict", out, at),
-        Standing::Stands => accept(board, 3, b" stands", out, at),
-        Standing::RuledOut => accept(board, 3, b" out", out, at),
-        Standing::Open => accept(board, 3, b" open", out, at),
+        Ok(Standing::Conflict) => accept(board, 3, b" conflict", out, at),
+        Ok(Standing::Stands) => accept(board, 3, b" stands", out, at),
+        Ok(Standing::RuledOut) => accept(board, 3, b" out", out, at),
+        Ok(Standing::Open) => accept(board, 3, b" open", out, at),
         Err(why) => refuse(board, 3, OF_CALL, why, out, at),
     }
 }

@@ -10,7 +10,7 @@ use Rattle.orders.specs.Lines.{opening, naming, working}
 use Rattle.orders.specs.States.{State, state_of, did, tells, simply, is_made, named_reply, with_name, worked, work_reply, Does}
 use Rattle.orders.specs.declared.Desk.{Desk}
 use Rattle.orders.specs.declared.Told.{Told}
-use Rattle.orders.specs.declared.Reply.TheVariants.{(Ok tt) as Made, Err as Denied}
+use Rattle.orders.specs.declared.Reply.TheVariants.{Done as Made, Refused as Denied}
 
 -- a slot of an empty word is all zeros
 pub zeros : (n : ℕ) → padded n [] ≡ replicate n 0

@@ -15,7 +15,7 @@ use Rattle.orders.specs.Lines.{Line, opening, naming, working, calling, asking, 
 use Rattle.orders.specs.declared.Desk.{Desk}
 use Rattle.orders.specs.declared.Told.{Told}
 use Rattle.orders.specs.declared.Reply.{Reply}
-use Rattle.orders.specs.declared.Reply.TheVariants.{(Ok tt) as Made, Err as Denied, Not, Asks, Nothing}
+use Rattle.orders.specs.declared.Reply.TheVariants.{Done as Made, Refused as Denied, Not, Asks, Nothing}
 use Rattle.orders.specs.declared.Slip.TheVariants.{NameTaken}
 
 -- the board, the table and the record; the furnace that lines work; and the table of names

@@ -6,15 +6,15 @@ use Rattle.orders.proofs.Named.{named_fits, slot_written, unmade}
 use Rattle.orders.proofs.taking.name.Statement.{statement}
 use Rattle.orders.proofs.taking.name.Tie as tie
 
-fits : (c : tie.In-Ok) → let a = c.args in (1 ≤ a.symbol) × (a.symbol ≤ 200)
-fits c = named_fits _ _ _ _ _ c.judge_name-judged.ensures c.in-Ok.is
+fits : (c : tie.In-Done) → let a = c.args in (1 ≤ a.symbol) × (a.symbol ≤ 200)
+fits c = named_fits _ _ _ _ _ c.judge_name-judged.ensures c.in-Done.is
 
-returns : tie.Need-returns-in-Ok
+returns : tie.Need-returns-in-Done
 returns c =
     let a = c.args in
     let at = 24 * (a.symbol - 1) in
     rw (slot_written a.names.now at (at + 24 - at) a.given.now _ (omega arith) (omega (arith, fits c.before.before.before.before, c.requires)) c.put.ensures)
-    (rw (ap is_made c.in-Ok.is) at (named_does a.desk a.table.now _ _ _ _ c.judge_name-judged.ensures))
+    (rw (ap is_made c.in-Done.is) at (named_does a.desk a.table.now _ _ _ _ c.judge_name-judged.ensures))
 
 returns_2 : tie.Need-returns-in_default
 returns_2 c =
