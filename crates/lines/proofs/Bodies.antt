@@ -10,7 +10,7 @@ use Rattle.board.specs.Asking.{asked, explain_part, explain_numbers}
 use Rattle.board.specs.declared.Board.{Board}
 use Rattle.board.specs.declared.Change.{Change}
 use Rattle.board.specs.Faults.{Outcome}
-use Rattle.std.specs.Prelude.{Ok, Err}
+use Rattle.std.specs.Prelude.{Result, Ok, Err}
 use Rattle.board.specs.declared.asking.Standing.{Standing}
 use Rattle.board.specs.declared.asking.Standing.TheVariants.{Conflict, Stands, RuledOut, Open as Unsettled}
 use Rattle.lines.specs.Words.{ok_word}
@@ -63,11 +63,11 @@ ending_used (Err why) b used text other h = h why
 change_used : (used : ℕ) (c : Change) → (change_said used c).used ≡ used
 change_used used c = ending_used c.outcome c.board used ok_word (refused c.board used of_call) (λ why. refl)
 
-standing_used : (b : Board) (s : Standing) → (ask_said b s).used ≡ 3
-standing_used b Conflict = refl
-standing_used b Stands = refl
-standing_used b RuledOut = refl
-standing_used b Unsettled = refl
+standing_used : (b : Board) (s : Result Standing Refusal) → (ask_said b s).used ≡ 3
+standing_used b (Ok Conflict) = refl
+standing_used b (Ok Stands) = refl
+standing_used b (Ok RuledOut) = refl
+standing_used b (Ok Unsettled) = refl
 standing_used b (Err why) = refl
 
 abbrev Within : ℕ → ℕ → Type 0

@@ -4,10 +4,10 @@ use Rattle.meaning.proofs.Kit.{to_z-of_z, to_z_pos, sfits_of, lt-ltb, le-ltb}
 use lib.Signed.{mag}
 use mir.Syntax.{w32}
 use mir.Val.{hbits}
-use Rattle.literals.specs.declared.refusal.Refusal.{Refusal}
 use Rattle.formula.specs.Parse.{Parsed, good, bad, levels, parse}
 use Rattle.formula.specs.Answers.{read_of, used_of}
 use Rattle.std.specs.Prelude.{Ok, Err}
+use Rattle.formula.specs.declared.reading.Break.{Break}
 use Rattle.formula.proofs.Extents.{parse_used}
 use Rattle.lines.specs.Commands.{formula_length, length_of, literal_in}
 
@@ -19,9 +19,9 @@ length_good (good f used) rest n e = cc
 length_good (bad why at) rest n e = cc
 
 -- of a faulty one all bytes are tried
-pub length_bad : (p : Parsed) (rest at : ℕ) (why : Refusal) → read_of p ≡ Err why at → length_of rest p ≡ rest
-length_bad (good f used) rest at why e = cc
-length_bad (bad because place) rest at why e = cc
+pub length_bad : (p : Parsed) (rest : ℕ) {at : Break} → read_of p ≡ Err at → length_of rest p ≡ rest
+length_bad (good f used) rest e = cc
+length_bad (bad why place) rest e = cc
 
 pub formula_most : (S : ℕ) (body : List ℕ) → formula_length S body ≤ length body
 unfolding formula_length

@@ -13,7 +13,7 @@ use Rattle.board.specs.declared.Change.{Change}
 use Rattle.board.specs.declared.rules.Addition.{Addition}
 use Rattle.board.specs.declared.asking.Standing.{Standing}
 use Rattle.board.specs.declared.asking.Standing.TheVariants.{Conflict, Stands, RuledOut, Open as Unsettled}
-use Rattle.std.specs.Prelude.{Err}
+use Rattle.std.specs.Prelude.{Result, Ok, Err}
 use Rattle.lines.specs.declared.commands.Command.{Command}
 use Rattle.lines.specs.declared.commands.Command.TheVariants.{Open, Rule, Hold, Drop, Ask, Why, Other}
 use Rattle.lines.specs.declared.saying.Progress.{Progress}
@@ -93,11 +93,11 @@ abbrev pub change_said : (used : ℕ) → Change → Said
 change_said used c = if_done c.outcome (accepted c.board used ok_word) (refused c.board used of_call)
 
 -- "`stands`, `out`, `open` or `conflict`"
-abbrev pub ask_said : Board → Standing → Said
-ask_said b Conflict = accepted b 3 conflict_word
-ask_said b Stands = accepted b 3 stands_word
-ask_said b RuledOut = accepted b 3 out_word
-ask_said b Unsettled = accepted b 3 open_word
+abbrev pub ask_said : Board → Result Standing Refusal → Said
+ask_said b (Ok Conflict) = accepted b 3 conflict_word
+ask_said b (Ok Stands) = accepted b 3 stands_word
+ask_said b (Ok RuledOut) = accepted b 3 out_word
+ask_said b (Ok Unsettled) = accepted b 3 open_word
 ask_said b (Err why) = refused b 3 of_call why
 
 -- "for explain `rank R row N:` and the row's literals"

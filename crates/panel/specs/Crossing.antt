@@ -1,5 +1,5 @@
 -- The C side's structs: plain numbers of fixed width. A premise is held where its byte is other than 0, so that any bytes are a board.
-use Rattle.std.specs.Prelude.{ℕ, ◌<◌, Bool, not, map, eqb}
+use Rattle.std.specs.Prelude.{Result, Ok, Err, ℕ, ◌<◌, Bool, not, map, eqb}
 use Rattle.literals.specs.Refusals.{number_of}
 use Rattle.board.specs.Faults.{if_done, number_in}
 use Rattle.board.specs.Grounds.{byte_of}
@@ -8,9 +8,9 @@ use Rattle.board.specs.declared.Change.{Change}
 use Rattle.board.specs.Faults.{Outcome}
 use Rattle.board.specs.declared.rules.Addition.{Addition}
 use Rattle.board.specs.declared.asking.Reason.{Reason}
+use Rattle.literals.specs.declared.refusal.Refusal.{Refusal}
 use Rattle.board.specs.declared.asking.Standing.{Standing}
 use Rattle.board.specs.declared.asking.Standing.TheVariants.{Conflict, Stands, RuledOut, Open}
-use Rattle.std.specs.Prelude.{Err}
 use Rattle.stack.specs.declared.Step.{Step}
 use Rattle.dimacs.specs.declared.reading.Reading.{Reading}
 use Rattle.dimacs.specs.declared.writing.Writing.{Writing}
@@ -82,11 +82,11 @@ abbrev pub withdrawal_out : Withdrawal → PanelWithdrawal
 withdrawal_out w = record { refusal = number_in w.outcome; set = w.set }
 
 -- the header's numbers for how a literal stands: 0 open, 1 stands, 2 ruled out, 3 conflict; 0 where refused
-abbrev pub answer_out : Standing → PanelAnswer
-answer_out Open = record { refusal = 0; standing = 0 }
-answer_out Stands = record { refusal = 0; standing = 1 }
-answer_out RuledOut = record { refusal = 0; standing = 2 }
-answer_out Conflict = record { refusal = 0; standing = 3 }
+abbrev pub answer_out : Result Standing Refusal → PanelAnswer
+answer_out (Ok Open) = record { refusal = 0; standing = 0 }
+answer_out (Ok Stands) = record { refusal = 0; standing = 1 }
+answer_out (Ok RuledOut) = record { refusal = 0; standing = 2 }
+answer_out (Ok Conflict) = record { refusal = 0; standing = 3 }
 answer_out (Err why) = record { refusal = number_of why; standing = 0 }
 
 -- explain's numbers, and how many literals the part has

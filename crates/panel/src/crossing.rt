@@ -16,7 +16,7 @@ use board::{Board, Change, Outcome};
 use dimacs::reading::Reading;
 use dimacs::writing::Writing;
 use least::Withdrawal;
-use literals::refusal::number;
+use literals::refusal::{Refusal, number};
 use smallest::Listing;
 use text::Spelling;
 
@@ -233,14 +233,14 @@ fn standing(of: u8) -> PanelAnswer
 }
 
 // How a literal stands, in the header's numbers.
-pub fn answer_out(answer: Standing) -> PanelAnswer
+pub fn answer_out(answer: Result<Standing, Refusal>) -> PanelAnswer
     ensures { result ≡ answer_out answer }
 {
     match answer {
-        Standing::Open => standing(0),
-        Standing::Stands => standing(1),
-        Standing::RuledOut => standing(2),
-        Standing::Conflict => standing(3),
+        Ok(Standing::Open) => standing(0),
+        Ok(Standing::Stands) => standing(1),
+        Ok(Standing::RuledOut) => standing(2),
+        Ok(Standing::Conflict) => standing(3),
         Err(why) => PanelAnswer {
             refusal: number(why),
             standing: 0,

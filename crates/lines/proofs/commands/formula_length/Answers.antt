@@ -11,4 +11,4 @@ returns-in-Ok c = sym (length_good (parse c.args.symbols levels c.args.body.now)
 
 pub returns-in-Err : goal.returns-in-Err
 unfolding formula_length
-returns-in-Err c = sym (length_bad (parse c.args.symbols levels c.args.body.now) _ _ _ (sym c.read.ensures ∙ c.in-Err.is))
+returns-in-Err c = sym (length_bad (parse c.args.symbols levels c.args.body.now) _ (sym c.read.ensures ∙ c.in-Err.is))
