@@ -47,12 +47,6 @@ module _ (line : List ℕ) (from rows : ℕ) where
   unfolding rows_marked
   marked_rows_none = let e : rows - rows ≡ 0 = omega arith in rw e
 
-  pub marked_rows_all : rows_marked line (from + 0) (rows - 0) ≡ rows_marked line from rows
-  marked_rows_all =
-      let a : from + 0 ≡ from = omega arith in
-      let b : rows - 0 ≡ rows = omega arith in
-      rw (a, b)
-
 -- ---- each of the words is so many marks
 
 row_marks : (line : List ℕ) (from rows count j : ℕ) → are_rows line from rows count ≡ true → j < rows → are_marks count (word_at (from + j) line) ≡ true
