@@ -18,17 +18,19 @@ pub enum Command {
 }
 
 // The command of a kind byte.
-pub fn command_of(kind: u8) -> Command
-    ensures { result ≡ command_of kind }
-{
-    match kind {
-        1 => Command::Open,
-        2 => Command::Rule,
-        3 => Command::Hold,
-        4 => Command::Drop,
-        5 => Command::Ask,
-        6 => Command::Why,
-        _ => Command::Other,
+impl From<u8> for Command {
+    fn from(kind: u8) -> Self
+        ensures { result ≡ command_of kind }
+    {
+        match kind {
+            1 => Command::Open,
+            2 => Command::Rule,
+            3 => Command::Hold,
+            4 => Command::Drop,
+            5 => Command::Ask,
+            6 => Command::Why,
+            _ => Command::Other,
+        }
     }
 }
 

@@ -5,7 +5,7 @@ ghost use Rattle.spelling.specs.Text.{Put};
 ghost use Rattle.lines.specs.Commands.{accepted, ask_said, body_length, body_said, change_said, command_said, command_table, Did, place_text};
 ghost use Rattle.lines.specs.Commands.{reason_text, refused, refused_at, rows_text, rule_said, said, said_table, why_said, word_of};
 
-use crate::commands::{Command, body_length, command_of, formula_length, literal_in};
+use crate::commands::{Command, body_length, formula_length, literal_in};
 use board::asking::Standing;
 use board::rules::Addition;
 use board::{Board, Change, Outcome, asking, changes};
@@ -298,7 +298,7 @@ pub fn step(
     ensures table_after { table.new ≡ said_table board table.old input.now }
     ensures written_bound { result.written ≤ 256 }
 {
-    let command = command_of(input[0]);
+    let command = Command::from(input[0]);
     let word = put_natural(out, 0, ordinal);
     let text = put_command(out, word, command);
     let done = say_command(board, table, &input[1..], command, out, text);

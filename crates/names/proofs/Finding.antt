@@ -1,13 +1,8 @@
 -- The first slot that has a word.
-use Rattle.meaning.proofs.Kit.{◌≡◌, refl, ap₂, inl, inr, true, false, Bool, List, ◌≤◌, ℕ, ◌<◌, ◌-◌, ◌+◌, suc, ◌*◌, arith, drop, take}
-use native.Mathlib.Nat.{mul-suc, mul-le-mul_left}
+use Rattle.meaning.proofs.Kit.{◌≡◌, refl, ap₂, inl, inr, true, false, Bool, List, ◌≤◌, ℕ, ◌<◌, ◌-◌, ◌+◌, ◌*◌, arith, drop, take}
 use Rattle.meaning.specs.Tests.{none, first}
 use Rattle.meaning.proofs.Tables.{FirstIs, first_is, first_only}
 use Rattle.names.specs.Slots.{fits, slot_at, slot_of}
-
--- a slot ends within the slots
-pub slot_ends : (width k count : ℕ) → k < count → width * k + width ≤ width * count
-slot_ends width k count h = rw (mul-suc width k) at (mul-le-mul_left {m = suc k} {n = count} width h)
 
 -- the part of the slots that is looked at is a slot
 pub slot_part : (width k at : ℕ) (slots : List ℕ) → at ≡ width * k → take ((at + width) - at) (drop at slots) ≡ slot_at width k slots

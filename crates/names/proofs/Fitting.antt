@@ -1,31 +1,36 @@
--- Whether a slot has a word, byte by byte.
-use Rattle.meaning.proofs.Kit.{◌≡◌, refl, true, false, and-false, List, [], ◌∷◌, ◌≤◌, ℕ, ◌<◌, ◌+◌, add-one, arith, eqb, length, get_or, drop}
-use Rattle.meaning.proofs.Kit.{drop_of_length-le, drop-cons, ne_eqb, eq-eqb}
+-- Whether a slot has a word: it begins with it, and then it is over.
+use Rattle.meaning.proofs.Kit.{◌≡◌, ◌∙◌, sym, ap, refl, true, false, Bool, ◌&&◌, List, [], ◌∷◌, ◌≤◌, ℕ, ◌<◌, arith, eqb, length, get_or, drop, take}
+use Rattle.meaning.proofs.Kit.{drop_of_length-le, drop-cons}
+use Rattle.std.proofs.lemmas.Grind.{common_steps}
+use Rattle.std.proofs.Math.Bool.{and_assoc}
+use Rattle.std.specs.Cmp.Lexicographic.{pointwise}
 use Rattle.names.specs.Slots.{fits, is_over}
 
--- a slot shorter than the word does not have it
-pub fits_short : (slot word : List ℕ) → length slot < length word → fits slot word ≡ false
-unfolding fits
-fits_short slot [] h = absurd (omega arith)
-fits_short [] (c ∷ word) h = refl
-fits_short (b ∷ slot) (c ∷ word) h = rw (fits_short slot word (omega arith)) (and-false (eqb b c))
+-- the front of a slot is the word
+abbrev pub begins : (slot word : List ℕ) → Bool
+begins slot word = pointwise eqb word (take (length word) slot)
 
--- where both go on, the next bytes tell
-module _ (slot word : List ℕ) (k : ℕ) (inside : k < length slot) (more : k < length word) where
-  pub fits_goes : get_or slot k 0 ≡ get_or word k 0 → fits (drop k slot) (drop k word) ≡ fits (drop (k + 1) slot) (drop (k + 1) word)
-  unfolding fits
-  fits_goes e = rw (add-one k, drop-cons slot k 0, drop-cons word k 0, eq-eqb (get_or slot k 0) (get_or word k 0) e)
+eqb_turned : (a b : ℕ) → eqb a b ≡ eqb b a
+eqb_turned a b = grind (arith, common_steps)
 
-  pub fits_differs : (get_or slot k 0 ≡ get_or word k 0 → ⊥) → fits (drop k slot) (drop k word) ≡ false
-  unfolding fits
-  fits_differs d = rw (drop-cons slot k 0, drop-cons word k 0, ne_eqb (get_or slot k 0) (get_or word k 0) d)
+fits_begins : (slot word : List ℕ) → fits slot word ≡ (begins slot word && is_over (drop (length word) slot))
+unfolding fits is_over
+fits_begins slot [] = refl
+fits_begins [] (c ∷ word) = refl
+fits_begins (b ∷ slot) (c ∷ word) =
+    let front = begins slot word in
+    ap (λ x. eqb b c && x) (fits_begins slot word)
+    ∙ ap (λ x. x && (front && is_over (drop (length word) slot))) (eqb_turned b c)
+    ∙ sym (and_assoc (eqb c b) front (is_over (drop (length word) slot)))
 
--- past the word the slot's end or a zero tells
-module _ (slot word : List ℕ) (k : ℕ) (past : length word ≤ k) where
-  pub fits_whole : length slot ≤ k → fits (drop k slot) (drop k word) ≡ true
-  unfolding fits is_over
-  fits_whole h = rw (drop_of_length-le slot {i = k} h, drop_of_length-le word {i = k} past)
+pub fits_not : (slot word : List ℕ) → begins slot word ≡ false → fits slot word ≡ false
+fits_not slot word e = rw (fits_begins slot word, e)
 
-  pub fits_over : k < length slot → fits (drop k slot) (drop k word) ≡ eqb (get_or slot k 0) 0
-  unfolding fits is_over
-  fits_over h = rw (drop_of_length-le word {i = k} past, drop-cons slot k 0)
+module _ (slot word : List ℕ) (e : begins slot word ≡ true) where
+  pub fits_whole : length slot ≡ length word → fits slot word ≡ true
+  unfolding is_over
+  fits_whole h = let same : length slot ≤ length word = omega arith in rw (fits_begins slot word, e, drop_of_length-le slot {i = length word} same)
+
+  pub fits_over : length word < length slot → fits slot word ≡ eqb (get_or slot (length word) 0) 0
+  unfolding is_over
+  fits_over h = rw (fits_begins slot word, e, drop-cons slot (length word) 0)

@@ -1,6 +1,6 @@
 -- Laws of a number's last digits: how many there are, how they are written, and that they spell it.
-use Rattle.meaning.proofs.Kit.{◌≡◌, ◌∙◌, sym, ap, refl, true, List, [], ◌∷◌, ◌++◌, append-nil, append_assoc, ◌≤◌, ℕ, ◌<◌, ◌+◌, suc, zero, ◌/◌}
-use Rattle.meaning.proofs.Kit.{◌%◌, arith, length, drop, set, length-append, length-set, drop-cons, get_or-set_same, drop-length, drop-set-lt}
+use Rattle.meaning.proofs.Kit.{◌≡◌, ◌∙◌, sym, ap, refl, true, List, [], ◌∷◌, ◌++◌, append_assoc, ◌≤◌, ℕ, ◌<◌, ◌+◌, suc, zero, ◌/◌}
+use Rattle.meaning.proofs.Kit.{◌%◌, arith, length, drop, set, length-append, length-set, drop-cons, get_or-set_same, drop-set-lt}
 use Rattle.meaning.specs.Tests.{all}
 use Rattle.meaning.proofs.Tests.{all_append}
 use Rattle.spelling.specs.Text.{decimal, is_digit}
@@ -18,9 +18,6 @@ numeral_length (suc n) number = length-append (numeral n (number / 10)) ((48 + n
 -- what the part comes to, where the digits from k on are written
 abbrev pub filled : (k rest : ℕ) → (part : List ℕ) → List ℕ
 filled k rest part = numeral k rest ++ drop k part
-
-pub filled_none : (number : ℕ) (part : List ℕ) → numeral (length part) number ≡ filled (length part) number part
-filled_none number part = sym (rw (drop-length part) (append-nil (numeral (length part) number)))
 
 pub filled_more : (k rest : ℕ) (part : List ℕ) → k < length part → filled (suc k) rest part ≡ filled k (rest / 10) (set part k (48 + rest % 10))
 unfolding numeral

@@ -1,32 +1,43 @@
--- A word put into a slot, byte by byte.
-use Rattle.meaning.proofs.Kit.{◌≡◌, ◌∙◌, sym, ap, refl, List, [], ◌∷◌, ◌++◌, append-nil, append_assoc, ◌≤◌, ℕ, ◌<◌, ◌-◌, ◌+◌, suc, add-zero, add-one}
-use Rattle.meaning.proofs.Kit.{arith, length, get_or, drop, take, set, length-set, take_all, get_or-drop, drop-drop, take-suc-set}
+-- A word put into a slot: its bytes, and zeros after them.
+use Rattle.meaning.proofs.Kit.{◌≡◌, ◌∙◌, sym, ap, refl, List, [], ◌∷◌, ◌++◌, append-nil, ◌≤◌, ℕ, ◌-◌, suc, zero, min, arith, length, drop, take, length-append}
+use Rattle.meaning.proofs.Kit.{length-drop, length-take-le, drop-length, take_at, drop_at}
+use Rattle.std.proofs.Math.Nat.{sub-zero}
+use Rattle.std.proofs.Math.ListN.{replicate}
+use borrow.Rule.Slice.PartMut.{put_mid, Post-is}
 use Rattle.names.specs.Slots.{padded}
 
--- the first byte is the word's, or a zero where it has none
-padded_next : (width : ℕ) (word : List ℕ) → padded (suc width) word ≡ get_or word 0 0 ∷ padded width (drop 1 word)
+padded_is : (width : ℕ) (word : List ℕ) → let n = min width (length word) in padded width word ≡ take n word ++ replicate (width - n) 0
 unfolding padded
-padded_next width [] = refl
-padded_next width (c ∷ word) = refl
+padded_is zero word = let none : min zero (length word) ≡ 0 = omega arith in rw none refl
+padded_is (suc width) [] =
+    let none : min (suc width) 0 ≡ 0 = omega arith in
+    let inner : min width 0 ≡ 0 = omega arith in
+    rw (none, sub-zero) (ap (λ l. 0 ∷ l) (padded_is width [] ∙ rw (inner, sub-zero) refl))
+padded_is (suc width) (c ∷ word) =
+    let next : min (suc width) (suc (length word)) ≡ suc (min width (length word)) = omega arith in
+    let less : suc width - suc (min width (length word)) ≡ width - min width (length word) = omega arith in
+    rw (next, less) (ap (λ l. c ∷ l) (padded_is width word))
 
--- what the slot comes to, where k bytes of it are written
-abbrev pub written : (slot word : List ℕ) → (k : ℕ) → List ℕ
-written slot word k = take k slot ++ padded (length slot - k) (drop k word)
+-- the word's front is copied to the front of the slot, and zeros fill the rest
+module _ (slot word copied : List ℕ) (n : ℕ) (least : n ≡ min (length slot) (length word)) (is : copied ≡ take n word) where
+  abbrev half : List ℕ
+  half = copied ++ drop n slot
 
-pub written_more : (slot word : List ℕ) (k : ℕ) → k < length slot → written slot word k ≡ written (set slot k (get_or word k 0)) word (k + 1)
-written_more slot word k h =
-    let left : length slot - k ≡ suc (length slot - suc k) = omega arith in
-    let rest = padded (length slot - suc k) (drop (suc k) word) in
-    let next : padded (length slot - k) (drop k word) ≡ get_or word k 0 ∷ rest =
-    rw left (padded_next (length slot - suc k) (drop k word) ∙ rw (get_or-drop, drop-drop, add-zero, add-one k)) in
-    ap (λ l. take k slot ++ l) next
-    ∙ sym (rw (add-one k, take-suc-set, length-set) (append_assoc (take k slot) (get_or word k 0 ∷ []) rest))
+  long : length copied ≡ n
+  long = let few : n ≤ length word = omega arith in ap length is ∙ length-take-le n word few
 
-pub written_none : (slot word : List ℕ) → padded (length slot) word ≡ written slot word 0
-written_none slot word = let all : length slot ≡ length slot - 0 = omega arith in ap (λ n. padded n word) all
+  whole : length half ≡ length slot
+  whole = omega (arith, length-append copied (drop n slot), length-drop n slot, long)
 
-pub written_all : (slot word : List ℕ) (k : ℕ) → length slot ≤ k → written slot word k ≡ slot
-unfolding padded
-written_all slot word k h =
-    let none : length slot - k ≡ 0 = omega arith in
-    rw (none, take_all k slot h) (append-nil slot)
+  left : length (take (length half - n) (drop n half)) ≡ length slot - n
+  left =
+      let rest : drop n half ≡ drop n slot = drop_at copied (drop n slot) n long in
+      let few : length half - n ≤ length (drop n slot) = omega (arith, whole, length-drop n slot) in
+      ap (λ l. length (take (length half - n) l)) rest ∙ length-take-le (length half - n) (drop n slot) few ∙ ap (λ m. m - n) whole
+
+  pub padded_put : (zeros : List ℕ) → zeros ≡ replicate (length (take (length half - n) (drop n half))) 0
+      → put_mid n (length half - n) half zeros ≡ padded (length slot) word
+  padded_put zeros e =
+      let within : n ≤ length half = omega (arith, whole) in
+      rw (take_at copied (drop n slot) n long, Post-is n (length half) half within, drop-length half)
+      (rw (append-nil zeros, e, left, is, least) (sym (padded_is (length slot) word)))

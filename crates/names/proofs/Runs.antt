@@ -1,20 +1,29 @@
 -- Laws of the bytes of a name at the front of a text.
-use Rattle.meaning.proofs.Kit.{◌≡◌, true, false, cond, List, [], ◌∷◌, ◌≤◌, ℕ, ◌<◌, ◌+◌, suc, add-one, arith, length, get_or, drop, drop_of_length-le}
-use Rattle.meaning.proofs.Kit.{drop-cons}
+use Rattle.meaning.proofs.Kit.{◌≡◌, ◌∙◌, refl, true, false, Bool, not, cond, List, [], ◌∷◌, ◌≤◌, ℕ, ◌+◌, suc, arith, ltb, ltb-false, length}
+use Rattle.std.specs.List.{position, position_or_len}
+use Rattle.std.specs.Option.{unwrap_or}
+use Rattle.std.proofs.Common.{Some, None}
+use Rattle.std.proofs.lemmas.List.Sums.{prefix_len-le-length}
 use Rattle.names.specs.Names.{in_name, run}
 
-module _ (text : List ℕ) (n : ℕ) (h : n < length text) where
-  pub run_more : in_name (get_or text n 0) ≡ true → n + run (drop n text) ≡ n + 1 + run (drop (n + 1) text)
-  unfolding run
-  run_more e = rw (add-one n, drop-cons text n 0, e) (omega arith)
-
-  pub run_stops : in_name (get_or text n 0) ≡ false → n + run (drop n text) ≡ n
-  unfolding run
-  run_stops e = rw (drop-cons text n 0, e) (omega arith)
-
-pub run_over : (text : List ℕ) (n : ℕ) → length text ≤ n → n + run (drop n text) ≡ n
+-- they go on until the first byte that is none
+until : (text : List ℕ) → position_or_len (λ b. not (in_name b)) text ≡ run text
 unfolding run
-run_over text n h = rw (drop_of_length-le text {i = n} h) (omega arith)
+until [] = refl
+until (c ∷ rest) =
+    let inner = until rest in
+    let after = position_or_len (λ b. not (in_name b)) rest in
+    elim (in_name c) as (λ b. cond (not (not b)) (1 + after) 0 ≡ cond b (suc (run rest)) 0) [ true ↦ omega arith | false ↦ refl ]
+
+pub run_until : (text : List ℕ) → unwrap_or (position (λ b. not (in_name b)) text) (length text) ≡ run text
+run_until text = by (ltb k (length text)) refl ∙ until text
+  where
+    k : ℕ
+    k = position_or_len (λ b. not (in_name b)) text
+
+    by : (b : Bool) → ltb k (length text) ≡ b → unwrap_or (cond b (Some k) None) (length text) ≡ k
+    by true e = refl
+    by false e = omega (arith, prefix_len-le-length (λ b. not (not (in_name b))) text, ltb-false _ _ e)
 
 pub run_extent : (text : List ℕ) → run text ≤ length text
 unfolding run

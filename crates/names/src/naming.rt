@@ -48,14 +48,9 @@ fn in_name(byte: u8) -> bool
 pub fn run(text: &[u8]) -> usize
     ensures { result ≡ Names·run text.now }
 {
-    let mut n = 0;
-    while n < text.len() {
-        if !in_name(text[n]) {
-            return n;
-        }
-        n += 1;
-    }
-    n
+    text.iter()
+        .position(|byte| !in_name(*byte))
+        .unwrap_or(text.len())
 }
 
 pub fn is_name(word: &[u8]) -> bool

@@ -11,9 +11,7 @@ fn fill_numeral(part: &mut [u8], number: usize)
     ensures { part.new ≡ numeral (length part.old) number }
 {
     let mut rest = number;
-    let mut k = part.len();
-    while 0 < k {
-        k -= 1;
+    for k in (0..part.len()).rev() {
         part[k] = 48 + (rest % 10) as u8;
         rest /= 10;
     }
@@ -35,6 +33,7 @@ pub fn replace(text: &mut [u8], names: &[u8])
     requires { table_length ≤ length names.now }
     ensures { text.new ≡ replaced names.now text.old }
 {
+    // A while: a round goes on by a whole run, and the run's bytes are written meanwhile.
     let mut at = 0;
     while at < text.len() {
         let n = run(&text[at..]);

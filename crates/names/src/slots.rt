@@ -11,20 +11,7 @@ pub const NONE: usize = 65535;
 fn fits(slot: &[u8], word: &[u8]) -> bool
     ensures { result ≡ Slots·fits slot.now word.now }
 {
-    if slot.len() < word.len() {
-        return false;
-    }
-    let mut k = 0;
-    while k < word.len() {
-        if slot[k] != word[k] {
-            return false;
-        }
-        k += 1;
-    }
-    if k == slot.len() {
-        return true;
-    }
-    slot[k] == 0
+    slot.starts_with(word) && (slot.len() == word.len() || slot[word.len()] == 0)
 }
 
 // The number of the first slot that has a word, from 0, among `count` of them.
@@ -32,14 +19,11 @@ pub fn find(slots: &[u8], width: usize, count: usize, word: &[u8]) -> usize
     requires { (width * count ≤ length slots.now) × (count ≤ none) }
     ensures { result ≡ slot_of width count slots.now word.now }
 {
-    let mut at = 0;
-    let mut k = 0;
-    while k < count {
+    for k in 0..count {
+        let at = width * k;
         if fits(&slots[at..at + width], word) {
             return k;
         }
-        at += width;
-        k += 1;
     }
     NONE
 }
@@ -48,9 +32,7 @@ pub fn find(slots: &[u8], width: usize, count: usize, word: &[u8]) -> usize
 pub fn put(slot: &mut [u8], word: &[u8])
     ensures { slot.new ≡ padded (length slot.old) word.now }
 {
-    let mut k = 0;
-    while k < slot.len() {
-        slot[k] = if k < word.len() { word[k] } else { 0 };
-        k += 1;
-    }
+    let n = slot.len().min(word.len());
+    slot[..n].copy_from_slice(&word[..n]);
+    slot[n..].fill(0);
 }

@@ -1,10 +1,15 @@
 -- The words of a pair table's marks, one after the other: whether each is so many marks, and the pairs that they allow.
-use Rattle.meaning.proofs.Kit.{◌≡◌, subst, true, ◌&&◌, List, ◌≤◌, ℕ, ◌<◌, ◌-◌, ◌+◌, suc, ◌*◌, zero, arith, eqb, leb, length, eqb-true, leb-true}
+use Rattle.meaning.proofs.Kit.{◌≡◌, refl, subst, true, ◌&&◌, List, ◌≤◌, ℕ, ◌<◌, ◌-◌, ◌+◌, suc, ◌*◌, zero, arith, eqb, leb, length, eqb-true, leb-true}
 use Rattle.meaning.specs.Tests.{all}
 use Rattle.meaning.proofs.Tests.{both_true}
+use Rattle.positions.specs.Positions.{Variable, counted}
 use Rattle.orders.specs.Words.{word_at}
 use Rattle.orders.specs.Marks.{has_count}
 use Rattle.orders.specs.Marks.{are_marks, are_rows, is_mark, marked_by, rows_marked}
+
+-- it is the test that the calls make
+one_count : (x : Variable) → has_count x.count ≡ counted x
+one_count x = refl
 
 pub count_few : (n : ℕ) → has_count n ≡ true → n ≤ 7
 count_few n e = leb-true n 7 (both_true (leb 2 n) (leb n 7) e).1
@@ -41,12 +46,6 @@ module _ (line : List ℕ) (from rows : ℕ) where
   pub marked_rows_none : 0 ≡ rows_marked line (from + rows) (rows - rows)
   unfolding rows_marked
   marked_rows_none = let e : rows - rows ≡ 0 = omega arith in rw e
-
-  pub marked_rows_all : rows_marked line (from + 0) (rows - 0) ≡ rows_marked line from rows
-  marked_rows_all =
-      let a : from + 0 ≡ from = omega arith in
-      let b : rows - 0 ≡ rows = omega arith in
-      rw (a, b)
 
 -- ---- each of the words is so many marks
 

@@ -16,6 +16,9 @@ one_place : (line : List ℕ) {rest : List ℕ} {r s : ℕ} → Place line r res
 one_place line {r = r} {s = s} p q =
     omega (arith, p.within, q.within, length-drop r line, length-drop s line, ap length (p.stands ∙ sym q.stands))
 
+one_is_between : One contract'.words.is_between.ended orders.words.is_between.Reads.Post
+one_is_between κs a x y = (cc, refl)
+
 one_word_place : One contract'.words.word_place.ended orders.words.word_place.Reads.Post
 one_word_place κs a x y = (one_place _ x.allowed y.allowed, refl)
 

@@ -1,11 +1,38 @@
 -- The words of a line: where the next one begins, where a word ends, and the part of the line that it is.
 use Rattle.meaning.proofs.Kit.{◌≡◌, ◌∙◌, sym, ap, refl, true, false, Bool, cond, List, [], ◌∷◌, ◌≤◌, ℕ, ◌-◌, ◌+◌, suc, add-one, arith, eqb, length}
 use Rattle.meaning.proofs.Kit.{drop, take, length-drop, eq-eqb, eqb-true}
+use Rattle.meaning.proofs.Kit.{not, drop-drop}
+use Rattle.std.specs.List.{position, position_or_len}
+use Rattle.std.specs.Option.{unwrap_or}
+use Rattle.std.proofs.lemmas.List.Sums.{prefix_len-le-length}
 use Rattle.meaning.proofs.Tests.{same_test}
+use Rattle.formula.proofs.Parts.{onward, onward_drop}
+use Rattle.names.proofs.Runs.{place_or_end}
 use Rattle.dimacs.specs.Words.{since, up_to}
 use Rattle.dimacs.specs.Gathering.{Place}
 use Rattle.dimacs.proofs.Scanning.{since_within, place_after}
 use Rattle.orders.specs.Words.{ends_at, in_word, is_blank, rest_at, word_at}
+
+-- ---- the place of the first byte that passes a test
+
+since_from : (test : ℕ → Bool) (l : List ℕ) → drop (position_or_len test l) l ≡ since test l
+unfolding since
+since_from test [] = refl
+since_from test (c ∷ rest) =
+    let inner = since_from test rest in
+    let k = position_or_len test rest in
+    let next : 1 + k ≡ suc k = omega arith in
+    elim (test c) as (λ b. drop (cond (not b) (1 + k) 0) (c ∷ rest) ≡ cond b (c ∷ rest) (since test rest)) [ true ↦ refl | false ↦ rw next inner ]
+
+pub found_place : (test : ℕ → Bool) (line : List ℕ) (at p : ℕ) → at ≤ length line
+    → p ≡ unwrap_or (position test (onward at line)) (length (onward at line)) → Place line (at + p) (since test (drop at line))
+found_place test line at p h e =
+    let left = drop at line in
+    let is : p ≡ position_or_len test left = e ∙ ap (λ l. unwrap_or (position test l) (length l)) (onward_drop at line) ∙ place_or_end test left in
+    record {
+      within = omega (arith, is, prefix_len-le-length (λ b. not (test b)) left, length-drop at line);
+      stands = sym (drop-drop p at line) ∙ rw is (since_from test left);
+    }
 
 -- ---- from word to word
 

@@ -1,25 +1,16 @@
 // The marks of a pair table: a word for each position of the first valve, in it a mark for each position of the second.
 
 ghost use Rattle.std.specs.Prelude.{◌≡◌, true, ◌+◌, ◌<◌, ◌≤◌, length};
-ghost use Rattle.orders.specs.Marks.{are_marks, are_rows, has_count, marked_by, pairs_in, rows_marked, table_fits};
+ghost use Rattle.orders.specs.Marks.{are_marks, are_rows, marked_by, pairs_in, rows_marked, table_fits};
 
-use crate::words::{ends_at, word};
+use crate::words::{ends_at, is_between, word};
+use positions::variables::has_count;
 
 // Whether a word is so many marks.
 fn are_marks(word: &[u8], count: usize) -> bool
     ensures { result ≡ are_marks count word.now }
 {
-    let mut k = 0;
-    while k < word.len() {
-        if word[k] < b'0' {
-            return false;
-        }
-        if word[k] > b'1' {
-            return false;
-        }
-        k += 1;
-    }
-    word.len() == count
+    is_between(word, b'0', b'1') && word.len() == count
 }
 
 // Whether so many words from a word on are so many marks each.
@@ -27,24 +18,12 @@ fn are_rows(line: &[u8], from: usize, rows: usize, count: usize) -> bool
     requires { (rows ≤ 7) × (from ≤ 5) }
     ensures { result ≡ are_rows line.now from rows count }
 {
-    let mut k = 0;
-    while k < rows {
+    for k in 0..rows {
         if !are_marks(word(line, from + k), count) {
             return false;
         }
-        k += 1;
     }
     true
-}
-
-// Whether a valve may have so many positions.
-fn has_count(count: usize) -> bool
-    ensures { result ≡ has_count count }
-{
-    if count < 2 {
-        return false;
-    }
-    count <= 7
 }
 
 // Whether the marks are as many as two valves have positions; they are not looked at where a valve has a wrong number of them, which the call
@@ -71,9 +50,7 @@ fn marked_by(word: &[u8]) -> usize
     ensures upper_bound { result < 128 }
 {
     let mut value = 0;
-    let mut k = word.len();
-    while 0 < k {
-        k -= 1;
+    for k in (0..word.len()).rev() {
         let bit = if word[k] == b'1' { 1 } else { 0 };
         value = 2 * value + bit;
     }
@@ -86,9 +63,7 @@ fn rows_marked(line: &[u8], from: usize, rows: usize, count: usize) -> usize
     ensures { result ≡ rows_marked line.now from rows }
 {
     let mut value = 0;
-    let mut k = rows;
-    while 0 < k {
-        k -= 1;
+    for k in (0..rows).rev() {
         value = 128 * value + marked_by(word(line, from + k));
     }
     value

@@ -5,6 +5,7 @@ ghost use Rattle.names.specs.Names.{table_length};
 ghost use Rattle.orders.specs.Reading.{is_number, value_of, number_in, symbol_in, literal_in, affirmed, denied, Narrow};
 
 use crate::Slip;
+use crate::words::is_between;
 use names::naming::{SYMBOLS, is_name, slot_of};
 
 // A number or a symbol's number, or what is wrong with the word.
@@ -26,17 +27,7 @@ const MOST: usize = 32767;
 fn is_number(word: &[u8]) -> bool
     ensures { result ≡ is_number word.now }
 {
-    let mut k = 0;
-    while k < word.len() {
-        if word[k] < b'0' {
-            return false;
-        }
-        if word[k] > b'9' {
-            return false;
-        }
-        k += 1;
-    }
-    0 < word.len()
+    is_between(word, b'0', b'9') && 0 < word.len()
 }
 
 // The value of digits.
@@ -45,13 +36,11 @@ fn value_of(word: &[u8]) -> usize
     ensures { result ≡ value_of word.now }
 {
     let mut value = 0;
-    let mut k = 0;
-    while k < word.len() {
-        value = value * 10 + (word[k] - b'0') as usize;
+    for byte in word {
+        value = value * 10 + (*byte - b'0') as usize;
         if MOST < value {
             value = MOST;
         }
-        k += 1;
     }
     value
 }

@@ -18,14 +18,9 @@ pub fn say_number(rt: &impl Print, n: usize) -> io::Result<()> {
 pub fn word_length(slot: &[u8]) -> usize
     ensures { result ≤ length slot.now }
 {
-    let mut n = 0;
-    while n < slot.len() {
-        if slot[n] == 0 {
-            return n;
-        }
-        n += 1;
-    }
-    n
+    slot.iter()
+        .position(|byte| *byte == 0)
+        .unwrap_or(slot.len())
 }
 
 // The name of a slot, or the symbol's number where it has none.
@@ -92,18 +87,15 @@ fn shown(byte: u8) -> u8 {
 // A line again, as much of it as a line may have.
 pub fn say_line(rt: &impl Print, line: &[u8]) -> io::Result<()> {
     let mut room = [0u8; 500];
-    let mut k = 0;
-    while k < line.len() && k < 500 {
-        room[k] = shown(line[k]);
-        k += 1;
+    for (place, byte) in room.iter_mut().zip(line) {
+        *place = shown(*byte);
     }
-    say(rt, &room[..k])?;
+    say(rt, &room[..line.len().min(500)])?;
     say(rt, b"\n")
 }
 
 // So many blanks, as many as a line may have bytes.
 pub fn say_blanks(rt: &impl Print, n: usize) -> io::Result<()> {
     let room = [b' '; 500];
-    let k = if n < 500 { n } else { 500 };
-    say(rt, &room[..k])
+    say(rt, &room[..n.min(500)])
 }

@@ -37,16 +37,8 @@ pub fn on_trial(desk: Desk) -> stack::Stack {
 // Whether a literal is among the first so many of a stack's places.
 pub fn is_tried(desk: Desk, l: i16) -> bool {
     let tried = on_trial(desk);
-    let count = tried.count as usize;
-    let places = tried.literals;
-    let mut k = 0;
-    while k < count && k < 400 {
-        if places[k] == l {
-            return true;
-        }
-        k += 1;
-    }
-    false
+    let count = (tried.count as usize).min(400);
+    tried.literals[..count].contains(&l)
 }
 
 // The literal that was put on trial last; 0 where there is none.

@@ -69,6 +69,7 @@ fn is_good_number(run: &[u8], symbols: usize) -> bool {
 fn bad_number(text: &[u8], symbols: usize) -> usize
     ensures { result ≤ length text.now }
 {
+    // A while: a round goes on by a whole run, or by the byte that begins none.
     let mut at = 0;
     while at < text.len() {
         let n = names::naming::run(&text[at..]);

@@ -29,10 +29,8 @@ fn keep_one(texts: &mut [u8], rule: usize, text: &[u8])
 pub fn keep(texts: &mut [u8], before: usize, last: usize, text: &[u8])
     requires { length texts.old ≡ kept_length }
 {
-    let mut rule = before;
-    while rule < last {
-        rule += 1;
-        keep_one(texts, rule, text);
+    for rule in before..last {
+        keep_one(texts, rule + 1, text);
     }
 }
 

@@ -28,26 +28,26 @@ put_command-text-requires c = let w = word_at c.ranges.ordinal c.put_natural-wor
 pub say_command-done-requires : goal.say_command-done-requires
 say_command-done-requires c =
     let w = word_at c.ranges.ordinal c.put_natural-word.ensures in
-    let t = text_at c.command_of-command.result c.put_command-text.ensures in
+    let t = text_at c.from-command.result c.put_command-text.ensures in
     omega (arith, w.0, w.1, t.0, t.1)
 
 pub put_word-written-requires : goal.put_word-written-requires
 put_word-written-requires c =
     let w = word_at c.ranges.ordinal c.put_natural-word.ensures in
-    let t = text_at c.command_of-command.result c.put_command-text.ensures in
+    let t = text_at c.from-command.result c.put_command-text.ensures in
     omega (arith, w.0, w.1, t.0, t.1, c.say_command-done.ensures.written_bound, put_length c.say_command-done.ensures.did.put)
 
 pub returns-clause-did : goal.returns-clause-did
 returns-clause-did c =
-    line_did c.args.ordinal c.args.board c.args.table.now c.args.input.now c.command_of-command.ensures c.put_natural-word.ensures
+    line_did c.args.ordinal c.args.board c.args.table.now c.args.input.now c.from-command.ensures c.put_natural-word.ensures
     c.put_command-text.ensures c.say_command-done.ensures.did c.put_word-written.ensures
 
 pub returns-clause-table_after : goal.returns-clause-table_after
 returns-clause-table_after c =
-    line_table c.args.ordinal c.args.board c.args.table.now c.args.input.now c.command_of-command.ensures c.say_command-done.ensures.table_after
+    line_table c.args.ordinal c.args.board c.args.table.now c.args.input.now c.from-command.ensures c.say_command-done.ensures.table_after
 
 pub returns-clause-written_bound : goal.returns-clause-written_bound
 returns-clause-written_bound c =
     let w = word_at c.ranges.ordinal c.put_natural-word.ensures in
-    let t = text_at c.command_of-command.result c.put_command-text.ensures in
+    let t = text_at c.from-command.result c.put_command-text.ensures in
     omega (arith, w.0, t.0, c.say_command-done.ensures.written_bound, c.put_word-written.ensures.ends)

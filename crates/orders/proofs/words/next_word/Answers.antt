@@ -1,0 +1,17 @@
+-- The first byte that is no blank.
+use Rattle.std.proofs.Common.{◌∙◌, ap, length, rules, tests}
+use Rattle.std.specs.Option.{unwrap_or}
+use Rattle.std.proofs.lemmas.Iterator.{YieldsList-from_slice}
+use Rattle.std.proofs.lemmas.Iterator.Search.{position_from_yields_List}
+use Rattle.formula.proofs.Parts.{onward}
+use Rattle.orders.specs.Words.{in_word}
+use Rattle.orders.proofs.WordPlaces.{found_place}
+use Rattle.orders.proofs.words.next_word.Goals as goal
+
+pub returns : goal.returns
+returns c =
+    let line = c.args.line.now in
+    let at = c.args.at in
+    let found = position_from_yields_List in_word _ _ c.position.result c.position.ensures.ran (YieldsList-from_slice (onward at line) cc)
+    (λ x b q k. search (rules, tests)) in
+    found_place in_word line at c.unwrap_or.result c.requires (c.unwrap_or.ensures ∙ ap (λ o. unwrap_or o (length (onward at line))) found)
