@@ -25,10 +25,8 @@ pub fn write_labels(ranks: &[u16], labels: &mut [u8])
     requires { length ranks.now ≡ 2 * length labels.old }
     ensures { labels.new ≡ labels_from (length labels.old) ranks.now }
 {
-    let mut s = 0;
-    while s < labels.len() {
-        labels[s] = label(ranks[2 * s], ranks[2 * s + 1]);
-        s += 1;
+    for (s, one) in labels.iter_mut().enumerate() {
+        *one = label(ranks[2 * s], ranks[2 * s + 1]);
     }
 }
 
@@ -37,13 +35,10 @@ pub fn first_clash(ranks: &[u16]) -> usize
     requires { length ranks.now < none }
     ensures { result ≡ first (clash_in ranks.now) (length ranks.now / 2) }
 {
-    let symbols = ranks.len() / 2;
-    let mut s = 0;
-    while s < symbols {
+    for s in 0..ranks.len() / 2 {
         if ranks[2 * s] < NONE && ranks[2 * s + 1] < NONE {
             return s;
         }
-        s += 1;
     }
     NONE as usize
 }
@@ -61,17 +56,14 @@ pub fn earliest_clash(ranks: &[u16]) -> usize
     requires { length ranks.now < none }
     ensures { result ≡ earliest_in ranks.now }
 {
-    let symbols = ranks.len() / 2;
     let mut found = NONE as usize;
     let mut least = NONE;
-    let mut s = 0;
-    while s < symbols {
+    for s in 0..ranks.len() / 2 {
         let rank = larger(ranks[2 * s], ranks[2 * s + 1]);
         if rank < least {
             found = s;
             least = rank;
         }
-        s += 1;
     }
     found
 }
