@@ -43,34 +43,34 @@ module _ {places : ℕ} {table : List ℤ} (r : ℕ) (fit : Fit places (r + 1) t
   read_last j h = left_last r fit j (omega (arith, slice_long))
 
 module _ {places : ℕ} {table : List ℤ} {r j : ℕ} (here : Here places table r j) where
-  is : in_slice table r j ≡ number_at table r j
-  is = in_slice_is table r j here.inside
+  pub read_is : in_slice table r j ≡ number_at table r j
+  read_is = in_slice_is table r j here.inside
 
   -- at a 0 the row ends,
   pub read_end : of_z w16 (in_slice table r j) ≡ 0 → left table r j ≡ []
-  read_end z = left_end here (rw is at z)
+  read_end z = left_end here (rw read_is at z)
 
   -- and any other number is a literal
   module _ (more : of_z w16 (in_slice table r j) ≡ 0 → ⊥) where
     some : of_z w16 (number_at table r j) ≡ 0 → ⊥
-    some z = more (rw is z)
+    some z = more (rw read_is z)
 
     pub read_allowed : (1 ≤ nat_abs (back (in_slice table r j))) × (nat_abs (back (in_slice table r j)) ≤ 200)
-    read_allowed = rw is (place_allowed here some)
+    read_allowed = rw read_is (place_allowed here some)
 
     pub read_literal : {q : ℕ} → q ≡ place_of (back (in_slice table r j)) → Literal places table r j q
-    read_literal {q} at-q = literal here some (rw is at at-q)
+    read_literal {q} at-q = literal here some (rw read_is at at-q)
 
     -- its opposite m can be taken and placed, and stands at the other place of its symbol
     lit : Literal places table r j (place_of (back (number_at table r j)))
     lit = literal here some refl
 
     pub read_opposite_allowed : nat_abs (back (in_slice table r j)) < 32768
-    read_opposite_allowed = rw is (opposite_allowed lit)
+    read_opposite_allowed = rw read_is (opposite_allowed lit)
 
     module _ {m : ℤ} (opposed : m ≡ neg_ℤ (back (in_slice table r j))) where
       opposed_at : m ≡ neg_ℤ (back (number_at table r j))
-      opposed_at = opposed ∙ ap (λ x. neg_ℤ (back x)) is
+      opposed_at = opposed ∙ ap (λ x. neg_ℤ (back x)) read_is
 
       pub read_opposite_place_allowed : (1 ≤ nat_abs (back m)) × (nat_abs (back m) ≤ 200)
       read_opposite_place_allowed = opposite_place_allowed lit opposed_at
