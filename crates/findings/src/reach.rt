@@ -159,8 +159,7 @@ pub fn reach_asked(
         reach(table, rows, heads, links, held, ranks, p, p, marks);
         return;
     }
-    let s = earliest_clash(ranks);
-    if s != NONE as usize {
+    if let Some(s) = earliest_clash(ranks) {
         reach(
             table,
             rows,

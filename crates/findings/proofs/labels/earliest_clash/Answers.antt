@@ -1,8 +1,11 @@
-use Rattle.meaning.proofs.Kit.{◌≡◌, ◌/◌, arith, length}
-use Rattle.findings.specs.Ranks.{larger_in, earliest_in}
-use Rattle.findings.proofs.Clashes.{found_more, found_kept}
+use Rattle.meaning.proofs.Kit.{◌≡◌, ◌∙◌, ap, ◌/◌, arith, length}
+use Rattle.findings.specs.Ranks.{larger_in, earliest_in, found}
+use Rattle.findings.proofs.Clashes.{found_none, found_more, found_kept}
 use Rattle.findings.proofs.labels.earliest_clash.Goals as goal
 use Rattle.findings.proofs.labels.earliest_clash.Goals.{then-rank-least, else-rank-least}
+
+pub loop-s-init : goal.loop-s-init
+loop-s-init c = found_none _
 
 pub loop-s-preserved : goal.loop-s-preserved
 unfolding larger_in
@@ -18,4 +21,4 @@ pub returns : goal.returns
 unfolding earliest_in
 returns c =
     let end : c.loop-s.s ≡ length c.args.ranks.now / 2 = omega arith in
-    rw end at c.loop-s.invariant.is
+    c.loop-s.invariant.told ∙ ap found (rw end at c.loop-s.invariant.is)

@@ -1,15 +1,16 @@
-use Rattle.meaning.proofs.Kit.{◌≡◌, inl, inr, false, ◌/◌, arith, length, lt-ltb, le-ltb, below_more}
+use Rattle.meaning.proofs.Kit.{◌≡◌, ◌∙◌, ap, inl, inr, false, ◌/◌, arith, length, lt-ltb, le-ltb, below_more}
 use Rattle.meaning.specs.Tests.{none}
-use Rattle.findings.specs.Ranks.{clash_in}
+use Rattle.findings.specs.Ranks.{clash_in, found}
 use Rattle.findings.proofs.Clashes.{clash_yes, clash_no}
-use Rattle.findings.proofs.Searching.{first_found, first_missing}
+use Rattle.findings.proofs.Searching.{found_some, first_found, first_missing}
 use Rattle.findings.proofs.labels.first_clash.Goals as goal
 use Rattle.findings.proofs.labels.first_clash.Goals.{else-ranks-s-lt-NONE-via-then-ranks-s-lt-NONE+else-ranks-s-lt-NONE-2, else-ranks-s-lt-NONE-via-else-ranks-s-lt-NONE}
 
 pub returns-then-ranks-s-lt-NONE-2 : goal.returns-then-ranks-s-lt-NONE-2
 returns-then-ranks-s-lt-NONE-2 c =
-    first_found _ (length c.args.ranks.now / 2) (omega arith) c.loop-s.s (omega arith) c.loop-s.invariant
-    (clash_yes c.args.ranks.now c.loop-s.s (lt-ltb _ none c.if-ranks-s-lt-NONE.true) (lt-ltb _ none c.if-ranks-s-lt-NONE-2.true))
+    let both = clash_yes c.args.ranks.now c.loop-s.s (lt-ltb _ none c.if-ranks-s-lt-NONE.true) (lt-ltb _ none c.if-ranks-s-lt-NONE-2.true) in
+    found_some (omega arith)
+    ∙ ap found (first_found _ (length c.args.ranks.now / 2) (omega arith) c.loop-s.s (omega arith) c.loop-s.invariant both)
 
 pub loop-s-preserved : goal.loop-s-preserved
 loop-s-preserved c =
@@ -22,4 +23,4 @@ loop-s-preserved c =
     below_more (λ i. clash_in c.args.ranks.now i ≡ false) c.loop-s.s c.loop-s.invariant here
 
 pub returns : goal.returns
-returns c = first_missing _ (length c.args.ranks.now / 2) (omega arith) (λ i h. c.loop-s.invariant i (omega arith))
+returns c = ap found (first_missing _ (length c.args.ranks.now / 2) (omega arith) (λ i h. c.loop-s.invariant i (omega arith)))
