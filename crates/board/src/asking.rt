@@ -66,7 +66,7 @@ fn standing_by(ranks: &[u16], l: i16, whole: bool) -> Standing
     let derived = is_ranked(ranks, l);
     let opposed = is_ranked(ranks, literals::opposite(l));
     let clash = if whole {
-        findings::labels::first_clash(ranks) != NONE as usize
+        findings::labels::first_clash(ranks).is_some()
     } else {
         derived & opposed
     };

@@ -76,7 +76,7 @@ pub fn blame(board: Board, table: &[i16], furnace: u8, marks: &mut [u8]) -> Outc
         NONE as usize,
         &mut reached[..places],
     );
-    if findings::labels::first_clash(&ranks[..places]) == NONE as usize {
+    if findings::labels::first_clash(&ranks[..places]).is_none() {
         return Err(Refusal::NothingToShow);
     }
     write_marks(&reached[..places], marks);

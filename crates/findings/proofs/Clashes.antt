@@ -2,6 +2,8 @@
 use Rattle.meaning.proofs.Kit.{◌≡◌, ◌∙◌, sym, ap, refl, ap₂, ⊎_elim, inl, inr, ◌⊎◌, true, false, Bool, ◌&&◌, ◌||◌, and-false, and-true, List, ◌≤◌, ℕ}
 use Rattle.meaning.proofs.Kit.{◌<◌, ◌-◌, ◌+◌, suc, ◌*◌, ◌/◌, add-one, arith, eqb, ltb, length, get_or, ne_eqb, eq-eqb, ltb-true, lt-ltb, le-ltb}
 use Prim.Native.Nat.{max}
+use Rattle.std.specs.Prelude.{Option, Some, None}
+use Rattle.findings.proofs.Searching.{found_some}
 use Rattle.meaning.specs.Tests.{none, first, first_smallest}
 use Rattle.meaning.specs.Literals.{has, conflict}
 use Rattle.meaning.specs.Rounds.{derived, ranks_of, label}
@@ -12,7 +14,7 @@ use Rattle.meaning.proofs.Literals.{opp_even, has_below, conflict_at, conflict_p
 use Rattle.meaning.proofs.Blame.{label_is_3}
 use Rattle.findings.proofs.RankTables.{length_below, below_rank, length_ranks_of, get_d_ranks_of}
 use Rattle.findings.proofs.Final.{below_derived}
-use Rattle.findings.specs.Ranks.{below, clash_in, larger_in, earliest_in}
+use Rattle.findings.specs.Ranks.{below, clash_in, larger_in, earliest_in, found}
 
 -- ---- the test on a symbol
 
@@ -42,33 +44,40 @@ clash_larger ranks s =
     and_intro (ltb a none) (ltb b none) (lt-ltb a none (omega arith)) (lt-ltb b none (omega arith))))
 
 -- what is found among the first symbols, and its larger rank
-pub record Found (ranks : List ℕ) (s found least : ℕ) : Type 0 where
-  pub is : found ≡ first_smallest (clash_in ranks) (larger_in ranks) s
-  pub rank : ((found ≡ none) × (least ≡ none)) ⊎ ((found < none) × (least < none) × (least ≡ larger_in ranks found))
+pub record Found (ranks : List ℕ) (s : ℕ) (one : Option ℕ) (least : ℕ) : Type 0 where
+  n : ℕ
+  pub told : one ≡ found n
+  pub is : n ≡ first_smallest (clash_in ranks) (larger_in ranks) s
+  rank : ((n ≡ none) × (least ≡ none)) ⊎ ((n < none) × (least < none) × (least ≡ larger_in ranks n))
 
-pub found_none : (ranks : List ℕ) → Found ranks 0 none none
-found_none ranks = record { is = refl; rank = inl (refl, refl) }
+pub found_none : (ranks : List ℕ) → Found ranks 0 None none
+found_none ranks = record { n = none; told = refl; is = refl; rank = inl (refl, refl) }
 
-module _ {ranks : List ℕ} {s found least : ℕ} (f : Found ranks s found least) where
+module _ {ranks : List ℕ} {s : ℕ} {one : Option ℕ} {least : ℕ} (f : Found ranks s one least) where
   -- one symbol more takes its place exactly if its larger rank is smaller
-  taken : clash_in ranks s && (eqb found none || ltb (larger_in ranks s) (larger_in ranks found)) ≡ ltb (larger_in ranks s) least
+  taken : clash_in ranks s && (eqb f.n none || ltb (larger_in ranks s) (larger_in ranks f.n)) ≡ ltb (larger_in ranks s) least
   taken =
-      ⊎_elim (λ r. rw (eq-eqb found none r.0, r.1, and-true (clash_in ranks s)) (clash_larger ranks s))
+      ⊎_elim (λ r. rw (eq-eqb f.n none r.0, r.1, and-true (clash_in ranks s)) (clash_larger ranks s))
       (λ r. (let small = r.1 in
-      rw (ne_eqb found none (λ e. omega (arith, r.0)), ← r.2)
+      rw (ne_eqb f.n none (λ e. omega (arith, r.0)), ← r.2)
       (same_test (clash_in ranks s && ltb (larger_in ranks s) least) (ltb (larger_in ranks s) least)
       (λ e. (both_true (clash_in ranks s) (ltb (larger_in ranks s) least) e).1)
       (λ e. (let l = ltb-true (larger_in ranks s) least e in
       and_intro (clash_in ranks s) (ltb (larger_in ranks s) least) (clash_larger ranks s ∙ lt-ltb (larger_in ranks s) none (omega arith)) e)))))
       f.rank
 
-  pub found_more : s < none → larger_in ranks s < least → Found ranks (s + 1) s (larger_in ranks s)
+  pub found_more : s < none → larger_in ranks s < least → Found ranks (s + 1) (Some s) (larger_in ranks s)
   found_more small l =
       let few : least ≤ none = ⊎_elim (λ r. omega (arith, r.1)) (λ r. omega (arith, r.1)) f.rank in
-      record { is = rw (add-one, ← f.is, taken, lt-ltb (larger_in ranks s) least l); rank = inr (small, omega arith, refl) }
+      record {
+        n = s;
+        told = found_some small;
+        is = rw (add-one, ← f.is, taken, lt-ltb (larger_in ranks s) least l);
+        rank = inr (small, omega arith, refl);
+      }
 
-  pub found_kept : least ≤ larger_in ranks s → Found ranks (s + 1) found least
-  found_kept l = record { is = rw (add-one, ← f.is, taken, le-ltb (larger_in ranks s) least l); rank = f.rank }
+  pub found_kept : least ≤ larger_in ranks s → Found ranks (s + 1) one least
+  found_kept l = record { n = f.n; told = f.told; is = rw (add-one, ← f.is, taken, le-ltb (larger_in ranks s) least l); rank = f.rank }
 
 -- what is found among all of them
 pub earliest_below : (ranks : List ℕ) → length ranks < none → (earliest_in ranks < length ranks / 2) ⊎ (earliest_in ranks ≡ none)

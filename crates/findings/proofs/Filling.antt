@@ -1,7 +1,8 @@
 -- Writing a list place by place from the front.
-use Rattle.meaning.proofs.Kit.{◌≡◌, ◌∙◌, ap, refl, List, ◌∷◌, ◌≤◌, ℕ, ◌<◌, ◌+◌, suc, zero, not-suc-le-zero, le_of_suc-le-suc, arith, length, get_or}
+use Rattle.meaning.proofs.Kit.{◌≡◌, ◌∙◌, ap, refl, List, ◌∷◌, ◌≤◌, ℕ, ◌<◌, ◌+◌, ◌*◌, suc, zero, ltb, not-suc-le-zero, le_of_suc-le-suc, arith, length, get_or}
 use Rattle.meaning.proofs.Kit.{take, replicate, set, length-set, length-replicate, get_or-set_other, below_none}
-use Rattle.meaning.specs.Tests.{tabulate}
+use Rattle.meaning.specs.Tests.{tabulate, none}
+use Rattle.meaning.specs.Rounds.{label_of}
 use Rattle.meaning.proofs.Tables.{tabulate_ext, filled_more}
 
 -- the places below p have the values of f, the others what they had first
@@ -30,6 +31,10 @@ module _ {A : Type 0} {d : A} {f : ℕ → A} {first : List A} where
 
     pub filled_all : (n : ℕ) → length first ≡ n → n ≤ p → l ≡ tabulate n f
     filled_all n e h = tabulate_ext d n f l (w.long ∙ e) (λ i b. w.passed i (omega arith))
+
+-- the label of symbol i + 1
+abbrev pub symbol_label : List ℕ → ℕ → ℕ
+symbol_label ranks i = label_of (ltb (get_or ranks (2 * i) none) none) (ltb (get_or ranks (2 * i + 1) none) none)
 
 -- ---- the front of an array that was made of one value
 

@@ -1,7 +1,7 @@
--- Laws of what a table of ranks tells. `Filling`, `RankTables`, `Knowing`, `Queueing`, `Final` and `Clashes` are for the crates above too; the others
--- serve the proofs of this one.
+-- Laws of what a table of ranks tells. `Filling`, `Searching`, `RankTables`, `Knowing`, `Queueing`, `Final` and `Clashes` are for the crates above
+-- too; the others serve the proofs of this one.
 pub mod Filling
-mod Searching
+pub mod Searching
 pub mod RankTables
 pub mod Knowing
 pub mod Queueing

@@ -1,5 +1,5 @@
 -- A table of ranks, one number for each place, and what it tells.
-use Rattle.std.specs.Prelude.{Bool, ◌&&◌, List, map, ℕ, suc, ◌+◌, ◌*◌, ◌/◌, max, ltb, length, get_or}
+use Rattle.std.specs.Prelude.{Bool, cond, ◌&&◌, List, map, ℕ, suc, ◌+◌, ◌*◌, ◌/◌, max, eqb, ltb, Option, Some, None, length, get_or}
 use Rattle.meaning.specs.Tests.{tabulate, none, first_smallest}
 use Rattle.meaning.specs.Rounds.{label_of, support_at}
 
@@ -26,3 +26,7 @@ larger_in ranks s = max (get_or ranks (2 * s) 0) (get_or ranks (2 * s + 1) 0)
 -- lowest; none, if there is none
 unfoldable pub earliest_in : List ℕ → ℕ
 earliest_in ranks = first_smallest (clash_in ranks) (larger_in ranks) (length ranks / 2)
+
+-- a search that ends at none found nothing
+abbrev pub found : ℕ → Option ℕ
+found n = cond (eqb n none) None (Some n)

@@ -3,7 +3,7 @@
 ghost use Rattle.std.specs.Prelude.{◌≡◌, ◌*◌, ◌/◌, ◌<◌, max, ltb, length};
 ghost use Rattle.meaning.specs.Tests.{none, first};
 ghost use Rattle.meaning.specs.Rounds.{label_of};
-ghost use Rattle.findings.specs.Ranks.{labels_from, clash_in, earliest_in};
+ghost use Rattle.findings.specs.Ranks.{labels_from, clash_in, earliest_in, found};
 
 use crate::NONE;
 
@@ -25,27 +25,22 @@ pub fn write_labels(ranks: &[u16], labels: &mut [u8])
     requires { length ranks.now ≡ 2 * length labels.old }
     ensures { labels.new ≡ labels_from (length labels.old) ranks.now }
 {
-    let mut s = 0;
-    while s < labels.len() {
-        labels[s] = label(ranks[2 * s], ranks[2 * s + 1]);
-        s += 1;
+    for (s, one) in labels.iter_mut().enumerate() {
+        *one = label(ranks[2 * s], ranks[2 * s + 1]);
     }
 }
 
-// The lowest symbol, counted from 0, whose two literals both have a rank; NONE where there is none.
-pub fn first_clash(ranks: &[u16]) -> usize
+// The lowest symbol, counted from 0, whose two literals both have a rank, if there is one.
+pub fn first_clash(ranks: &[u16]) -> Option<usize>
     requires { length ranks.now < none }
-    ensures { result ≡ first (clash_in ranks.now) (length ranks.now / 2) }
+    ensures { result ≡ found (first (clash_in ranks.now) (length ranks.now / 2)) }
 {
-    let symbols = ranks.len() / 2;
-    let mut s = 0;
-    while s < symbols {
+    for s in 0..ranks.len() / 2 {
         if ranks[2 * s] < NONE && ranks[2 * s + 1] < NONE {
-            return s;
+            return Some(s);
         }
-        s += 1;
     }
-    NONE as usize
+    None
 }
 
 // The larger of a symbol's two ranks: NONE, the largest number, where one of them is none. So a symbol without label 3 is never below another.
@@ -56,22 +51,19 @@ fn larger(plus: u16, minus: u16) -> u16
 }
 
 // The symbol, counted from 0, that came to both its literals first: of those whose two literals both have a rank the one whose larger rank is
-// smallest, and of equals the lowest; NONE where there is none.
-pub fn earliest_clash(ranks: &[u16]) -> usize
+// smallest, and of equals the lowest; if there is one.
+pub fn earliest_clash(ranks: &[u16]) -> Option<usize>
     requires { length ranks.now < none }
-    ensures { result ≡ earliest_in ranks.now }
+    ensures { result ≡ found (earliest_in ranks.now) }
 {
-    let symbols = ranks.len() / 2;
-    let mut found = NONE as usize;
+    let mut found = None;
     let mut least = NONE;
-    let mut s = 0;
-    while s < symbols {
+    for s in 0..ranks.len() / 2 {
         let rank = larger(ranks[2 * s], ranks[2 * s + 1]);
         if rank < least {
-            found = s;
+            found = Some(s);
             least = rank;
         }
-        s += 1;
     }
     found
 }

@@ -43,16 +43,13 @@ fn mark_others(
 {
     let base = WIDTH * row;
     let mut next = end;
-    let mut j = 0;
-    while j < MOST_LITERALS {
-        let l = table[base + j];
+    for &l in &table[base..base + MOST_LITERALS] {
         if l == 0 {
             break;
         }
         if literals::place(l) != p {
             next = mark_literal(literals::place(literals::opposite(l)), marks, queue, next);
         }
-        j += 1;
     }
     next
 }
@@ -78,6 +75,7 @@ fn follow(
 {
     let mut next = end;
     let mut at = 0;
+    // A while: the queue grows while it is gone through.
     while at < next {
         let p = queue[at] as usize;
         let row = support(table, rows, heads, links, p, ranks);
@@ -93,10 +91,8 @@ fn keep_held(held: &[bool], marks: &mut [bool])
     requires { length marks.old ≤ length held.now }
     ensures { marks.new ≡ held_only held.now marks.old }
 {
-    let mut p = 0;
-    while p < marks.len() {
-        marks[p] = marks[p] & held[p];
-        p += 1;
+    for (p, mark) in marks.iter_mut().enumerate() {
+        *mark &= held[p];
     }
 }
 
@@ -163,8 +159,7 @@ pub fn reach_asked(
         reach(table, rows, heads, links, held, ranks, p, p, marks);
         return;
     }
-    let s = earliest_clash(ranks);
-    if s != NONE as usize {
+    if let Some(s) = earliest_clash(ranks) {
         reach(
             table,
             rows,

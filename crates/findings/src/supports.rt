@@ -29,6 +29,7 @@ fn support_row(
 {
     let cells = MOST_LITERALS * rows;
     let mut cell = heads[p] as usize;
+    // A loop: the next cell is the one that this cell's link names.
     'rows: loop {
         if cell >= cells {
             break NONE;
@@ -36,16 +37,13 @@ fn support_row(
         let row = cell / MOST_LITERALS;
         cell = links[cell] as usize;
         let base = WIDTH * row;
-        let mut j = 0;
-        while j < MOST_LITERALS {
-            let l = table[base + j];
+        for &l in &table[base..base + MOST_LITERALS] {
             if l == 0 {
                 break;
             }
             if literals::place(l) != p && ranks[literals::place(literals::opposite(l))] >= k {
                 continue 'rows;
             }
-            j += 1;
         }
         break row as u16;
     }
@@ -76,11 +74,7 @@ pub fn support(
 pub fn clear(supports: &mut [u16])
     ensures { supports.new ≡ tabulate (length supports.old) (λ i. none) }
 {
-    let mut i = 0;
-    while i < supports.len() {
-        supports[i] = NONE;
-        i += 1;
-    }
+    supports.fill(NONE);
 }
 
 // Writes the supports of the places that stand in the queue, over none: the others have no rank, and so no support.
@@ -104,13 +98,11 @@ fn search_supports(
     ensures { supports.new ≡ tabulate (length supports.old)
         (λ i. support_from (rows_in rows table.now) ranks.now (from + i)) }
 {
-    let mut at = 0;
-    while at < end {
-        let p = queue[at] as usize;
+    for &place in &queue[..end] {
+        let p = place as usize;
         if from <= p && p - from < supports.len() {
             supports[p - from] = support(table, rows, heads, links, p, ranks);
         }
-        at += 1;
     }
 }
 

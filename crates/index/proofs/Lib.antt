@@ -5,3 +5,4 @@ mod Listing
 pub mod Following
 mod Examples
 mod Unique
+pub mod Reading

@@ -19,18 +19,15 @@ fn list_row(table: &[i16], row: usize, heads: &mut [u16], links: &mut [u16]) -> 
 {
     let base = WIDTH * row;
     let first = MOST_LITERALS * row;
-    let mut j = 0;
-    while j < MOST_LITERALS {
-        let l = table[base + j];
+    for (j, &l) in table[base..base + MOST_LITERALS].iter().enumerate() {
         if l == 0 {
-            break;
+            return j;
         }
         let p = literals::place(l);
         links[first + j] = heads[p];
         heads[p] = (first + j) as u16;
-        j += 1;
     }
-    j
+    MOST_LITERALS
 }
 
 // Lists the cells of the rows in use, from the last row on, so that each goes in front of those of its literal; and notes how many
@@ -43,9 +40,7 @@ pub fn fill(table: &[i16], rows: usize, heads: &mut [u16], links: &mut [u16], co
     ensures links_after { links.new ≡ links_of rows table.now links.old }
     ensures counts_after { counts.new ≡ map length (rows_in rows table.now) }
 {
-    let mut row = rows;
-    while row > 0 {
-        row -= 1;
+    for row in (0..rows).rev() {
         counts[row] = list_row(table, row, heads, links) as u8;
     }
 }

@@ -20,32 +20,29 @@ pub enum Open {
     More,
 }
 
-// The open literals of a row in round k. A row with two gives nothing, and is left at the second. `one` is the first, or 0, and is
-// placed only where it stays alone.
+// The open literals of a row in round k. A row with two gives nothing, and is left at the second. `one` is the first, and is placed only where
+// it stays alone.
 fn open_in(table: &[i16], row: usize, ranks: &[u16], k: u16) -> Open
     requires { Fit (length ranks.now) (row + 1) table.now }
     ensures { result ≡ open_in (below k ranks.now) (decode (numbers_at table.now row)) }
 {
     let base = WIDTH * row;
-    let mut one: i16 = 0;
-    let mut j = 0;
-    while j < MOST_LITERALS {
-        let l = table[base + j];
+    let mut one = None;
+    for &l in &table[base..base + MOST_LITERALS] {
         if l == 0 {
             break;
         }
         if ranks[literals::place(literals::opposite(l))] >= k {
-            if one != 0 && one != l {
-                return Open::More;
+            match one {
+                Some(first) if first != l => return Open::More,
+                _ => one = Some(l),
             }
-            one = l;
         }
-        j += 1;
     }
-    if one == 0 {
-        return Open::Nothing;
+    match one {
+        None => Open::Nothing,
+        Some(l) => Open::One(literals::place(l)),
     }
-    Open::One(literals::place(one))
 }
 
 // Writes rank k at place p and puts p at the end of the queue, if it has no rank. Gives the queue's end.
@@ -81,14 +78,11 @@ pub fn mark_all(
 {
     let base = WIDTH * row;
     let mut next = end;
-    let mut j = 0;
-    while j < MOST_LITERALS {
-        let l = table[base + j];
+    for &l in &table[base..base + MOST_LITERALS] {
         if l == 0 {
             break;
         }
         next = mark_place(literals::place(l), ranks, k, queue, next);
-        j += 1;
     }
     next
 }

@@ -14,9 +14,9 @@ use literals::MOST_LITERALS;
 
 // Room for the rows of any table and their cells, and for those of one with few rows: room is cleared when it is made, which is most of what a
 // small board would pay.
-const ROWS: usize = 2048;
+const MOST_ROWS: usize = 2048;
 
-const CELLS: usize = 16384;
+const MOST_CELLS: usize = 16384;
 
 const FEW_ROWS: usize = 64;
 
@@ -56,8 +56,8 @@ fn propagate_in(
     write_supports(table, rows, heads, links, ranks, queue, end, from, supports);
 }
 
-// Propagates, with room for few rows.
-fn propagate_few(
+// Propagates, with room for so many rows and cells.
+fn propagate_with_room<const ROWS: usize, const CELLS: usize>(
     table: &[i16],
     rows: usize,
     held: &[bool],
@@ -70,7 +70,7 @@ fn propagate_few(
     requires fit { Fit (length ranks.old) rows table.now }
     requires ranks_in_bounds { (length ranks.old ≤ length held.now) × (from + length supports.old ≤ length ranks.old) }
     requires marks_value { length marks.old ≡ length ranks.old → marks.old ≡ replicate (length ranks.old) false }
-    requires rows_bound { rows ≤ 64 }
+    requires room { (rows ≤ ROWS) × (ROWS ≤ 2048) × (CELLS ≡ most_literals * ROWS) }
     ensures ranks_after { ranks.new ≡ ranks_of (length ranks.old) (rows_in rows table.now) held.now }
     ensures supports_after { supports.new ≡ tabulate (length supports.old)
         (λ i. support_of (length ranks.old) (rows_in rows table.now) held.now (from + i)) }
@@ -81,8 +81,8 @@ fn propagate_few(
     let cells = MOST_LITERALS * rows;
     let mut heads = [NONE; PLACES];
     let mut queue = [0; PLACES];
-    let mut links = [0; FEW_CELLS];
-    let mut counts = [0; FEW_ROWS];
+    let mut links = [0; CELLS];
+    let mut counts = [0; ROWS];
     propagate_in(
         table,
         rows,
@@ -121,28 +121,13 @@ fn propagate_all(
         marks.new ≡ reached_asked (length ranks.old) (rows_in rows table.now) held.now p }
 {
     if rows <= FEW_ROWS {
-        propagate_few(table, rows, held, ranks, from, supports, p, marks);
+        propagate_with_room::<FEW_ROWS, FEW_CELLS>(
+            table, rows, held, ranks, from, supports, p, marks,
+        );
         return;
     }
-    let places = ranks.len();
-    let cells = MOST_LITERALS * rows;
-    let mut heads = [NONE; PLACES];
-    let mut queue = [0; PLACES];
-    let mut links = [0; CELLS];
-    let mut counts = [0; ROWS];
-    propagate_in(
-        table,
-        rows,
-        held,
-        ranks,
-        from,
-        supports,
-        p,
-        marks,
-        &mut heads[..places],
-        &mut links[..cells],
-        &mut queue[..places],
-        &mut counts[..rows],
+    propagate_with_room::<MOST_ROWS, MOST_CELLS>(
+        table, rows, held, ranks, from, supports, p, marks,
     );
 }
 

@@ -65,11 +65,8 @@ pub fn start_ranks(held: &[bool], ranks: &mut [u16])
     requires { length ranks.old ≤ length held.now }
     ensures { ranks.new ≡ start_ranks (length ranks.old) held.now }
 {
-    let mut p = 0;
-    while p < ranks.len() {
-        let rank = if held[p] { 0 } else { NONE };
-        ranks[p] = rank;
-        p += 1;
+    for (p, rank) in ranks.iter_mut().enumerate() {
+        *rank = if held[p] { 0 } else { NONE };
     }
 }
 
@@ -78,13 +75,11 @@ fn one_of_eight(held: &[bool], first: usize) -> bool
     requires { first + 8 ≤ length held.now }
     ensures { result ≡ false → (i : ℕ) → i < 8 → has held.now (first + i) ≡ false }
 {
-    let mut marked = false;
-    let mut k = 0;
-    while k < 8 {
-        marked = marked | held[first + k];
-        k += 1;
+    let mut one = false;
+    for &is_held in &held[first..first + 8] {
+        one |= is_held;
     }
-    marked
+    one
 }
 
 // Puts the held premises into the queue. Few are held, so eight that are not are passed at once. Gives the queue's end.
@@ -94,6 +89,7 @@ fn queue_premises(held: &[bool], places: usize, queue: &mut [u16]) -> usize
 {
     let mut end = 0;
     let mut p = 0;
+    // A while: eight places that are not held are passed at once, any other place alone.
     while p < places {
         if p + 8 <= places {
             if !one_of_eight(held, p) {
@@ -133,6 +129,7 @@ pub fn rank_all(
     let mut from = 0;
     let mut to = queue_premises(held, ranks.len(), queue);
     let mut k: u16 = 0;
+    // A loop: that a round was the last is known only after it.
     loop {
         let end = round(table, rows, heads, links, ranks, k, queue, from, to, counts);
         if end == to {

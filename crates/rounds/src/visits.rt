@@ -76,6 +76,7 @@ fn visit(
     let cells = MOST_LITERALS * rows;
     let mut next = end;
     let mut cell = heads[p] as usize;
+    // A while: the next cell is the one that this cell's link names.
     while cell < cells {
         next = strike(table, cell / MOST_LITERALS, ranks, k, queue, next, counts);
         cell = links[cell] as usize;
@@ -112,11 +113,9 @@ pub fn visit_rows(
         (get_or counts.new i 0 ≡ get_or counts.old i 0) ⊎ Touched table.now queue.old from to i }
 {
     let mut next = end;
-    let mut at = from;
-    while at < to {
+    for at in from..to {
         let p = opposite_place(queue[at] as usize);
         next = visit(table, rows, heads, links, p, ranks, k, queue, next, counts);
-        at += 1;
     }
     next
 }
@@ -137,12 +136,10 @@ pub fn visit_units(
     ensures queued { Queued ranked 0 ranks.old ranks.new queue.old end queue.new result }
 {
     let mut next = end;
-    let mut row = 0;
-    while row < rows {
-        if counts[row] < 2 {
+    for (row, &count) in counts.iter().enumerate() {
+        if count < 2 {
             next = mark_all(table, row, ranks, 1, queue, next);
         }
-        row += 1;
     }
     next
 }
