@@ -2,6 +2,7 @@
 use Rattle.meaning.proofs.Kit.{◌≡◌, ◌∙◌, sym, ap, refl, subst, ap₂, ⊎_elim, ◌⊎◌, inl, inr, true, false, Bool, cond, List, ◌++◌, map, ◌≤◌, ℕ, ◌-◌, suc, ◌*◌, ◌^◌, ◌%◌}
 use Rattle.meaning.proofs.Kit.{one-mul, arith, eqb, leb, ℤ, pow_mono, length, take, replicate, length-append, take_at, le-leb, leb-true}
 use native.Mathlib.Nat.{mod-eq_of_lt}
+use Rattle.std.specs.Prelude.{Some, None}
 use Rattle.meaning.specs.Tests.{all, from}
 use Rattle.meaning.specs.Formulae.{Formula, occurs, symbols_of, Rule, rule_of}
 use Rattle.meaning.specs.Clauses.{assignments, rows_of, satisfiable}
@@ -66,7 +67,7 @@ pub record Listed (S : ℕ) (p : Parsed) (r : Names) : Type 0 where
   pub positive : all (leb 1) (take r.count r.list) ≡ true
 
 listed_of : (S : ℕ) (f : Formula) (used : ℕ) → leb (length (symbols_of S f)) 8 ≡ true
-    → Listed S (good f used) (record { fits = true; list = padded (symbols_of S f); count = length (symbols_of S f) })
+    → Listed S (good f used) (record { list = padded (symbols_of S f); count = length (symbols_of S f) })
 unfolding padded
 listed_of S f used e =
     let l = symbols_of S f in
@@ -80,19 +81,20 @@ listed_of S f used e =
       positive = rw front (symbols_positive S f);
     }
 
-pub listed : (S : ℕ) (p : Parsed) {r : Names} → is_good p ≡ true → r ≡ names_of S p → r.fits ≡ true → Listed S p r
+pub listed : (S : ℕ) (p : Parsed) {r : Names} → is_good p ≡ true → Some r ≡ names_of S p → Listed S p r
 unfolding names_of named
-listed S (bad why at) g e h = clash g refl
-listed S (good f used) {r} g e h =
-    ⊎_elim (λ t. (let is = (rw t at e) in rw is (listed_of S f used t))) (λ t. clash h (ap (λ (n : Names). n.fits) (rw t at e)))
+listed S (bad why at) g e = clash g refl
+listed S (good f used) {r} g e =
+    ⊎_elim (λ t. (let is : r ≡ record { list = padded (symbols_of S f); count = length (symbols_of S f) } = (let told = rw t at e in cc) in
+    rw is (listed_of S f used t)))
+    (λ t. (let told = rw t at e in cc))
     (true_or_false (leb (length (symbols_of S f)) 8))
 
-pub too_many_lem : (S : ℕ) (p : Parsed) {r : Names} → is_good p ≡ true → r ≡ names_of S p → r.fits ≡ false
-    → leb (length (symbols_of S (formula_of p))) 8 ≡ false
+pub too_many_lem : (S : ℕ) (p : Parsed) → is_good p ≡ true → None ≡ names_of S p → leb (length (symbols_of S (formula_of p))) 8 ≡ false
 unfolding names_of named
-too_many_lem S (bad why at) g e h = clash g refl
-too_many_lem S (good f used) {r} g e h =
-    ⊎_elim (λ t. clash (ap (λ (n : Names). n.fits) (rw t at e)) h) (λ t. t) (true_or_false (leb (length (symbols_of S f)) 8))
+too_many_lem S (bad why at) g e = clash g refl
+too_many_lem S (good f used) g e =
+    ⊎_elim (λ t. (let told = rw t at e in cc)) (λ t. t) (true_or_false (leb (length (symbols_of S f)) 8))
 
 -- ---- the truth table
 

@@ -68,10 +68,10 @@ fn add_formula(board: Board, table: &mut [i16], bytes: &[u8]) -> Addition
     ensures value { result ≡ ruled table.old board bytes.now }
     ensures table_after { table.new ≡ ruled_table table.old board bytes.now }
 {
-    let names = formula::naming::symbols_of(bytes, board.symbols);
-    if !names.fits {
-        return refused(board, Refusal::TooManySymbols, NO_PLACE);
-    }
+    let names = match formula::naming::symbols_of(bytes, board.symbols) {
+        Some(names) => names,
+        None => return refused(board, Refusal::TooManySymbols, NO_PLACE),
+    };
     let list = names.list;
     let count = names.count;
     match append(

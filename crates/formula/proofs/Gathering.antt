@@ -3,15 +3,16 @@ use Rattle.meaning.proofs.Kit.{◌≡◌, ◌∙◌, sym, ap, refl, ap₂, true,
 use Rattle.meaning.proofs.Kit.{add-zero, add-one, arith, length, get_or, replicate, set, length-append, append_snoc, le-leb, lt-leb}
 use lib.Seq.{set-append_seam}
 use Rattle.meaning.specs.Tests.{keep, from}
+use Rattle.std.specs.Prelude.{Some, None}
 use Rattle.formula.specs.Answers.{padded, named}
 
 -- ---- eight places
 
-named_few : (l : List ℕ) → length l ≤ 8 → named l ≡ record { fits = true; list = padded l; count = length l }
+named_few : (l : List ℕ) → length l ≤ 8 → named l ≡ Some (record { list = padded l; count = length l })
 unfolding named
 named_few l h = rw (le-leb (length l) 8 h)
 
-named_many : (l : List ℕ) → 8 < length l → named l ≡ record { fits = false; list = replicate 8 0; count = 0 }
+named_many : (l : List ℕ) → 8 < length l → named l ≡ None
 unfolding named
 named_many l h = rw (lt-leb (length l) 8 h)
 
@@ -92,16 +93,15 @@ module _ {marks : List Bool} {S : ℕ} {list : List ℕ} {count symbol : ℕ} (g
         whole = g.whole ∙ ap (λ (l : List ℕ). g.done ++ l) (rw fewer at (keep_past (marks_at marks) m symbol (S + 1 - symbol) unmarked));
       }
 
-  pub gathered_full : get_or marks symbol false ≡ true → count ≡ 8 → symbol ≤ S
-      → record { fits = false; list = replicate 8 0; count = 0 } ≡ named (keep (marks_at marks) (from 1 S))
+  pub gathered_full : get_or marks symbol false ≡ true → count ≡ 8 → symbol ≤ S → None ≡ named (keep (marks_at marks) (from 1 S))
   gathered_full e h b =
       let more = keep (marks_at marks) (from symbol (S + 1 - symbol)) in
       let some : 1 ≤ length more = omega (arith, ap length (keep_next (marks_at marks) symbol S b e)) in
       sym (named_many _ (omega (arith, g.counted, some, ap length g.whole, length-append g.done more)))
 
-  pub gathered_all : S < symbol → record { fits = true; list = list; count = count } ≡ named (keep (marks_at marks) (from 1 S))
+  pub gathered_all : S < symbol → Some (record { list = list; count = count }) ≡ named (keep (marks_at marks) (from 1 S))
   gathered_all h =
       let none : S + 1 - symbol ≡ 0 = omega arith in
       let all : keep (marks_at marks) (from 1 S) ≡ g.done = g.whole ∙ rw none (append-nil g.done) in
-      ap₂ (λ (l : List ℕ) (n : ℕ). record { fits = true; list = l; count = n }) g.stored g.counted
+      ap₂ (λ (l : List ℕ) (n : ℕ). Some (record { list = l; count = n })) g.stored g.counted
       ∙ sym (ap named all ∙ named_few g.done (omega (arith, g.few, g.counted)))

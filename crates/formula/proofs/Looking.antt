@@ -1,38 +1,54 @@
--- What an assignment gives a symbol, from the names that are left to look at.
-use Rattle.meaning.proofs.Kit.{◌≡◌, ◌∙◌, ap, false, Bool, List, ◌≤◌, ℕ, ◌<◌, ◌-◌, suc, arith, length, get_or, drop, drop-cons, drop-length, ne_eqb}
-use Rattle.meaning.proofs.Kit.{eq-eqb}
-use native.Mathlib.Nat.{sub-zero, sub_self}
+-- What an assignment gives a symbol, from the place at which the symbol stands among the names.
+use Rattle.meaning.proofs.Kit.{◌≡◌, ◌∙◌, ap, refl, true, false, Bool, cond, not, List, [], ◌∷◌, ℕ, ◌-◌, ◌+◌, suc, arith, eqb, ltb, length, lt-ltb}
+use Rattle.std.specs.Prelude.{Some, None}
+use Rattle.std.specs.List.{position, position_or_len}
+use Prim.Native.Nat.compare
 use Rattle.formula.specs.Answers.{bit_at}
 use Rattle.formula.proofs.Words.{look, bits}
 
-module _ (names : List ℕ) (number s : ℕ) where
-  -- what the last `left` names give
-  abbrev pub look_last : ℕ → Bool
-  look_last left = look (drop (length names - left) names) (bits left number) s
+-- the name is the symbol
+abbrev pub named_so : (s : ℕ) → ℕ → Bool
+named_so s n = eqb n s
 
-  module _ (left : ℕ) (some : 0 < left) (within : left ≤ length names) where
-    pub look_here : get_or names (length names - left) 0 ≡ s → look_last left ≡ bit_at number (left - 1)
-    unfolding bits
-    look_here e =
-        let one_more : left ≡ suc (left - 1) = omega arith in
-        ap (λ (n : ℕ). look (drop (length names - left) names) (bits n number) s) one_more
-        ∙ rw (drop-cons names (length names - left) 0 (omega arith), eq-eqb (get_or names (length names - left) 0) s e)
-
-    pub look_next : (get_or names (length names - left) 0 ≡ s → ⊥) → look_last left ≡ look_last (left - 1)
-    unfolding bits
-    look_next e =
-        let at = length names - left in
-        let one_more : left ≡ suc (left - 1) = omega arith in
-        let next : suc at ≡ length names - (left - 1) = omega arith in
-        let past : look (drop at names) (bits (suc (left - 1)) number) s ≡ look (drop (suc at) names) (bits (left - 1) number) s =
-        rw (drop-cons names at 0 (omega arith), ne_eqb (get_or names at 0) s e) in
-        ap (λ (n : ℕ). look (drop at names) (bits n number) s) one_more
-        ∙ past
-        ∙ ap (λ (n : ℕ). look (drop n names) (bits (left - 1) number) s) next
-
-  pub look_none : (left : ℕ) → left ≡ 0 → look_last left ≡ false
+module _ (number s : ℕ) where
+  -- the bit of the first name that is the symbol
+  look_placed : (names : List ℕ) → let k = position_or_len (named_so s) names in
+      look names (bits (length names) number) s ≡ cond (ltb k (length names)) (bit_at number (length names - 1 - k)) false
   unfolding bits
-  look_none left e = rw (e, sub-zero, drop-length)
+  look_placed [] = refl
+  look_placed (n ∷ names) = go (look_placed names) (eqb n s)
+    where
+      last : ℕ
+      last = length names
 
-  pub look_all : look_last (length names) ≡ look names (bits (length names) number) s
-  look_all = rw sub_self
+      k : ℕ
+      k = position_or_len (named_so s) names
+
+      go : look names (bits last number) s ≡ cond (ltb k last) (bit_at number (last - 1 - k)) false
+          → (b : Bool) → cond b (bit_at number last) (look names (bits last number) s)
+          ≡ cond (ltb (cond (not b) (1 + k) 0) (suc last)) (bit_at number (suc last - 1 - cond (not b) (1 + k) 0)) false
+      go rest true = let here : suc last - 1 - 0 ≡ last = omega arith in rw (lt-ltb 0 (suc last) (omega arith), here)
+      go rest false =
+          let one : 1 + k ≡ suc k = omega arith in
+          let there : suc last - 1 - suc k ≡ last - 1 - k = omega arith in
+          rw (one, there, compare.suc-suc) rest
+
+  pub look_found : (names : List ℕ) (k : ℕ) → position (named_so s) names ≡ Some k → look names (bits (length names) number) s ≡ bit_at number (length names - 1 - k)
+  look_found names k e = look_placed names ∙ go (ltb at (length names)) e
+    where
+      at : ℕ
+      at = position_or_len (named_so s) names
+
+      go : (b : Bool) → cond b (Some at) None ≡ Some k → cond b (bit_at number (length names - 1 - at)) false ≡ bit_at number (length names - 1 - k)
+      go true e = let same : at ≡ k = cc in ap (λ (j : ℕ). bit_at number (length names - 1 - j)) same
+      go false e = cc
+
+  pub look_missed : (names : List ℕ) → position (named_so s) names ≡ None → look names (bits (length names) number) s ≡ false
+  look_missed names e = look_placed names ∙ go (ltb at (length names)) e
+    where
+      at : ℕ
+      at = position_or_len (named_so s) names
+
+      go : (b : Bool) → cond b (Some at) None ≡ None → cond b (bit_at number (length names - 1 - at)) false ≡ false
+      go true e = cc
+      go false e = refl

@@ -1,5 +1,5 @@
 -- What the functions answer of what the bytes say.
-use Rattle.std.specs.Prelude.{ℕ, zero, suc, ◌+◌, ◌-◌, ◌/◌, ◌%◌, ◌^◌, Bool, true, false, cond, List, [], ◌∷◌, ◌++◌, map, length, set, replicate, eqb, leb}
+use Rattle.std.specs.Prelude.{ℕ, zero, suc, ◌+◌, ◌-◌, ◌/◌, ◌%◌, ◌^◌, Bool, true, false, cond, List, [], ◌∷◌, ◌++◌, map, length, set, replicate, eqb, leb, Option, Some, None}
 use Rattle.meaning.specs.Formulae.{Formula, symbol, neg, and, or, imp, same, value, symbols_of, look}
 use Rattle.meaning.specs.Clauses.{assignments}
 use Rattle.formula.specs.Parse.{Parsed, good, bad}
@@ -49,14 +49,12 @@ used_of (bad why at) = 0
 unfoldable pub padded : List ℕ → List ℕ
 padded l = l ++ replicate (8 - length l) 0
 
--- up to eight names are listed; more are too many, and then nothing is listed
-unfoldable pub named : List ℕ → Names
-named l =
-    cond (leb (length l) 8) (record { fits = true; list = padded l; count = length l })
-    (record { fits = false; list = replicate 8 0; count = 0 })
+-- up to eight names are listed; more are too many
+unfoldable pub named : List ℕ → Option Names
+named l = cond (leb (length l) 8) (Some (record { list = padded l; count = length l })) None
 
 -- the different symbols of what was parsed, rising
-unfoldable pub names_of : ℕ → Parsed → Names
+unfoldable pub names_of : ℕ → Parsed → Option Names
 names_of S (good f used) = named (symbols_of S f)
 names_of S (bad why at) = named []
 

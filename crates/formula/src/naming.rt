@@ -7,10 +7,9 @@ ghost use Rattle.formula.specs.Answers.{is_good, used_of, marks_of, named, names
 
 use crate::reading::{Kind, LEVELS, kind_of};
 
-// Up to eight symbols in rising order, with zeros after them; where there are more, `fits` is false and nothing is listed.
+// Up to eight symbols in rising order, with zeros after them.
 #[derive(Drop)]
 pub struct Names {
-    pub fits: bool,
     pub list: [u8; 8],
     pub count: usize,
 }
@@ -44,23 +43,21 @@ fn one_of_eight(marks: &[bool; 256], first: usize) -> bool
     requires { first ≤ 248 }
     ensures { result ≡ any (λ k. get_or marks.now (first + k) false) (from 0 8) }
 {
-    let mut marked = false;
-    let mut k = 0;
-    while k < 8 {
-        marked = marked | marks[first + k];
-        k += 1;
-    }
-    marked
+    marks[first..first + 8]
+        .iter()
+        .fold(false, |marked, mark| marked | *mark)
 }
 
-// The marked numbers from 1 to `symbols`, rising. Few are marked, so eight without a mark are passed at once.
-fn collect(marks: &[bool; 256], symbols: usize) -> Names
+// The marked numbers from 1 to `symbols`, rising; None where there are more than eight. Few are marked, so eight without a mark are
+// passed at once.
+fn collect(marks: &[bool; 256], symbols: usize) -> Option<Names>
     requires { symbols ≤ 200 }
     ensures { result ≡ named (keep (λ s. get_or marks.now s false) (from 1 symbols)) }
 {
     let mut list = [0u8; 8];
     let mut count = 0;
     let mut symbol = 1;
+    // A while: from a number without a mark the next is one further, or eight.
     while symbol <= symbols {
         if !one_of_eight(marks, symbol) {
             symbol += 8;
@@ -68,26 +65,18 @@ fn collect(marks: &[bool; 256], symbols: usize) -> Names
         }
         if marks[symbol] {
             if count == 8 {
-                return Names {
-                    fits: false,
-                    list: [0u8; 8],
-                    count: 0,
-                };
+                return None;
             }
             list[count] = symbol as u8;
             count += 1;
         }
         symbol += 1;
     }
-    Names {
-        fits: true,
-        list,
-        count,
-    }
+    Some(Names { list, count })
 }
 
-// The different symbols of a formula over the symbols 1 to `symbols`. `board` reads the formula first.
-pub fn symbols_of(bytes: &[u8], symbols: usize) -> Names
+// The different symbols of a formula over the symbols 1 to `symbols`; None where there are more than eight. `board` reads the formula first.
+pub fn symbols_of(bytes: &[u8], symbols: usize) -> Option<Names>
     requires symbols_bound { symbols ≤ 200 }
     requires bytes_value { is_good (parse symbols levels bytes.now) ≡ true }
     ensures { result ≡ names_of symbols (parse symbols levels bytes.now) }

@@ -29,14 +29,10 @@ fn given(names: &[u8], symbol: u8, assignment: usize) -> bool
     requires { length names.now ≤ 8 }
     ensures { result ≡ look names.now (bits (length names.now) assignment) symbol }
 {
-    let mut left = names.len();
-    while 0 < left {
-        if names[names.len() - left] == symbol {
-            return bit_at(assignment, left - 1);
-        }
-        left -= 1;
+    match names.iter().position(|name| *name == symbol) {
+        Some(k) => bit_at(assignment, names.len() - 1 - k),
+        None => false,
     }
-    false
 }
 
 // The value of two joined operands.
@@ -96,10 +92,7 @@ pub fn fill_truth(bytes: &[u8], symbols: usize, names: &[u8], table: &mut [bool]
     requires names_len_bound { (length names.now ≤ 8) × (length table.old ≡ 2 ^ length names.now) }
     ensures { table.new ≡ truth_of names.now (parse symbols levels bytes.now) }
 {
-    let mut assignment = 0;
-    while assignment < table.len() {
-        let value = evaluate(bytes, LEVELS, names, assignment);
-        table[assignment] = value.holds;
-        assignment += 1;
+    for (assignment, value) in table.iter_mut().enumerate() {
+        *value = evaluate(bytes, LEVELS, names, assignment).holds;
     }
 }

@@ -11,13 +11,7 @@ pub fn clause_count(n: usize) -> usize
     requires { n ≤ 8 }
     ensures { result ≡ 3 ^ n }
 {
-    let mut count = 1;
-    let mut k = 0;
-    while k < n {
-        count = count * 3;
-        k += 1;
-    }
-    count
+    3usize.pow(n as u32)
 }
 
 // Writes into the last third of `hits` where one of the first two thirds has a hit.
@@ -25,10 +19,8 @@ fn join_thirds(hits: &mut [bool], third: usize)
     requires { length hits.old ≡ 3 * third }
     ensures { hits.new ≡ joined third hits.old }
 {
-    let mut i = 0;
-    while i < third {
+    for i in 0..third {
         hits[2 * third + i] = hits[i] | hits[third + i];
-        i += 1;
     }
 }
 
@@ -56,8 +48,7 @@ fn one_less_hit(hits: &[bool], n: usize, c: usize) -> bool
 {
     let mut rest = c;
     let mut weight = 1;
-    let mut k = n;
-    while 0 < k {
+    for _ in 0..n {
         let digit = rest % 3;
         if digit < 2 {
             if !hits[c + (2 - digit) * weight] {
@@ -66,7 +57,6 @@ fn one_less_hit(hits: &[bool], n: usize, c: usize) -> bool
         }
         rest = rest / 3;
         weight = weight * 3;
-        k -= 1;
     }
     true
 }
@@ -88,9 +78,7 @@ pub fn mark_primes(hits: &mut [bool], n: usize)
     requires { length hits.old ≡ 3 ^ n }
     ensures { hits.new ≡ prime_table n hits.old }
 {
-    let mut c = 0;
-    while c < hits.len() {
+    for c in 0..hits.len() {
         hits[c] = is_prime(hits, n, c);
-        c += 1;
     }
 }

@@ -37,10 +37,8 @@ fn write_row(part: &mut [i16], row: &[usize], count: usize)
         × (all (λ p. ltb p 400) (take count row.now) ≡ true) }
     ensures { part.new ≡ encode (take count row.now) }
 {
-    let mut k = 0;
-    while k < part.len() {
-        part[k] = number_of(row, count, k);
-        k += 1;
+    for (k, number) in part.iter_mut().enumerate() {
+        *number = number_of(row, count, k);
     }
 }
 

@@ -20,13 +20,11 @@ fn literal_count(n: usize, c: usize) -> usize
 {
     let mut rest = c;
     let mut count = 0;
-    let mut k = n;
-    while 0 < k {
+    for _ in 0..n {
         if rest % 3 < 2 {
             count += 1;
         }
         rest = rest / 3;
-        k -= 1;
     }
     count
 }
@@ -40,17 +38,6 @@ fn literal(symbol: u8, negated: bool) -> i16
     if negated { -s } else { s }
 }
 
-// Sets every number of a row to 0.
-fn clear(row: &mut [i16])
-    ensures { row.new ≡ replicate (length row.old) (pos 0) }
-{
-    let mut i = 0;
-    while i < row.len() {
-        row[i] = 0;
-        i += 1;
-    }
-}
-
 // Writes the `count` literals of the clause numbered c to the front of a row of zeros, the last one first.
 fn put_literals(row: &mut [i16], symbols: &[u8], n: usize, c: usize, count: usize)
     requires { (row.old ≡ replicate most_literals (pos 0)) × (n ≤ 8) × (n ≡ length symbols.now) × (all (leb 1) symbols.now ≡ true)
@@ -59,9 +46,7 @@ fn put_literals(row: &mut [i16], symbols: &[u8], n: usize, c: usize, count: usiz
 {
     let mut rest = c;
     let mut at = count;
-    let mut k = n;
-    while 0 < k {
-        k -= 1;
+    for k in (0..n).rev() {
         let digit = rest % 3;
         if digit < 2 {
             at -= 1;
@@ -77,7 +62,7 @@ fn write_row(row: &mut [i16], symbols: &[u8], n: usize, c: usize, count: usize)
         × (c < 3 ^ n) × (count ≡ size (clause_at n c)) }
     ensures { row.new ≡ encode (row_of symbols.now (clause_at n c)) }
 {
-    clear(row);
+    row.fill(0);
     put_literals(row, symbols, n, c, count);
 }
 
@@ -86,15 +71,7 @@ pub fn row_count(primes: &[bool], n: usize) -> usize
     requires { length primes.now ≡ 3 ^ n }
     ensures { result ≡ length (in_order (marked primes.now) n) }
 {
-    let mut count = 0;
-    let mut c = 0;
-    while c < primes.len() {
-        if primes[c] {
-            count += 1;
-        }
-        c += 1;
-    }
-    count
+    primes.iter().filter(|prime| **prime).count()
 }
 
 // Appends the clause numbered c at `row`, with its rule's number, if it is a prime implicate of k literals. Returns the next free row.
@@ -144,10 +121,8 @@ fn append_size(
     ensures value { result ≡ row + length (of_size size (marked primes.now) (clauses n) k) }
 {
     let mut next = row;
-    let mut c = 0;
-    while c < primes.len() {
+    for c in 0..primes.len() {
         next = append_one(table, next, rule, symbols, primes, n, k, c);
-        c += 1;
     }
     next
 }
@@ -169,10 +144,8 @@ pub fn append_primes(
     ensures value { result ≡ row + length (in_order (marked primes.now) n) }
 {
     let mut next = row;
-    let mut k = 0;
-    while k <= n {
+    for k in 0..=n {
         next = append_size(table, next, rule, symbols, primes, n, k);
-        k += 1;
     }
     next
 }

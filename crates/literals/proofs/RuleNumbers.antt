@@ -1,5 +1,5 @@
 -- The numbers of rows' rules: how one is read, and what it is for one to be sound.
-use Rattle.meaning.proofs.Kit.{◌≡◌, ◌∙◌, sym, refl, subst, ⊎_elim, true, false, Bool, ◌&&◌, true≢false, and-false, List, ◌≤◌, ℕ, ◌<◌, ◌+◌, suc, zero}
+use Rattle.meaning.proofs.Kit.{◌≡◌, ◌∙◌, sym, ap, refl, subst, ⊎_elim, true, false, Bool, ◌&&◌, true≢false, and-false, List, ◌≤◌, ℕ, ◌<◌, ◌-◌, ◌+◌}
 use Rattle.meaning.proofs.Kit.{eq-or-lt_of_le, add-one, arith, leb, T, ℤ, pos, nat_abs, negsuc, lt_z, w16, SFits, to_z-of_z, le-leb, ltb-true, leb-true}
 use Rattle.meaning.proofs.Kit.{lt-leb, ltb-false}
 use lib.Dec.{leb-zero}
@@ -55,30 +55,35 @@ pub number_above : (z : ℤ) (m : ℕ) → lt_z z (pos m) ≡ false → (m ≤ r
 number_above (pos n) m e = (ltb-false n m e, refl)
 number_above (negsuc k) m e = absurd (true≢false e)
 
--- ---- row by row: the rows passed are sound, but that their rules' numbers were not compared with the count; `last` is the last of them
+-- ---- row by row: the rows passed are sound, but that their rules' numbers were not compared with the count: they are at most the last of them
 
-pub record Rises (S : ℕ) (table : List ℤ) (row last : ℕ) : Type 0 where
-  pub some : 1 ≤ last
-  pub is : last ≡ rule_before table row
+pub record Rises (S : ℕ) (table : List ℤ) (row : ℕ) : Type 0 where
+  pub some : 1 ≤ rule_before table row
   pub literals : (r : ℕ) → r < row → row_sound S (numbers_at table r) ≡ true
-  pub numbers : (r : ℕ) → r < row → (1 ≤ rule_at table r) × (rule_before table r ≤ rule_at table r) × (rule_at table r ≤ last)
+  pub numbers : (r : ℕ) → r < row → (1 ≤ rule_at table r) × (rule_before table r ≤ rule_at table r) × (rule_at table r ≤ rule_before table row)
+
+pub before_first : (table : List ℤ) → rule_before table 0 ≡ 1
+unfolding rule_before
+before_first table = refl
+
+pub before_next : (table : List ℤ) (row : ℕ) → rule_before table (row + 1) ≡ rule_at table row
+unfolding rule_before
+before_next table row = rw add-one
 
 module _ {S : ℕ} {table : List ℤ} where
-  pub rises_none : Rises S table 0 1
-  unfolding rule_before
-  rises_none = record { some = omega arith; is = refl; literals = λ r h. absurd (omega arith); numbers = λ r h. absurd (omega arith) }
+  pub rises_none : Rises S table 0
+  rises_none = record { some = omega (arith, before_first table); literals = λ r h. absurd (omega arith); numbers = λ r h. absurd (omega arith) }
 
-  pub rises_more : {row last next : ℕ} → Rises S table row last → row_sound S (numbers_at table row) ≡ true → next ≡ rule_at table row → last ≤ next
-      → Rises S table (row + 1) next
-  unfolding rule_before
-  rises_more {row} {last} {next} p sound is up =
+  pub rises_more : {row : ℕ} → Rises S table row → row_sound S (numbers_at table row) ≡ true → rule_before table row ≤ rule_at table row
+      → Rises S table (row + 1)
+  rises_more {row} p sound up =
+      let next = before_next table row in
       record {
-        some = omega (arith, p.some);
-        is = rw add-one is;
+        some = omega (arith, p.some, next);
         literals = λ r h. ⊎_elim (λ e. rw e sound) (λ l. p.literals r l) (eq-or-lt_of_le (omega arith));
         numbers = λ r h. ⊎_elim
-            (λ e. rw e (omega (arith, is, up, p.some), omega (arith, is, up, p.is), omega (arith, is)))
-            (λ l. (let n = p.numbers r l in (n.0, n.1, omega (arith, n.2, up))))
+            (λ e. rw e (omega (arith, up, p.some), up, omega (arith, next)))
+            (λ l. (let n = p.numbers r l in (n.0, n.1, omega (arith, n.2, up, next))))
             (eq-or-lt_of_le (omega arith));
       }
 
@@ -92,7 +97,7 @@ module _ (S : ℕ) (table : List ℤ) (used rules : ℕ) where
   unsound r h e = false_of (rows_sound S rules used table) (λ t. clash (all_at test t (in_from 0 used r (omega arith) (omega arith))) e)
 
   -- at the end the last number decides
-  pub rises_within : {last : ℕ} → Rises S table used last → last ≤ rules → rows_sound S rules used table ≡ true
+  pub rises_within : Rises S table used → rule_before table used ≤ rules → rows_sound S rules used table ≡ true
   unfolding rows_sound
   rises_within p few =
       all_of test (from 0 used)
@@ -101,11 +106,9 @@ module _ (S : ℕ) (table : List ℤ) (used rules : ℕ) where
       let n = p.numbers r low in
       rw (p.literals r low) (rule_sound_lem rules table r n.0 (omega (arith, n.2)) n.1)))
 
-  pub rises_beyond : {last : ℕ} → Rises S table used last → 1 ≤ used → rules < last → rows_sound S rules used table ≡ false
-  unfolding rule_before
-  rises_beyond {last} p one many = go used one p.is (λ r h e. unsound r h e)
-    where
-      go : (n : ℕ) → 1 ≤ n → last ≡ rule_before table n → ((r : ℕ) → r < n → test r ≡ false → rows_sound S rules used table ≡ false)
-          → rows_sound S rules used table ≡ false
-      go zero h is not = absurd (omega arith)
-      go (suc r) h is not = not r (omega arith) (rw (rule_high rules table r (omega (arith, is, many))) (and-false (row_sound S (numbers_at table r))))
+  pub rises_beyond : 1 ≤ used → rules < rule_before table used → rows_sound S rules used table ≡ false
+  rises_beyond one many =
+      let last = used - 1 in
+      let after : last + 1 ≡ used = omega arith in
+      let high : rules < rule_at table last = omega (arith, before_next table last, ap (rule_before table) after) in
+      unsound last (omega arith) (rw (rule_high rules table last high) (and-false (row_sound S (numbers_at table last))))

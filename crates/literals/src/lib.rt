@@ -77,15 +77,13 @@ fn row_sound(table: &[i16], at: usize, symbols: usize) -> bool
     requires { at + most_literals ≤ length table.now }
     ensures { result ≡ row_sound symbols (take most_literals (drop at table.now)) }
 {
-    let first = table[at];
-    if !in_range(first, symbols) {
+    let row = &table[at..at + MOST_LITERALS];
+    if !in_range(row[0], symbols) {
         return false;
     }
-    let end = at + MOST_LITERALS;
-    let mut last = symbol(first);
-    let mut k = at + 1;
-    while k < end {
-        let s = symbol(table[k]);
+    let mut last = symbol(row[0]);
+    for l in &row[1..] {
+        let s = symbol(*l);
         if s == 0 {
             last = symbols;
         } else {
@@ -94,7 +92,6 @@ fn row_sound(table: &[i16], at: usize, symbols: usize) -> bool
             }
             last = s;
         }
-        k += 1;
     }
     true
 }
@@ -121,8 +118,7 @@ pub fn rows_sound(table: &[i16], used: usize, symbols: usize, rules: usize) -> b
         return true;
     }
     let mut last: i16 = 1;
-    let mut row = 0;
-    while row < used {
+    for row in 0..used {
         if !row_sound(table, WIDTH * row, symbols) {
             return false;
         }
@@ -131,7 +127,6 @@ pub fn rows_sound(table: &[i16], used: usize, symbols: usize, rules: usize) -> b
             return false;
         }
         last = rule;
-        row += 1;
     }
     last as usize <= rules
 }
@@ -141,12 +136,10 @@ pub fn literal_count(table: &[i16], at: usize) -> usize
     requires { at + most_literals ≤ length table.now }
     ensures { result ≡ length (decode (take most_literals (drop at table.now))) }
 {
-    let mut n = 0;
-    while n < MOST_LITERALS {
-        if table[at + n] == 0 {
+    for (n, l) in table[at..at + MOST_LITERALS].iter().enumerate() {
+        if *l == 0 {
             return n;
         }
-        n += 1;
     }
     MOST_LITERALS
 }
