@@ -1,6 +1,6 @@
 -- `rules::add_formula` meets its contract: what it tests are the last three faults of `rule_faults`, in their order.
 use Rattle.meaning.proofs.Kit.{◌≡◌, ◌∙◌, sym, ap, refl, true, List, ℕ, arith, ⊎_elim}
-use Rattle.std.specs.Prelude.{Option, Some}
+use Rattle.std.specs.Prelude.{Option, Some, Err}
 use Rattle.meaning.specs.Formulae.{rule_of}
 use Rattle.meaning.specs.Clauses.{rows_of}
 use Rattle.literals.specs.Row.{rows_lent}
@@ -9,7 +9,7 @@ use Rattle.formula.specs.Parse.{parse, levels, whole_of}
 use Rattle.formula.specs.Answers.{is_good, names_of, formula_of}
 use Rattle.formula.specs.declared.naming.Names.{Names}
 use Rattle.implicates.proofs.Rules.{told_unsatisfiable, told_full, told_rows, fits_facts}
-use Rattle.board.specs.Rules.{rule_faults}
+use Rattle.board.specs.Rules.{no_place, rule_faults, ruled, ruled_table}
 use Rattle.board.proofs.Goodness.{good_is}
 use Rattle.board.proofs.Adding.{Listed, listed, too_many_lem, whole_is, because, rule_refused, rule_done}
 use Rattle.board.proofs.rules.add_formula.Goals as goal
@@ -79,6 +79,8 @@ returns-in-Err c =
     let left = c.append.ensures.table_after in
     let all =
         ⊎_elim
+        {C = (record { outcome = Err c.in-Err.why; place = no_place; added = 0; board = b } ≡ ruled table b bytes)
+          × (c.append.new.table ≡ ruled_table table b bytes)}
         (λ u.
           let told = rule_refused table b bytes NoAssignment (rw (c.requires.board_value, well, few, u.1)) refl in
           (rw u.0 told.0, left ∙ sym (told_unsatisfiable rule b.rows b.rules lent table u.1).1 ∙ told.1))
