@@ -1,6 +1,8 @@
 -- Going along a list, or through the numbers below n, to find whether one passes a test or all do: by those from i on.
-use Rattle.meaning.proofs.Kit.{◌≡◌, ◌∙◌, sym, ap, true, false, Bool, List, ◌≤◌, ℕ, ◌<◌, ◌+◌, add-one, arith, length, get_or, drop, drop_of_length-le}
+use Rattle.meaning.proofs.Kit.{◌≡◌, ◌∙◌, sym, ap, refl, ◌&&◌, ◌||◌, true, false, Bool, List, ◌≤◌, ℕ, ◌<◌, ◌+◌, add-one, arith, length, get_or, drop, drop_of_length-le}
 use Rattle.meaning.proofs.Kit.{drop-cons}
+use Rattle.std.specs.List.{list_all, list_any}
+use Rattle.std.proofs.lemmas.List.Recursion.{same_from_clauses}
 use Rattle.meaning.specs.Tests.{any, all, from}
 use Rattle.meaning.proofs.Tests.{in_at, any_at}
 use Rattle.meaning.proofs.BySize.{length_from, from_at}
@@ -31,6 +33,13 @@ module _ {A : Type 0} {test : A → Bool} {xs : List A} {i : ℕ} where
 
   pub each_all : EachFrom test xs i → length xs ≤ i → true ≡ all test xs
   each_all o l = sym (all_past test xs i l) ∙ o.is
+
+-- the tests of a list are the library's
+pub list_all_is : {A : Type 0} (test : A → Bool) (xs : List A) → list_all test xs ≡ all test xs
+list_all_is test = same_from_clauses (list_all test) (all test) (λ x b. test x && b) refl (λ _ _. refl) (λ _ _. refl)
+
+pub list_any_is : {A : Type 0} (test : A → Bool) (xs : List A) → list_any test xs ≡ any test xs
+list_any_is test = same_from_clauses (list_any test) (any test) (λ x b. test x || b) refl (λ _ _. refl) (λ _ _. refl)
 
 -- of the numbers below n
 module _ (test : ℕ → Bool) (n i : ℕ) (o : OneFrom test (from 0 n) i) where
