@@ -1,7 +1,7 @@
 -- Going along a list, or through the numbers below n, to find whether one passes a test or all do: by those from i on.
-use Rattle.meaning.proofs.Kit.{◌≡◌, ◌∙◌, sym, ap, refl, ◌&&◌, ◌||◌, true, false, Bool, List, ◌≤◌, ℕ, ◌<◌, ◌+◌, add-one, arith, length, get_or, drop, drop_of_length-le}
+use Rattle.meaning.proofs.Kit.{◌≡◌, ◌∙◌, sym, ap, refl, ◌&&◌, ◌||◌, true, false, Bool, List, ◌∷◌, ◌≤◌, ℕ, ◌<◌, ◌+◌, suc, zero, add-one, arith, length, get_or, drop, drop_of_length-le}
 use Rattle.meaning.proofs.Kit.{drop-cons}
-use Rattle.std.specs.List.{list_all, list_any}
+use Rattle.std.specs.List.{list_all, list_any, range_with_len}
 use Rattle.std.proofs.lemmas.List.Recursion.{same_from_clauses}
 use Rattle.meaning.specs.Tests.{any, all, from}
 use Rattle.meaning.proofs.Tests.{in_at, any_at}
@@ -40,6 +40,14 @@ list_all_is test = same_from_clauses (list_all test) (all test) (λ x b. test x 
 
 pub list_any_is : {A : Type 0} (test : A → Bool) (xs : List A) → list_any test xs ≡ any test xs
 list_any_is test = same_from_clauses (list_any test) (any test) (λ x b. test x || b) refl (λ _ _. refl) (λ _ _. refl)
+
+-- and so are the numbers of a range
+range_is : (a n : ℕ) → range_with_len a n ≡ from a n
+range_is a zero = refl
+range_is a (suc n) = ap (λ (ns : List ℕ). a ∷ ns) (range_is (a + 1) n ∙ ap (λ (k : ℕ). from k n) (add-one a))
+
+pub range_any_is : (test : ℕ → Bool) (n : ℕ) → list_any test (range_with_len 0 n) ≡ any test (from 0 n)
+range_any_is test n = ap (list_any test) (range_is 0 n) ∙ list_any_is test (from 0 n)
 
 -- of the numbers below n
 module _ (test : ℕ → Bool) (n i : ℕ) (o : OneFrom test (from 0 n) i) where
