@@ -1,12 +1,14 @@
 -- One turn of each loop: what is left to hold, to look at, to count and to write.
-use Rattle.meaning.proofs.Kit.{◌≡◌, ◌∙◌, sym, ap, refl, false, Bool, List, [], ◌∷◌, ◌++◌, ℕ, ◌<◌, ◌+◌, ◌^◌, arith, eqb, length, get_or, take}
+use Rattle.meaning.proofs.Kit.{◌≡◌, ◌∙◌, sym, ap, refl, true, false, Bool, cond, suc, List, [], ◌∷◌, ◌++◌, ℕ, ◌<◌, ◌+◌, ◌^◌, arith, length, get_or, take}
 use Rattle.meaning.proofs.Kit.{replicate, set, length-append, sets}
 use lib.Seq.{length-sets}
+use Rattle.std.specs.List.{count_by}
+use Rattle.std.proofs.lemmas.List.Recursion.{is_count_by}
 use Rattle.meaning.specs.Tests.{keep, from}
 use Rattle.meaning.specs.BySize.{of_size}
 use Rattle.candidates.specs.Sets.{chosen, size, sets_of}
 use Rattle.meaning.proofs.Tables.{sets_append}
-use Rattle.meaning.proofs.BySize.{tally, count_turn, length_from, from_at, of_size_more}
+use Rattle.meaning.proofs.BySize.{tally, keep_tally, length_from, from_at, of_size_more}
 use Rattle.board.specs.declared.Board.{Board}
 use Rattle.smallest.specs.Search.{holding, alone_on, listed_in}
 
@@ -22,12 +24,22 @@ board_alone b cands m first e =
 
 -- ---- the listed sets
 
-pub count_next : (notes : List ℕ) (N c : ℕ) → c < N
-    → length (keep (listed_in notes) (take (c + 1) (from 0 N)))
-    ≡ length (keep (listed_in notes) (take c (from 0 N))) + tally (eqb (get_or notes c 0) 2)
-count_next notes N c l =
-    count_turn (listed_in notes) (from 0 N) c 0 (omega (arith, length_from 0 N))
-    ∙ ap (λ (m : ℕ). length (keep (listed_in notes) (take c (from 0 N))) + tally (listed_in notes m)) (from_at 0 N c l ∙ omega arith)
+-- those of a list that pass a test are as many as the numbers of their places
+pub counted_by : (test : ℕ → Bool) (xs : List ℕ) → count_by test xs ≡ length (keep (λ i. test (get_or xs i 0)) (from 0 (length xs)))
+counted_by test xs =
+    sym (is_count_by (λ ys. length (keep test ys)) test refl (λ y ys. one (test y) y (keep test ys)) xs) ∙ go xs 0 (λ i. test (get_or xs i 0))
+    (λ i. ap (λ (j : ℕ). test (get_or xs j 0)) (omega arith))
+  where
+    one : (b : Bool) (y : ℕ) (ys : List ℕ) → length (cond b (y ∷ ys) ys) ≡ cond b (1 + length ys) (length ys)
+    one true y ys = omega arith
+    one false y ys = refl
+
+    go : (ys : List ℕ) (k : ℕ) (at : ℕ → Bool) → ((i : ℕ) → at (i + k) ≡ test (get_or ys i 0)) → length (keep test ys) ≡ length (keep at (from k (length ys)))
+    go [] k at h = refl
+    go (y ∷ ys) k at h =
+        let rest = go ys (suc k) at (λ i. ap at (omega arith) ∙ h (suc i)) in
+        let first : at k ≡ test y = ap at (omega arith) ∙ h 0 in
+        omega (arith, keep_tally test y ys, keep_tally at k (from (suc k) (length ys)), rest, ap tally first)
 
 -- those of k candidates among the first c sets
 abbrev pub up_to : List ℕ → (n k c : ℕ) → List ℕ

@@ -11,7 +11,7 @@ ghost use Rattle.smallest.specs.Search.{alone_on, notes_of, stops_fewer, standin
 
 use board::Board;
 use board::asking::{Standing, ask_whole};
-use candidates::sets::{has, power};
+use candidates::sets::{has, power, set_flags};
 
 // The notes: the search goes on beyond the set, or stops at it, or stops at it and the set is listed.
 pub const GOES_ON: u8 = 0;
@@ -26,15 +26,7 @@ fn alone(board: Board, places: &[usize], set: usize) -> Board
     ensures { result ≡ alone_on board places.now set }
 {
     let mut first = [false; 400];
-    let mut rest = set;
-    let mut i = 0;
-    while i < places.len() {
-        if rest % 2 == 1 {
-            first[places[i]] = true;
-        }
-        rest = rest / 2;
-        i += 1;
-    }
+    set_flags(&mut first, places, set, true);
     Board {
         symbols: board.symbols,
         rows: board.rows,
@@ -49,14 +41,12 @@ fn stops_fewer(notes: &[u8], n: usize, set: usize) -> bool
     requires { (n ≤ most_candidates) × (set < length notes.now) }
     ensures { result ≡ stops_fewer notes.now n set }
 {
-    let mut i = 0;
-    while i < n {
+    for i in 0..n {
         if has(set, i) {
             if notes[set - power(i)] != GOES_ON {
                 return true;
             }
         }
-        i += 1;
     }
     false
 }
@@ -87,9 +77,7 @@ pub fn note_sets(board: Board, table: &[i16], places: &[usize], l: i16, notes: &
         × (length notes.old ≡ 2 ^ length places.now) }
     ensures { notes.new ≡ notes_of (2 * board.symbols) (rows_on table.now board) places.now (place_of l) }
 {
-    let mut set = 0;
-    while set < notes.len() {
+    for set in 0..notes.len() {
         notes[set] = note(board, table, places, l, notes, set);
-        set += 1;
     }
 }

@@ -14,15 +14,7 @@ use candidates::sets::size_of;
 pub fn count_listed(notes: &[u8]) -> usize
     ensures { result ≡ length (keep (listed_in notes.now) (from 0 (length notes.now))) }
 {
-    let mut count = 0;
-    let mut set = 0;
-    while set < notes.len() {
-        if notes[set] == LISTED {
-            count += 1;
-        }
-        set += 1;
-    }
-    count
+    notes.iter().filter(|note| **note == LISTED).count()
 }
 
 // Whether a set is listed and has k candidates.
@@ -44,13 +36,11 @@ fn write_size(notes: &[u8], n: usize, k: usize, out: &mut [u16], at: usize) -> u
     ensures value { result ≡ at + length (listed_of_size notes.now n k) }
 {
     let mut next = at;
-    let mut set = 0;
-    while set < notes.len() {
+    for set in 0..notes.len() {
         if listed_of_size(notes, n, k, set) {
             out[next] = set as u16;
             next += 1;
         }
-        set += 1;
     }
     next
 }
@@ -62,9 +52,7 @@ pub fn write_listed(notes: &[u8], n: usize, out: &mut [u16])
     ensures { out.new ≡ sets out.old 0 (listed_below notes.now n (suc n)) }
 {
     let mut next = 0;
-    let mut k = 0;
-    while k <= n {
+    for k in 0..n + 1 {
         next = write_size(notes, n, k, out, next);
-        k += 1;
     }
 }
