@@ -1,4 +1,4 @@
--- Going along a list, or through the numbers below n, to find whether one passes a test or all do: by those from i on.
+-- Going along a list, or through the numbers below n, to find whether one passes a test: by those from i on. The library's tests of a list are these.
 use Rattle.meaning.proofs.Kit.{◌≡◌, ◌∙◌, sym, ap, refl, ◌&&◌, ◌||◌, true, false, Bool, List, ◌∷◌, ◌≤◌, ℕ, ◌<◌, ◌+◌, suc, zero, add-one, arith, length, get_or, drop, drop_of_length-le}
 use Rattle.meaning.proofs.Kit.{drop-cons}
 use Rattle.std.specs.List.{list_all, list_any, range_with_len}
@@ -6,14 +6,10 @@ use Rattle.std.proofs.lemmas.List.Recursion.{same_from_clauses}
 use Rattle.meaning.specs.Tests.{any, all, from}
 use Rattle.meaning.proofs.Tests.{in_at, any_at}
 use Rattle.meaning.proofs.BySize.{length_from, from_at}
-use Rattle.candidates.proofs.Turns.{all_drop, all_past}
 
--- one of them passes just if one from i on does; all do just if those do
+-- one of them passes just if one from i on does
 pub record OneFrom {A : Type 0} (test : A → Bool) (xs : List A) (i : ℕ) : Type 0 where
   pub is : any test (drop i xs) ≡ any test xs
-
-pub record EachFrom {A : Type 0} (test : A → Bool) (xs : List A) (i : ℕ) : Type 0 where
-  pub is : all test (drop i xs) ≡ all test xs
 
 module _ {A : Type 0} {test : A → Bool} {xs : List A} {i : ℕ} where
   pub one_on : OneFrom test xs i → (d : A) → i < length xs → test (get_or xs i d) ≡ false → OneFrom test xs (i + 1)
@@ -24,15 +20,6 @@ module _ {A : Type 0} {test : A → Bool} {xs : List A} {i : ℕ} where
 
   pub one_none : OneFrom test xs i → length xs ≤ i → false ≡ any test xs
   one_none o l = rw (drop_of_length-le xs {i = i} l) at o.is
-
-  pub each_on : EachFrom test xs i → (d : A) → i < length xs → test (get_or xs i d) ≡ true → EachFrom test xs (i + 1)
-  each_on o d l e = record { is = sym (sym o.is ∙ all_drop test xs i d l ∙ rw e) }
-
-  pub each_failed : EachFrom test xs i → (d : A) → i < length xs → test (get_or xs i d) ≡ false → false ≡ all test xs
-  each_failed o d l e = sym (sym o.is ∙ all_drop test xs i d l ∙ rw e)
-
-  pub each_all : EachFrom test xs i → length xs ≤ i → true ≡ all test xs
-  each_all o l = sym (all_past test xs i l) ∙ o.is
 
 -- the tests of a list are the library's
 pub list_all_is : {A : Type 0} (test : A → Bool) (xs : List A) → list_all test xs ≡ all test xs

@@ -11,14 +11,11 @@ use Rattle.candidates.specs.Sets.{chosen, set_each, size}
 -- ---- the candidates of a set, from candidate i on
 
 module _ (places : List ℕ) (i rest : ℕ) where
-  pub chosen_one : i < length places → odd rest ≡ true → chosen (drop i places) rest ≡ get_or places i 0 ∷ chosen (drop (i + 1) places) (rest / 2)
+  chosen_one : i < length places → odd rest ≡ true → chosen (drop i places) rest ≡ get_or places i 0 ∷ chosen (drop (i + 1) places) (rest / 2)
   chosen_one l e = rw (drop-cons places i 0 l, e, add-one i)
 
-  pub chosen_next : i < length places → odd rest ≡ false → chosen (drop i places) rest ≡ chosen (drop (i + 1) places) (rest / 2)
+  chosen_next : i < length places → odd rest ≡ false → chosen (drop i places) rest ≡ chosen (drop (i + 1) places) (rest / 2)
   chosen_next l e = rw (drop-cons places i 0 l, e, add-one i)
-
-  pub chosen_end : length places ≤ i → chosen (drop i places) rest ≡ []
-  chosen_end l = rw (drop_of_length-le places {i = i} l)
 
   -- flags that are set for each candidate of a set, one further
   pub marked_turn : (to : Bool) {flags now all : List Bool} → i < length places → set_each to flags (chosen (drop i places) rest) ≡ all

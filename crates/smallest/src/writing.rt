@@ -7,29 +7,29 @@ ghost use Rattle.candidates.specs.Sets.{size};
 ghost use Rattle.candidates.specs.Given.{most_candidates};
 ghost use Rattle.smallest.specs.Search.{listed_in, listed_of_size, listed_below};
 
-use crate::search::LISTED;
+use crate::search::Note;
 use candidates::sets::size_of;
 
 // How many sets are listed.
-pub fn count_listed(notes: &[u8]) -> usize
+pub fn count_listed(notes: &[Note]) -> usize
     ensures { result ≡ length (keep (listed_in notes.now) (from 0 (length notes.now))) }
 {
-    notes.iter().filter(|note| **note == LISTED).count()
+    notes.iter().filter(|note| **note == Note::Listed).count()
 }
 
 // Whether a set is listed and has k candidates.
-fn listed_of_size(notes: &[u8], n: usize, k: usize, set: usize) -> bool
+fn listed_of_size(notes: &[Note], n: usize, k: usize, set: usize) -> bool
     requires { (n ≤ most_candidates) × (set < length notes.now) }
     ensures { result ≡ (eqb (size n set) k && listed_in notes.now set) }
 {
-    if notes[set] != LISTED {
+    if notes[set] != Note::Listed {
         return false;
     }
     size_of(set, n) == k
 }
 
 // Writes the listed sets of k candidates from place `at` on, by number. Returns the next place.
-fn write_size(notes: &[u8], n: usize, k: usize, out: &mut [u16], at: usize) -> usize
+fn write_size(notes: &[Note], n: usize, k: usize, out: &mut [u16], at: usize) -> usize
     requires n_le_most_candidates { (n ≤ most_candidates) × (length notes.now ≡ 2 ^ n) }
     requires room { at + length (listed_of_size notes.now n k) ≤ length out.old }
     ensures out_after { out.new ≡ sets out.old at (listed_of_size notes.now n k) }
@@ -46,7 +46,7 @@ fn write_size(notes: &[u8], n: usize, k: usize, out: &mut [u16], at: usize) -> u
 }
 
 // Writes all of them, smaller sets first.
-pub fn write_listed(notes: &[u8], n: usize, out: &mut [u16])
+pub fn write_listed(notes: &[Note], n: usize, out: &mut [u16])
     requires n_le_most_candidates { (n ≤ most_candidates) × (length notes.now ≡ 2 ^ n) }
     requires room { length (listed_below notes.now n (suc n)) ≤ length out.old }
     ensures { out.new ≡ sets out.old 0 (listed_below notes.now n (suc n)) }

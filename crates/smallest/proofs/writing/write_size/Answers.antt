@@ -4,13 +4,14 @@ use Rattle.meaning.proofs.Kit.{take_all}
 use Rattle.meaning.specs.BySize.{of_size}
 use Rattle.candidates.specs.Sets.{size, sets_of}
 use Rattle.meaning.proofs.BySize.{length_from, of_size_le, one_in, one_out}
+use Rattle.smallest.specs.declared.search.Note.{Note}
 use Rattle.smallest.specs.Search.{listed_in, listed_of_size}
 use Rattle.smallest.proofs.Turns.{Stands, stands_none, stands_one, stands_same, stands_more, stands_long, up_to, up_to_next}
 use Rattle.smallest.proofs.writing.write_size.Goals as goal
 use Rattle.smallest.proofs.writing.write_size.Goals.{then-listed_of_size, else-listed_of_size}
 
 -- there is room for one more where it is listed
-room : (notes : List ℕ) (n k set : ℕ) {before out : List ℕ} {at next : ℕ} → set < 2 ^ n → Stands before at (up_to notes n k set) out next
+room : (notes : List Note) (n k set : ℕ) {before out : List ℕ} {at next : ℕ} → set < 2 ^ n → Stands before at (up_to notes n k set) out next
     → eqb (size n set) k && listed_in notes set ≡ true → at + length (listed_of_size notes n k) ≤ length before → next < length out
 room notes n k set less s listed fits =
     let one = one_in (size n) (listed_in notes) k set listed in
