@@ -14,11 +14,8 @@ fn write_marks(reached: &[bool], marks: &mut [u8])
     requires { length reached.now ≤ length marks.old }
     ensures { marks.new ≡ map byte_of reached.now ++ drop (length reached.now) marks.old }
 {
-    let mut k = 0;
-    while k < reached.len() {
-        let byte = if reached[k] { 1 } else { 0 };
-        marks[k] = byte;
-        k += 1;
+    for (k, is_reached) in reached.iter().enumerate() {
+        marks[k] = u8::from(*is_reached);
     }
 }
 

@@ -14,10 +14,8 @@ fn held_beyond(held: &[bool], places: usize) -> bool
     ensures { result ≡ any (λ h. h) (drop places held.now) }
 {
     let mut found = false;
-    let mut k = places;
-    while k < held.len() {
+    for k in places..held.len() {
         found = found | held[k];
-        k += 1;
     }
     found
 }

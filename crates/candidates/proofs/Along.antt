@@ -1,17 +1,15 @@
--- Going along a list, or through the numbers below n, to find whether one passes a test or all do: by those from i on.
-use Rattle.meaning.proofs.Kit.{◌≡◌, ◌∙◌, sym, ap, true, false, Bool, List, ◌≤◌, ℕ, ◌<◌, ◌+◌, add-one, arith, length, get_or, drop, drop_of_length-le}
+-- Going along a list, or through the numbers below n, to find whether one passes a test: by those from i on. The library's tests of a list are these.
+use Rattle.meaning.proofs.Kit.{◌≡◌, ◌∙◌, sym, ap, refl, ◌&&◌, ◌||◌, true, false, Bool, List, ◌∷◌, ◌≤◌, ℕ, ◌<◌, ◌+◌, suc, zero, add-one, arith, length, get_or, drop, drop_of_length-le}
 use Rattle.meaning.proofs.Kit.{drop-cons}
+use Rattle.std.specs.List.{list_all, list_any, range_with_len}
+use Rattle.std.proofs.lemmas.List.Recursion.{same_from_clauses}
 use Rattle.meaning.specs.Tests.{any, all, from}
 use Rattle.meaning.proofs.Tests.{in_at, any_at}
 use Rattle.meaning.proofs.BySize.{length_from, from_at}
-use Rattle.candidates.proofs.Turns.{all_drop, all_past}
 
--- one of them passes just if one from i on does; all do just if those do
+-- one of them passes just if one from i on does
 pub record OneFrom {A : Type 0} (test : A → Bool) (xs : List A) (i : ℕ) : Type 0 where
   pub is : any test (drop i xs) ≡ any test xs
-
-pub record EachFrom {A : Type 0} (test : A → Bool) (xs : List A) (i : ℕ) : Type 0 where
-  pub is : all test (drop i xs) ≡ all test xs
 
 module _ {A : Type 0} {test : A → Bool} {xs : List A} {i : ℕ} where
   pub one_on : OneFrom test xs i → (d : A) → i < length xs → test (get_or xs i d) ≡ false → OneFrom test xs (i + 1)
@@ -23,14 +21,20 @@ module _ {A : Type 0} {test : A → Bool} {xs : List A} {i : ℕ} where
   pub one_none : OneFrom test xs i → length xs ≤ i → false ≡ any test xs
   one_none o l = rw (drop_of_length-le xs {i = i} l) at o.is
 
-  pub each_on : EachFrom test xs i → (d : A) → i < length xs → test (get_or xs i d) ≡ true → EachFrom test xs (i + 1)
-  each_on o d l e = record { is = sym (sym o.is ∙ all_drop test xs i d l ∙ rw e) }
+-- the tests of a list are the library's
+pub list_all_is : {A : Type 0} (test : A → Bool) (xs : List A) → list_all test xs ≡ all test xs
+list_all_is test = same_from_clauses (list_all test) (all test) (λ x b. test x && b) refl (λ _ _. refl) (λ _ _. refl)
 
-  pub each_failed : EachFrom test xs i → (d : A) → i < length xs → test (get_or xs i d) ≡ false → false ≡ all test xs
-  each_failed o d l e = sym (sym o.is ∙ all_drop test xs i d l ∙ rw e)
+pub list_any_is : {A : Type 0} (test : A → Bool) (xs : List A) → list_any test xs ≡ any test xs
+list_any_is test = same_from_clauses (list_any test) (any test) (λ x b. test x || b) refl (λ _ _. refl) (λ _ _. refl)
 
-  pub each_all : EachFrom test xs i → length xs ≤ i → true ≡ all test xs
-  each_all o l = sym (all_past test xs i l) ∙ o.is
+-- and so are the numbers of a range
+range_is : (a n : ℕ) → range_with_len a n ≡ from a n
+range_is a zero = refl
+range_is a (suc n) = ap (λ (ns : List ℕ). a ∷ ns) (range_is (a + 1) n ∙ ap (λ (k : ℕ). from k n) (add-one a))
+
+pub range_any_is : (test : ℕ → Bool) (n : ℕ) → list_any test (range_with_len 0 n) ≡ any test (from 0 n)
+range_any_is test n = ap (list_any test) (range_is 0 n) ∙ list_any_is test (from 0 n)
 
 -- of the numbers below n
 module _ (test : ℕ → Bool) (n i : ℕ) (o : OneFrom test (from 0 n) i) where

@@ -21,3 +21,6 @@ one_power κs a x y = (cc, refl)
 
 one_size_of : One contract'.sets.size_of.ended candidates.sets.size_of.Reads.Post
 one_size_of κs a x y = (cc, refl)
+
+one_set_flags : One contract'.sets.set_flags.ended candidates.sets.set_flags.Reads.Post
+one_set_flags κs a x y = (refl, (cc) & refl)

@@ -1,6 +1,6 @@
 -- 02, Ticket 10: "Each set is a 16-bit number whose bit i stands for candidate i". The sets of n candidates are the numbers below 2 ^ n. Ticket 12
 -- has "the spelling of Ticket 10".
-use Rattle.std.specs.Prelude.{Bool, true, cond, ◌&&◌, List, [], ◌∷◌, ℕ, zero, suc, ◌+◌, ◌*◌, ◌/◌, ◌%◌, ◌^◌, leb}
+use Rattle.std.specs.Prelude.{Bool, true, cond, ◌&&◌, List, [], ◌∷◌, ℕ, zero, suc, ◌+◌, ◌*◌, ◌/◌, ◌%◌, ◌^◌, leb, set}
 use Rattle.meaning.specs.Tests.{from, odd}
 use Rattle.meaning.specs.BySize.{below_size}
 
@@ -8,6 +8,11 @@ use Rattle.meaning.specs.BySize.{below_size}
 abbrev pub chosen : {A : Type 0} → List A → ℕ → List A
 chosen [] m = []
 chosen (c ∷ cands) m = cond (odd m) (c ∷ chosen cands (m / 2)) (chosen cands (m / 2))
+
+-- flags with those at some places set to one value
+abbrev pub set_each : Bool → List Bool → List ℕ → List Bool
+set_each to flags [] = flags
+set_each to flags (p ∷ places) = set_each to (set flags p to) places
 
 -- how many of n candidates it has
 abbrev pub size : ℕ → ℕ → ℕ

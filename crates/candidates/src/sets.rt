@@ -1,8 +1,8 @@
 // Sets of candidates, as numbers. That there are no more than 12 of them each call tests first.
 
-ghost use Rattle.std.specs.Prelude.{◌≡◌, ◌^◌, ◌<◌, ◌≤◌};
-ghost use Rattle.meaning.specs.Tests.{bit};
-ghost use Rattle.candidates.specs.Sets.{size};
+ghost use Rattle.std.specs.Prelude.{◌≡◌, true, ◌^◌, ◌<◌, ◌≤◌, ltb, length};
+ghost use Rattle.meaning.specs.Tests.{all, bit};
+ghost use Rattle.candidates.specs.Sets.{chosen, set_each, size};
 ghost use Rattle.candidates.specs.Given.{most_candidates};
 
 // Whether the set has the candidate i.
@@ -26,13 +26,19 @@ pub fn size_of(set: usize, n: usize) -> usize
     requires { n ≤ most_candidates }
     ensures { result ≡ size n set }
 {
-    let mut count = 0;
+    (set & (power(n) - 1)).count_ones() as usize
+}
+
+// Sets the flags of the candidates that a set has: to true where they are held, to false where they are struck off.
+pub fn set_flags(flags: &mut [bool], places: &[usize], set: usize, to: bool)
+    requires { all (λ p. ltb p (length flags.old)) places.now ≡ true }
+    ensures { flags.new ≡ set_each to flags.old (chosen places.now set) }
+{
     let mut rest = set;
-    let mut i = 0;
-    while i < n {
-        count += rest % 2;
+    for place in places {
+        if rest % 2 == 1 {
+            flags[*place] = to;
+        }
         rest = rest / 2;
-        i += 1;
     }
-    count
 }

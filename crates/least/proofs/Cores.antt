@@ -29,7 +29,7 @@ use Rattle.board.proofs.Answered.{refused_not_done}
 use Rattle.candidates.specs.Given.{most_candidates}
 use Rattle.least.specs.Withdrawing.{leaves_conflict}
 use Rattle.least.specs.Effects.{struck_on, marked_set, core_of, effect_of}
-use Rattle.least.specs.declared.effects.Effect.TheVariants.{Ends, Leaves}
+use Rattle.std.specs.Prelude.{Some, None}
 use Rattle.least.proofs.Striking.{struck_good, struck_held}
 
 -- a flag's byte is 1 just if it is set
@@ -115,14 +115,14 @@ module _ (table : List ℤ) (b : Board) (furnace : ℕ) (places : List ℕ) (m :
         told = answered ∙ ap (λ (c : Board). blame_outcome table c furnace marks) is ∙ blamed_left
 
         pub leaves_told : o ≡ Ok tt → {now : List ℕ} → now ≡ blame_marks table struck furnace marks → {core : ℕ} → core ≡ marked_set now places
-            → Leaves core ≡ effect_of table b furnace places m
+            → Some core ≡ effect_of table b furnace places m
         unfolding effect_of
         leaves_told e {now} w {core} k =
             let c = done_leaves (leaves_conflict table b furnace (chosen places m)) (sym told ∙ e) in
             let over-struck = w ∙ ap (λ (c : Board). blame_marks table c furnace marks) is in
             rw (c, k ∙ ap (λ (ms : List ℕ). marked_set ms places) over-struck ∙ core_is c)
 
-        pub ends_told : {why : Refusal} → o ≡ Err why → Ends ≡ effect_of table b furnace places m
+        pub ends_told : {why : Refusal} → o ≡ Err why → None ≡ effect_of table b furnace places m
         unfolding effect_of
         ends_told e = rw (refused_ends (leaves_conflict table b furnace (chosen places m)) (sym told ∙ e))
 
@@ -133,22 +133,22 @@ module _ (table : List ℤ) (b : Board) (furnace : ℕ) (places : List ℕ) (m :
   unfolding ends
   ends_by = refl
 
-  pub effect_ends : Ends ≡ effect_of table b furnace places m → leaves_conflict table b furnace (chosen places m) ≡ false
+  pub effect_ends : None ≡ effect_of table b furnace places m → leaves_conflict table b furnace (chosen places m) ≡ false
   unfolding effect_of
   effect_ends e = go (leaves_conflict table b furnace (chosen places m)) e
     where
-      go : (c : Bool) → Ends ≡ cond c (Leaves (core_of table b furnace places m)) Ends → c ≡ false
-      go true e = let z : ◌≡◌ {A = ℕ} 0 1 = cc in absurd (omega arith)
+      go : (c : Bool) → None ≡ cond c (Some (core_of table b furnace places m)) None → c ≡ false
+      go true e = cc
       go false e = refl
 
-  pub effect_leaves : {core : ℕ} → Leaves core ≡ effect_of table b furnace places m
+  pub effect_leaves : {core : ℕ} → Some core ≡ effect_of table b furnace places m
       → (leaves_conflict table b furnace (chosen places m) ≡ true) × (core ≡ core_of table b furnace places m)
   unfolding effect_of
   effect_leaves {core} e = go (leaves_conflict table b furnace (chosen places m)) e
     where
-      go : (c : Bool) → Leaves core ≡ cond c (Leaves (core_of table b furnace places m)) Ends → (c ≡ true) × (core ≡ core_of table b furnace places m)
+      go : (c : Bool) → Some core ≡ cond c (Some (core_of table b furnace places m)) None → (c ≡ true) × (core ≡ core_of table b furnace places m)
       go true e = let same : core ≡ core_of table b furnace places m = cc in (refl, same)
-      go false e = let z : ◌≡◌ {A = ℕ} 0 1 = cc in absurd (omega arith)
+      go false e = cc
 
   -- a core is a set of the candidates
   pub core_few : length places ≤ most_candidates → core_of table b furnace places m < 4096

@@ -3,7 +3,7 @@ use Rattle.meaning.proofs.Kit.{◌≡◌, ◌∙◌, refl, ⊎_elim, true, false
 use Rattle.meaning.proofs.Kit.{drop-set-lt, eqb-true}
 use Rattle.meaning.specs.Tests.{all}
 use Rattle.meaning.specs.Ground.{struck_off}
-use Rattle.candidates.specs.Sets.{chosen}
+use Rattle.candidates.specs.Sets.{chosen, set_each}
 use Rattle.meaning.proofs.Tests.{one_true_lem}
 use Rattle.board.specs.Furnaces.{is_furnace, held_by, with_held}
 use Rattle.board.specs.Faults.{good_board}
@@ -16,6 +16,11 @@ use Rattle.least.specs.Effects.{struck_on}
 struck_beyond : (n : ℕ) (held : List Bool) (gone : List ℕ) → ((p : ℕ) → In p gone → p < n) → drop n (struck_off held gone) ≡ drop n held
 struck_beyond n held [] f = refl
 struck_beyond n held (h ∷ gone) f = struck_beyond n (set held h false) gone (λ p m. f p (there m)) ∙ drop-set-lt n held h false (f h (here refl))
+
+-- flags that are all set to false are struck off
+pub struck_each : (held : List Bool) (gone : List ℕ) → set_each false held gone ≡ struck_off held gone
+struck_each held [] = refl
+struck_each held (h ∷ gone) = struck_each (set held h false) gone
 
 -- ---- by the furnace's number
 

@@ -5,8 +5,11 @@ use Rattle.meaning.proofs.Kit.{drop, take, set, length-set, length-drop, drop_of
 use Rattle.meaning.proofs.Kit.{eqb-true, ltb-true}
 use lib.Bits.{bit_and}
 use lib.Seq.{take-set-le}
+use Rattle.std.specs.Int.{from_bool}
 use Rattle.candidates.specs.Sets.{size}
-use Rattle.meaning.proofs.Tests.{any_found}
+use Rattle.std.specs.Prelude.{Option, Some}
+use Rattle.std.specs.Option.{is_some}
+use Rattle.meaning.proofs.Tests.{any_found, clash}
 use Rattle.meaning.proofs.Tables.{le_or_lt}
 use Rattle.candidates.proofs.ChosenSets.{passing_below}
 use Rattle.least.specs.Effects.{marked_set}
@@ -31,6 +34,15 @@ module _ (marks places : List ℕ) (i : ℕ) where
       let short : length (drop i places) ≤ 12 = omega (arith, length-drop i places) in
       let most : 2 ^ length (drop i places) ≤ 4096 = pow_mono short in
       omega (arith, passing_below (λ p. eqb (get_or marks p 0) 1) (drop i places))
+
+-- a flag as a bit
+pub record Bit (b : Bool) : Type 0 where
+  pub is : from_bool b ≡ cond b 1 0
+  pub small : from_bool b ≤ 1
+
+pub bit_of : (b : Bool) → Bit b
+bit_of true = record { is = refl; small = omega arith }
+bit_of false = record { is = refl; small = omega arith }
 
 -- ---- the search
 
@@ -120,6 +132,10 @@ module _ (ends : ℕ → Bool) (n k known : ℕ) (cores : List ℕ) where
     where
       last : (a : ℕ) → a < 2 ^ n → size n a ≡ k → ends a ≡ false
       last a l e = s.lower a (omega (arith, end, size_high n a l, ap (λ (j : ℕ). 2 ^ (n - j)) e)) e
+
+-- a search that goes on has found no set
+pub found_or_not : {found : Option ℕ} {m : ℕ} {t : Bool} {X : Type 0} → t ≡ is_some found → found ≡ Some m → t ≡ false → X
+found_or_not e f g = clash (e ∙ ap is_some f) g
 
 -- the same under other names
 pub searched_as : {ends : ℕ → Bool} {n j k m known now : ℕ} {cores later : List ℕ} → j ≡ k → later ≡ cores → now ≡ known

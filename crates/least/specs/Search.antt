@@ -1,6 +1,6 @@
 -- How the least is searched: the sets by size, then by number, until one ends the conflict; and cores of the conflicts that were left are kept, so
 -- that no set is tried that misses one of these.
-use Rattle.std.specs.Prelude.{ℕ, ◌^◌, ◌≤◌, ◌<◌, ◌≡◌, ◌⊎◌, Bool, false, not, ◌&&◌, eqb, ℤ, length, take}
+use Rattle.std.specs.Prelude.{ℕ, ◌^◌, ◌≤◌, ◌<◌, ◌≡◌, ◌⊎◌, Bool, false, not, ◌&&◌, eqb, ℤ, length, take, Some, None}
 use mathlib.Core.List.{List, Memᴰ as In}
 use Rattle.std.specs.Int.Bits.{bit_and}
 use Rattle.meaning.specs.Tests.{any, none}
@@ -31,7 +31,7 @@ pub record Searched (ends : ℕ → Bool) (n k m known : ℕ) (cores : List ℕ)
 -- how far a search is: none is found yet, and so much is known; or one is, and it is the answer
 abbrev pub Looked : (ends : ℕ → Bool) → (answer n k m : ℕ) → Progress → (cores : List ℕ) → Type 0
 Looked ends answer n k m so_far cores =
-    ((so_far.found ≡ none) × Searched ends n k m so_far.cores cores) ⊎ ((so_far.found ≡ answer) × (answer < none))
+    ((so_far.found ≡ None) × Searched ends n k m so_far.cores cores) ⊎ ((so_far.found ≡ Some answer) × (answer < none))
 
 -- ---- the answer, once the tests before have passed
 

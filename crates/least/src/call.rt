@@ -10,7 +10,7 @@ ghost use Rattle.candidates.specs.Given.{most_candidates};
 ghost use Rattle.least.specs.Withdrawing.{least_answer};
 ghost use Rattle.least.specs.Search.{stay_answer, given_answer};
 
-use crate::effects::{Effect, effect_of};
+use crate::effects::effect_of;
 use crate::search::search;
 use crate::{NO_SET, Withdrawal};
 use board::testing::{good, is_furnace};
@@ -37,12 +37,13 @@ fn least_held(board: Board, table: &[i16], furnace: u8, places: &[usize]) -> Wit
 {
     let sets = power(places.len());
     match effect_of(board, table, furnace, places, sets - 1) {
-        Effect::Leaves(_) => refused(Refusal::ConflictStays),
-        Effect::Ends => {
+        Some(_) => refused(Refusal::ConflictStays),
+        None => {
             let mut cores = [0u16; 256];
+            let found = search(board, table, furnace, places, &mut cores);
             Withdrawal {
                 outcome: Ok(()),
-                set: search(board, table, furnace, places, &mut cores) as u16,
+                set: found.unwrap_or(NO_SET as usize) as u16,
             }
         }
     }
@@ -53,12 +54,10 @@ fn all_held(held: &[bool], places: &[usize]) -> bool
     requires { all (λ p. ltb p (length held.now)) places.now ≡ true }
     ensures { result ≡ all (has held.now) places.now }
 {
-    let mut i = 0;
-    while i < places.len() {
-        if !held[places[i]] {
+    for place in places {
+        if !held[*place] {
             return false;
         }
-        i += 1;
     }
     true
 }

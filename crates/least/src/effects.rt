@@ -2,8 +2,6 @@
 
 ghost use Rattle.std.specs.Prelude.{◌≡◌, true, ◌*◌, ◌≤◌, ltb, length};
 ghost use Rattle.meaning.specs.Tests.{all};
-ghost use Rattle.meaning.specs.Ground.{struck_off};
-ghost use Rattle.candidates.specs.Sets.{chosen};
 ghost use Rattle.board.specs.Furnaces.{is_furnace};
 ghost use Rattle.board.specs.Faults.{good_board};
 ghost use Rattle.candidates.specs.Given.{most_candidates};
@@ -11,31 +9,7 @@ ghost use Rattle.least.specs.Effects.{struck_on, marked_set, effect_of};
 
 use board::grounds::blame;
 use board::{Board, Outcome};
-
-// It ends the conflict, or leaves one, whose core is the set of those candidates that it stands on.
-#[derive(Clone, Copy)]
-pub enum Effect {
-    Ends,
-    Leaves(usize),
-}
-
-// Premises with a set of candidates struck off.
-fn strike(held: [bool; 400], places: &[usize], set: usize) -> [bool; 400]
-    requires { all (λ p. ltb p 400) places.now ≡ true }
-    ensures { result ≡ struck_off held (chosen places.now set) }
-{
-    let mut left = held;
-    let mut rest = set;
-    let mut i = 0;
-    while i < places.len() {
-        if rest % 2 == 1 {
-            left[places[i]] = false;
-        }
-        rest = rest / 2;
-        i += 1;
-    }
-    left
-}
+use candidates::sets::set_flags;
 
 // The board with a set of candidates struck off a furnace's premises.
 fn struck_off(board: Board, furnace: u8, places: &[usize], set: usize) -> Board
@@ -44,13 +18,9 @@ fn struck_off(board: Board, furnace: u8, places: &[usize], set: usize) -> Board
 {
     let mut next = board;
     if furnace == 1 {
-        let held = board.first;
-        let left = strike(held, places, set);
-        next.first = left;
+        set_flags(&mut next.first, places, set, false);
     } else {
-        let held = board.second;
-        let left = strike(held, places, set);
-        next.second = left;
+        set_flags(&mut next.second, places, set, false);
     }
     next
 }
@@ -61,17 +31,21 @@ fn marked(marks: &[u8], places: &[usize]) -> usize
     ensures { result ≡ marked_set marks.now places.now }
 {
     let mut set = 0;
-    let mut i = places.len();
-    while 0 < i {
-        i -= 1;
-        let one = if marks[places[i]] == 1 { 1 } else { 0 };
-        set = one + 2 * set;
+    for i in (0..places.len()).rev() {
+        set = 2 * set + usize::from(marks[places[i]] == 1);
     }
     set
 }
 
-// Strikes a set off and asks for the blame.
-pub fn effect_of(board: Board, table: &[i16], furnace: u8, places: &[usize], set: usize) -> Effect
+// Strikes a set off and asks for the blame: none where the conflict ends, and otherwise the core of the one that is left, the set of those candidates
+// that it stands on.
+pub fn effect_of(
+    board: Board,
+    table: &[i16],
+    furnace: u8,
+    places: &[usize],
+    set: usize,
+) -> Option<usize>
     requires board_value { (good_board table.now board ≡ true) × (is_furnace furnace ≡ true) }
     requires places_len_bound { (length places.now ≤ most_candidates) × (all (λ p. ltb p (2 * board.symbols)) places.now ≡ true) }
     ensures { result ≡ effect_of table.now board furnace places.now set }
@@ -83,7 +57,7 @@ pub fn effect_of(board: Board, table: &[i16], furnace: u8, places: &[usize], set
         furnace,
         &mut marks,
     ) {
-        Ok(()) => Effect::Leaves(marked(&marks, places)),
-        Err(_) => Effect::Ends,
+        Ok(()) => Some(marked(&marks, places)),
+        Err(_) => None,
     }
 }

@@ -1,7 +1,8 @@
 // The sets of candidates, searched by size, then by number, for the first that ends the conflict.
 
 ghost use Rattle.std.specs.Prelude.{◌≡◌, true, cond, suc, ◌+◌, ◌*◌, ◌^◌, ◌<◌, ◌≤◌, ltb, length, set};
-ghost use Rattle.meaning.specs.Tests.{all};
+ghost use Rattle.std.specs.Option.{unwrap_or};
+ghost use Rattle.meaning.specs.Tests.{all, none};
 ghost use Rattle.candidates.specs.Sets.{size};
 ghost use Rattle.least.specs.Least.{ends};
 ghost use Rattle.board.specs.Furnaces.{is_furnace, held_by};
@@ -11,15 +12,14 @@ ghost use Rattle.candidates.specs.Given.{most_candidates};
 ghost use Rattle.least.specs.Withdrawing.{least_at};
 ghost use Rattle.least.specs.Search.{misses_one, worth_trying, Searched, Looked};
 
-use crate::NO_SET;
-use crate::effects::{Effect, effect_of};
+use crate::effects::effect_of;
 use board::Board;
 use candidates::sets::{power, size_of};
 
-// How far the search is: the set that was found, or NO_SET, and how many cores are kept.
+// How far the search is: the set that was found, if one was, and how many cores are kept.
 #[derive(Clone, Copy)]
 struct Progress {
-    found: usize,
+    found: Option<usize>,
     cores: usize,
 }
 
@@ -27,14 +27,7 @@ struct Progress {
 fn misses_one(cores: &[u16], set: usize) -> bool
     ensures { result ≡ misses_one cores.now set }
 {
-    let mut i = 0;
-    while i < cores.len() {
-        if (cores[i] as usize) & set == 0 {
-            return true;
-        }
-        i += 1;
-    }
-    false
+    cores.iter().any(|core| usize::from(*core) & set == 0)
 }
 
 // Whether a set has k candidates, and one of every core.
@@ -82,12 +75,12 @@ fn try_set(
         (size (length places.now) set) (suc set) result cores.new }
 {
     match effect_of(board, table, furnace, places, set) {
-        Effect::Ends => Progress {
-            found: set,
+        None => Progress {
+            found: Some(set),
             cores: known,
         },
-        Effect::Leaves(core) => Progress {
-            found: NO_SET as usize,
+        Some(core) => Progress {
+            found: None,
             cores: keep(core, known, cores),
         },
     }
@@ -111,46 +104,43 @@ fn search_size(
         (least_at table.now board furnace places.now) (length places.now) (suc k) 0 result cores.new }
 {
     let n = places.len();
+    let first = power(k) - 1;
     let last = power(n) - power(n - k);
     let mut kept = known;
-    let mut set = power(k) - 1;
-    while set <= last {
+    for set in first..last + 1 {
         if worth_trying(&cores[..kept], n, k, set) {
             let tried = try_set(board, table, furnace, places, set, kept, cores);
-            if tried.found != NO_SET as usize {
+            if tried.found.is_some() {
                 return tried;
             }
             kept = tried.cores;
         }
-        set += 1;
     }
     Progress {
-        found: NO_SET as usize,
+        found: None,
         cores: kept,
     }
 }
 
-// The first set, by size and then by number, that ends the conflict; NO_SET if none does, which the caller has ruled out.
+// The first set, by size and then by number, that ends the conflict; that none does the caller has ruled out.
 pub fn search(
     board: Board,
     table: &[i16],
     furnace: u8,
     places: &[usize],
     cores: &mut [u16],
-) -> usize
+) -> Option<usize>
     requires board_value { (good_board table.now board ≡ true) × (is_furnace furnace ≡ true) }
     requires places_len_bound { (length places.now ≤ most_candidates) × (all (λ p. ltb p (2 * board.symbols)) places.now ≡ true) }
-    ensures { result ≡ least_at table.now board furnace places.now }
+    ensures { unwrap_or result none ≡ least_at table.now board furnace places.now }
 {
     let mut kept = 0;
-    let mut k = 0;
-    while k <= places.len() {
+    for k in 0..places.len() + 1 {
         let tried = search_size(board, table, furnace, places, k, kept, cores);
-        if tried.found != NO_SET as usize {
+        if tried.found.is_some() {
             return tried.found;
         }
         kept = tried.cores;
-        k += 1;
     }
-    NO_SET as usize
+    None
 }

@@ -59,14 +59,7 @@ fn has_partner(v: View, i: usize) -> bool
     requires { (i < 7) × (v.choices ≤ 7) }
     ensures { result ≡ any ((side_of v).may i) (from 0 v.choices) }
 {
-    let mut j = 0;
-    while j < v.choices {
-        if may(v, i, j) {
-            return true;
-        }
-        j += 1;
-    }
-    false
+    (0..v.choices).any(|j| may(v, i, j))
 }
 
 // Whether some pair is allowed.
@@ -74,14 +67,7 @@ pub fn allows_some(v: View) -> bool
     requires { (v.positions ≤ 7) × (v.choices ≤ 7) }
     ensures { result ≡ any (λ i. any ((side_of v).may i) (from 0 v.choices)) (from 0 v.positions) }
 {
-    let mut i = 0;
-    while i < v.positions {
-        if has_partner(v, i) {
-            return true;
-        }
-        i += 1;
-    }
-    false
+    (0..v.positions).any(|i| has_partner(v, i))
 }
 
 // Puts the places of the literals that say that position i has an allowed partner into `row` from `at` on. Returns the place after them.
@@ -91,13 +77,11 @@ fn put_partners(row: &mut [usize], at: usize, v: View, i: usize) -> usize
         × (take result row.new ≡ take at row.old ++ map (λ t. place t true) (partners (side_of v) i)) }
 {
     let mut n = at;
-    let mut j = 0;
-    while j < v.choices {
+    for j in 0..v.choices {
         if may(v, i, j) {
             row[n] = 2 * (v.partner + j - 1);
             n += 1;
         }
-        j += 1;
     }
     n
 }
@@ -132,9 +116,7 @@ pub fn append_side(table: &mut [i16], row: usize, rules: usize, v: View)
     requires { Sees v × (rules + v.positions ≤ most_rules) × (width * (row + v.positions) ≤ length table.old) }
     ensures { table.new ≡ appended table.old row (each_a_rule (suc rules) (side_rows (side_of v))) }
 {
-    let mut i = 0;
-    while i < v.positions {
+    for i in 0..v.positions {
         append_clause(table, row + i, rules + i + 1, v, i);
-        i += 1;
     }
 }

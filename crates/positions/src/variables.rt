@@ -31,6 +31,7 @@ fn mark_single(truth: &mut [bool], n: usize)
     requires { (n ≤ 7) × (truth.old ≡ replicate (2 ^ n) false) }
     ensures { truth.new ≡ only_one n }
 {
+    // A while: the next number is twice this one.
     let mut number = 1;
     while number < truth.len() {
         truth[number] = true;
@@ -43,10 +44,8 @@ fn list_symbols(names: &mut [u8], first: usize)
     requires { first + length names.old ≤ 201 }
     ensures { names.new ≡ from first (length names.old) }
 {
-    let mut i = 0;
-    while i < names.len() {
-        names[i] = (first + i) as u8;
-        i += 1;
+    for (i, name) in names.iter_mut().enumerate() {
+        *name = (first + i) as u8;
     }
 }
 

@@ -14,6 +14,7 @@ use Rattle.std.specs.Prelude.{Ok, Err}
 use Rattle.candidates.specs.Given.{most_candidates, too_many, places_of, repeats}
 use Rattle.smallest.specs.Listing.{smallest_at, smallest_on, room_faults, candidate_faults, listed, smallest_faults, smallest_outcome, smallest_answer}
 use Rattle.smallest.specs.Listing.{smallest_sets}
+use Rattle.smallest.specs.declared.search.Note.{Note}
 use Rattle.smallest.specs.Search.{notes_of, listed_in, listed_below}
 use Rattle.smallest.specs.declared.Listing.{Listing}
 use Rattle.smallest.proofs.Notes.{listed_are, counted}
@@ -51,16 +52,16 @@ module _ (list lent : List ℕ) where
 
 -- ---- by the notes
 
-module _ (table : List ℤ) (b : Board) (places : List ℕ) (l : ℤ) {notes : List ℕ}
+module _ (table : List ℤ) (b : Board) (places : List ℕ) (l : ℤ) {notes : List Note}
     (e : notes ≡ notes_of (2 * b.symbols) (rows_on table b) places (place_of l)) where
   pub as_many : length (keep (listed_in notes) (from 0 (length notes))) ≡ length (smallest_at table b places l)
   unfolding smallest_at
-  as_many = ap (λ (ns : List ℕ). length (keep (listed_in ns) (from 0 (length ns)))) e ∙ counted (2 * b.symbols) (rows_on table b) places (place_of l)
+  as_many = ap (λ (ns : List Note). length (keep (listed_in ns) (from 0 (length ns)))) e ∙ counted (2 * b.symbols) (rows_on table b) places (place_of l)
 
   pub the_list : listed_below notes (length places) (suc (length places)) ≡ smallest_at table b places l
   unfolding smallest_at
   the_list =
-      ap (λ (ns : List ℕ). listed_below ns (length places) (suc (length places))) e ∙ listed_are (2 * b.symbols) (rows_on table b) places (place_of l)
+      ap (λ (ns : List Note). listed_below ns (length places) (suc (length places))) e ∙ listed_are (2 * b.symbols) (rows_on table b) places (place_of l)
 
 -- ---- 17, or the candidates' places
 

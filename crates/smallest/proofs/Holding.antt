@@ -6,7 +6,7 @@ use Rattle.std.specs.Prelude.{Ok}
 use Rattle.meaning.specs.Tests.{any, all, member}
 use Rattle.meaning.specs.Literals.{has}
 use Rattle.meaning.specs.Rounds.{derived}
-use Rattle.candidates.specs.Sets.{chosen}
+use Rattle.candidates.specs.Sets.{chosen, set_each}
 use Rattle.smallest.specs.Smallest.{alone, by_alone}
 use Rattle.meaning.proofs.Tests.{true_or_false, or_right, both_true, and_intro, false_of, clash, member_in}
 use Rattle.meaning.proofs.Tables.{get_d_tabulate}
@@ -24,6 +24,10 @@ use Rattle.candidates.proofs.Places.{chosen_low}
 use Rattle.smallest.specs.Search.{holding, alone_on}
 
 -- ---- the flags
+
+pub holding_each : (held : List Bool) (some : List ℕ) → set_each true held some ≡ holding held some
+holding_each held [] = refl
+holding_each held (x ∷ more) = holding_each (set held x true) more
 
 pub length_holding : (held : List Bool) (some : List ℕ) → length (holding held some) ≡ length held
 length_holding held [] = refl

@@ -1,6 +1,6 @@
 -- What is noted of a set by the sets with one candidate fewer, and by how the literal stands with it held alone, is its note.
 use Rattle.meaning.proofs.Kit.{◌≡◌, ◌∙◌, sym, ap, refl, ⊎_elim, inl, inr, ◌⊎◌, true, false, Bool, cond, ◌&&◌, not, ◌||◌, List, In, ℕ, ◌<◌, ◌-◌, suc}
-use Rattle.meaning.proofs.Kit.{◌^◌, arith, eqb, length, get_or}
+use Rattle.meaning.proofs.Kit.{◌^◌, arith, length, get_or}
 use Rattle.meaning.specs.Tests.{any, keep, from, tabulate, bit}
 use Rattle.meaning.specs.Literals.{has, opp, conflict}
 use Rattle.candidates.specs.Sets.{size, sets_of}
@@ -15,7 +15,9 @@ use Rattle.smallest.proofs.Smallest.{derives_more, clashes_more, one_fewer, of_c
 use Rattle.board.specs.Asking.{standing_whole}
 use Rattle.board.specs.declared.asking.Standing.TheVariants.{Conflict, Stands, RuledOut, Open}
 use Rattle.std.specs.Prelude.{Ok}
-use Rattle.smallest.specs.Search.{stops, note_of, notes_of, stops_fewer, standing_note, listed_in, listed_below}
+use Rattle.smallest.specs.declared.search.Note.{Note}
+use Rattle.smallest.specs.declared.search.Note.TheVariants.{GoesOn, Stops, Listed}
+use Rattle.smallest.specs.Search.{stops, stops_at, lists, note_of, notes_of, stops_fewer, standing_note, listed_in, listed_below}
 
 module _ (places : ℕ) (rows : List (List ℕ)) (cands : List ℕ) (p : ℕ) where
   abbrev n : ℕ
@@ -30,7 +32,7 @@ module _ (places : ℕ) (rows : List (List ℕ)) (cands : List ℕ) (p : ℕ) wh
   abbrev smaller : ℕ → Bool
   smaller m = smaller_derives places rows cands p m
 
-  abbrev note : ℕ → ℕ
+  abbrev note : ℕ → Note
   note m = note_of places rows cands p m
 
   stops_more : (a m : ℕ) → Inside a m → stop a ≡ true → stop m ≡ true
@@ -44,20 +46,20 @@ module _ (places : ℕ) (rows : List (List ℕ)) (cands : List ℕ) (p : ℕ) wh
   carried_stops : (m : ℕ) → carries places rows cands p m ≡ true → stop m ≡ true
   carried_stops m e = or_right (clashes places rows cands m) (gets m) (of_carries places rows cands p m e).0
 
-  stop_noted : (m : ℕ) → not (eqb (note m) 0) ≡ stop m
+  stop_noted : (m : ℕ) → stops_at (note m) ≡ stop m
   unfolding note_of
   stop_noted m = go (carries places rows cands p m) (stop m) (carried_stops m)
     where
-      go : (c s : Bool) → (c ≡ true → s ≡ true) → not (eqb (cond c 2 (cond s 1 0)) 0) ≡ s
+      go : (c s : Bool) → (c ≡ true → s ≡ true) → stops_at (cond c Listed (cond s Stops GoesOn)) ≡ s
       go true s f = sym (f refl)
       go false true f = refl
       go false false f = refl
 
-  pub listed_noted : (m : ℕ) → eqb (note_of places rows cands p m) 2 ≡ carries places rows cands p m
+  pub listed_noted : (m : ℕ) → lists (note_of places rows cands p m) ≡ carries places rows cands p m
   unfolding note_of
   listed_noted m = go (carries places rows cands p m) (stop m)
     where
-      go : (c s : Bool) → eqb (cond c 2 (cond s 1 0)) 2 ≡ c
+      go : (c s : Bool) → lists (cond c Listed (cond s Stops GoesOn)) ≡ c
       go true s = refl
       go false true = refl
       go false false = refl
@@ -100,7 +102,7 @@ module _ (places : ℕ) (rows : List (List ℕ)) (cands : List ℕ) (p : ℕ) wh
   standing_noted m s =
       rw s (go (conflict (by_alone places rows cands m)) (has (by_alone places rows cands m) p) (has (by_alone places rows cands m) (opp p)))
     where
-      go : (c d o : Bool) → standing_note (Ok (cond c Conflict (cond d Stands (cond o RuledOut Open)))) ≡ cond (d && (not c && true)) 2 (cond (c || d) 1 0)
+      go : (c d o : Bool) → standing_note (Ok (cond c Conflict (cond d Stands (cond o RuledOut Open)))) ≡ cond (d && (not c && true)) Listed (cond (c || d) Stops GoesOn)
       go true true o = refl
       go true false o = refl
       go false true o = refl
@@ -108,25 +110,25 @@ module _ (places : ℕ) (rows : List (List ℕ)) (cands : List ℕ) (p : ℕ) wh
       go false false false = refl
 
   -- by notes that are those of the sets before it
-  module _ (notes : List ℕ) (m : ℕ) (l : m < 2 ^ n) (before : (a : ℕ) → a < m → get_or notes a 0 ≡ note_of places rows cands p a) where
+  module _ (notes : List Note) (m : ℕ) (l : m < 2 ^ n) (before : (a : ℕ) → a < m → get_or notes a GoesOn ≡ note_of places rows cands p a) where
     fewer_noted : stops_fewer notes n m ≡ any (fewer m) (from 0 n)
     unfolding stops_fewer
-    fewer_noted = any_same (λ i. bit i m && not (eqb (get_or notes (m - 2 ^ i) 0) 0)) (fewer m) (from 0 n) (λ i h. each i (true_or_false (bit i m)))
+    fewer_noted = any_same (λ i. bit i m && stops_at (get_or notes (m - 2 ^ i) GoesOn)) (fewer m) (from 0 n) (λ i h. each i (true_or_false (bit i m)))
       where
-        each : (i : ℕ) → (bit i m ≡ true) ⊎ (bit i m ≡ false) → (bit i m && not (eqb (get_or notes (m - 2 ^ i) 0) 0)) ≡ fewer m i
-        each i (inl e) = rw e (ap (λ (k : ℕ). not (eqb k 0)) (before (m - 2 ^ i) (fewer_below i m e)) ∙ stop_noted (m - 2 ^ i))
+        each : (i : ℕ) → (bit i m ≡ true) ⊎ (bit i m ≡ false) → (bit i m && stops_at (get_or notes (m - 2 ^ i) GoesOn)) ≡ fewer m i
+        each i (inl e) = rw e (ap stops_at (before (m - 2 ^ i) (fewer_below i m e)) ∙ stop_noted (m - 2 ^ i))
         each i (inr e) = rw e
 
-    pub note_is : cond (stops_fewer notes (length cands) m) 1 (standing_note (Ok (standing_whole (by_alone places rows cands m) p)))
+    pub note_is : cond (stops_fewer notes (length cands) m) Stops (standing_note (Ok (standing_whole (by_alone places rows cands m) p)))
         ≡ note_of places rows cands p m
     note_is = ⊎_elim halted free (true_or_false (any (fewer m) (from 0 n)))
       where
         halted : any (fewer m) (from 0 n) ≡ true
-            → cond (stops_fewer notes n m) 1 (standing_note (Ok (standing_whole (by_alone places rows cands m) p))) ≡ note m
+            → cond (stops_fewer notes n m) Stops (standing_note (Ok (standing_whole (by_alone places rows cands m) p))) ≡ note m
         halted e = let r = stopped m l e in rw (fewer_noted, e) (sym (unfold note_of in rw (r.1, r.0)))
 
         free : any (fewer m) (from 0 n) ≡ false
-            → cond (stops_fewer notes n m) 1 (standing_note (Ok (standing_whole (by_alone places rows cands m) p))) ≡ note m
+            → cond (stops_fewer notes n m) Stops (standing_note (Ok (standing_whole (by_alone places rows cands m) p))) ≡ note m
         free e = rw (fewer_noted, e) (standing_noted m (gone_on m l e))
 
   -- ---- the list
@@ -143,7 +145,7 @@ module _ (places : ℕ) (rows : List (List ℕ)) (cands : List ℕ) (p : ℕ) wh
       each : (m : ℕ) → In m (sets_of n) → listed_in (tabulate (2 ^ n) note) m ≡ carries places rows cands p m
       each m h =
           let b = from_in 0 (2 ^ n) m h in
-          ap (λ (k : ℕ). eqb k 2) (get_d_tabulate (2 ^ n) note m 0 (omega arith)) ∙ listed_noted m
+          ap lists (get_d_tabulate (2 ^ n) note m GoesOn (omega arith)) ∙ listed_noted m
 
   -- counted by number they are as many
   pub counted : let notes = notes_of places rows cands p in

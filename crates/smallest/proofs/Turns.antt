@@ -1,13 +1,17 @@
 -- One turn of each loop: what is left to hold, to look at, to count and to write.
-use Rattle.meaning.proofs.Kit.{◌≡◌, ◌∙◌, sym, ap, refl, false, Bool, List, [], ◌∷◌, ◌++◌, ℕ, ◌<◌, ◌+◌, ◌^◌, arith, eqb, length, get_or, take}
+use Rattle.meaning.proofs.Kit.{◌≡◌, ◌∙◌, sym, ap, refl, false, Bool, cond, suc, List, [], ◌∷◌, ◌++◌, ℕ, ◌<◌, ◌+◌, ◌^◌, arith, length, get_or, take}
 use Rattle.meaning.proofs.Kit.{replicate, set, length-append, sets}
 use lib.Seq.{length-sets}
+use Rattle.std.specs.List.{filter}
+use Rattle.std.proofs.lemmas.List.Recursion.{same_from_clauses}
 use Rattle.meaning.specs.Tests.{keep, from}
 use Rattle.meaning.specs.BySize.{of_size}
 use Rattle.candidates.specs.Sets.{chosen, size, sets_of}
 use Rattle.meaning.proofs.Tables.{sets_append}
-use Rattle.meaning.proofs.BySize.{tally, count_turn, length_from, from_at, of_size_more}
+use Rattle.meaning.proofs.BySize.{tally, keep_tally, length_from, from_at, of_size_more}
 use Rattle.board.specs.declared.Board.{Board}
+use Rattle.smallest.specs.declared.search.Note.{Note}
+use Rattle.smallest.specs.declared.search.Note.TheVariants.{GoesOn}
 use Rattle.smallest.specs.Search.{holding, alone_on, listed_in}
 
 -- ---- the board
@@ -22,18 +26,26 @@ board_alone b cands m first e =
 
 -- ---- the listed sets
 
-pub count_next : (notes : List ℕ) (N c : ℕ) → c < N
-    → length (keep (listed_in notes) (take (c + 1) (from 0 N)))
-    ≡ length (keep (listed_in notes) (take c (from 0 N))) + tally (eqb (get_or notes c 0) 2)
-count_next notes N c l =
-    count_turn (listed_in notes) (from 0 N) c 0 (omega (arith, length_from 0 N))
-    ∙ ap (λ (m : ℕ). length (keep (listed_in notes) (take c (from 0 N))) + tally (listed_in notes m)) (from_at 0 N c l ∙ omega arith)
+-- the library keeps the same elements
+pub filter_is : {A : Type 0} (test : A → Bool) (xs : List A) → filter test xs ≡ keep test xs
+filter_is test = same_from_clauses (filter test) (keep test) (λ x ys. cond (test x) (x ∷ ys) ys) refl (λ _ _. refl) (λ _ _. refl)
+
+-- those of a list that pass a test are as many as the numbers of their places
+pub counted_by : (test : Note → Bool) (xs : List Note) → length (keep test xs) ≡ length (keep (λ i. test (get_or xs i GoesOn)) (from 0 (length xs)))
+counted_by test xs = go xs 0 (λ i. test (get_or xs i GoesOn)) (λ i. ap (λ (j : ℕ). test (get_or xs j GoesOn)) (omega arith))
+  where
+    go : (ys : List Note) (k : ℕ) (at : ℕ → Bool) → ((i : ℕ) → at (i + k) ≡ test (get_or ys i GoesOn)) → length (keep test ys) ≡ length (keep at (from k (length ys)))
+    go [] k at h = refl
+    go (y ∷ ys) k at h =
+        let rest = go ys (suc k) at (λ i. ap at (omega arith) ∙ h (suc i)) in
+        let first : at k ≡ test y = ap at (omega arith) ∙ h 0 in
+        omega (arith, keep_tally test y ys, keep_tally at k (from (suc k) (length ys)), rest, ap tally first)
 
 -- those of k candidates among the first c sets
-abbrev pub up_to : List ℕ → (n k c : ℕ) → List ℕ
+abbrev pub up_to : List Note → (n k c : ℕ) → List ℕ
 up_to notes n k c = of_size (size n) (listed_in notes) (take c (sets_of n)) k
 
-pub up_to_next : (notes : List ℕ) (n k c : ℕ) → c < 2 ^ n → up_to notes n k (c + 1) ≡ up_to notes n k c ++ of_size (size n) (listed_in notes) (c ∷ []) k
+pub up_to_next : (notes : List Note) (n k c : ℕ) → c < 2 ^ n → up_to notes n k (c + 1) ≡ up_to notes n k c ++ of_size (size n) (listed_in notes) (c ∷ []) k
 up_to_next notes n k c l =
     of_size_more (size n) (listed_in notes) (sets_of n) k c 0 (omega (arith, length_from 0 (2 ^ n)))
     ∙ ap (λ (m : ℕ). up_to notes n k c ++ of_size (size n) (listed_in notes) (m ∷ []) k) (from_at 0 (2 ^ n) c l ∙ omega arith)

@@ -1,6 +1,6 @@
 -- How the sets are searched, by number: a set that derives the literal, or is in conflict, stops the search, since no set that has it inside is
 -- listed. What is noted of each set tells which are.
-use Rattle.std.specs.Prelude.{Result, Ok, Err, ℕ, ◌-◌, ◌^◌, Bool, true, false, cond, not, ◌&&◌, ◌||◌, List, [], ◌∷◌, eqb, ℤ, length, get_or, set, replicate}
+use Rattle.std.specs.Prelude.{Result, Ok, Err, ℕ, ◌-◌, ◌^◌, Bool, true, false, cond, ◌&&◌, ◌||◌, List, [], ◌∷◌, ℤ, length, get_or, set, replicate}
 use Rattle.meaning.specs.Tests.{any, from, tabulate, bit}
 use Rattle.meaning.specs.BySize.{of_size, below_size}
 use Rattle.candidates.specs.Sets.{chosen, size, sets_of}
@@ -14,6 +14,8 @@ use Rattle.board.specs.declared.asking.Standing.TheVariants.{Conflict, Stands, R
 use Rattle.literals.specs.declared.refusal.Refusal.{Refusal}
 use Rattle.smallest.specs.Listing.{smallest_at, smallest_on, room_faults, candidate_faults, listed}
 use Rattle.smallest.specs.declared.Listing.{Listing}
+use Rattle.smallest.specs.declared.search.Note.{Note}
+use Rattle.smallest.specs.declared.search.Note.TheVariants.{GoesOn, Stops, Listed}
 
 -- ---- a set's candidates, held alone
 
@@ -33,39 +35,49 @@ alone_on b cands m =
       second = replicate 400 false;
     }
 
--- ---- what is noted of a set: 0 where the search goes on, 1 where it stops, and 2 where the set is listed
+-- ---- what is noted of a set: the search goes on, or it stops, or it stops and the set is listed
+
+abbrev pub stops_at : Note → Bool
+stops_at GoesOn = false
+stops_at Stops = true
+stops_at Listed = true
+
+abbrev pub lists : Note → Bool
+lists GoesOn = false
+lists Stops = false
+lists Listed = true
 
 abbrev pub stops : ℕ → List (List ℕ) → List ℕ → ℕ → ℕ → Bool
 stops places rows cands p m = clashes places rows cands m || derives places rows cands p m
 
-unfoldable pub note_of : ℕ → List (List ℕ) → List ℕ → ℕ → ℕ → ℕ
-note_of places rows cands p m = cond (carries places rows cands p m) 2 (cond (stops places rows cands p m) 1 0)
+unfoldable pub note_of : ℕ → List (List ℕ) → List ℕ → ℕ → ℕ → Note
+note_of places rows cands p m = cond (carries places rows cands p m) Listed (cond (stops places rows cands p m) Stops GoesOn)
 
 -- of every set, by number
-unfoldable pub notes_of : ℕ → List (List ℕ) → List ℕ → ℕ → List ℕ
+unfoldable pub notes_of : ℕ → List (List ℕ) → List ℕ → ℕ → List Note
 notes_of places rows cands p = tabulate (2 ^ length cands) (note_of places rows cands p)
 
 -- by the notes of the sets before it: a set with one candidate fewer stops
-unfoldable pub stops_fewer : List ℕ → (n m : ℕ) → Bool
-stops_fewer notes n m = any (λ i. bit i m && not (eqb (get_or notes (m - 2 ^ i) 0) 0)) (from 0 n)
+unfoldable pub stops_fewer : List Note → (n m : ℕ) → Bool
+stops_fewer notes n m = any (λ i. bit i m && stops_at (get_or notes (m - 2 ^ i) GoesOn)) (from 0 n)
 
 -- and by how the literal stands, of the whole board, with the set held alone
-abbrev pub standing_note : Result Standing Refusal → ℕ
-standing_note (Ok Conflict) = 1
-standing_note (Ok Stands) = 2
-standing_note (Ok RuledOut) = 0
-standing_note (Ok Open) = 0
-standing_note (Err why) = 0
+abbrev pub standing_note : Result Standing Refusal → Note
+standing_note (Ok Conflict) = Stops
+standing_note (Ok Stands) = Listed
+standing_note (Ok RuledOut) = GoesOn
+standing_note (Ok Open) = GoesOn
+standing_note (Err why) = GoesOn
 
 -- ---- the sets listed, by their notes
 
-abbrev pub listed_in : List ℕ → ℕ → Bool
-listed_in notes m = eqb (get_or notes m 0) 2
+abbrev pub listed_in : List Note → ℕ → Bool
+listed_in notes m = lists (get_or notes m GoesOn)
 
-abbrev pub listed_of_size : List ℕ → (n k : ℕ) → List ℕ
+abbrev pub listed_of_size : List Note → (n k : ℕ) → List ℕ
 listed_of_size notes n k = of_size (size n) (listed_in notes) (sets_of n) k
 
-abbrev pub listed_below : List ℕ → (n k : ℕ) → List ℕ
+abbrev pub listed_below : List Note → (n k : ℕ) → List ℕ
 listed_below notes n k = below_size (size n) (listed_in notes) (sets_of n) k
 
 -- ---- the answer, once the tests before have passed

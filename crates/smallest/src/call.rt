@@ -9,7 +9,7 @@ ghost use Rattle.smallest.specs.Listing.{smallest_answer, smallest_sets};
 ghost use Rattle.smallest.specs.Search.{placed_answer, placed_sets, given_answer, given_sets};
 
 use crate::Listing;
-use crate::search::note_sets;
+use crate::search::{Note, note_sets};
 use crate::writing::{count_listed, write_listed};
 use board::testing::good;
 use board::{Board, Outcome};
@@ -34,7 +34,7 @@ fn list_noted(
     table: &[i16],
     places: &[usize],
     l: i16,
-    notes: &mut [u8],
+    notes: &mut [Note],
     sets: &mut [u16],
 ) -> Listing
     requires board_value { (good_board table.now board ≡ true) × (in_range board.symbols l ≡ true) }
@@ -63,7 +63,7 @@ fn list(board: Board, table: &[i16], places: &[usize], l: i16, sets: &mut [u16])
     ensures sets_after { sets.new ≡ placed_sets table.now board places.now l sets.old }
 {
     let all = power(places.len());
-    let mut notes = [0u8; 4096];
+    let mut notes = [Note::GoesOn; 4096];
     list_noted(board, table, places, l, &mut notes[..all], sets)
 }
 

@@ -11,14 +11,15 @@ ghost use Rattle.smallest.specs.Search.{alone_on, notes_of, stops_fewer, standin
 
 use board::Board;
 use board::asking::{Standing, ask_whole};
-use candidates::sets::{has, power};
+use candidates::sets::{has, power, set_flags};
 
-// The notes: the search goes on beyond the set, or stops at it, or stops at it and the set is listed.
-pub const GOES_ON: u8 = 0;
-
-pub const STOPS: u8 = 1;
-
-pub const LISTED: u8 = 2;
+// The search goes on beyond the set, or stops at it, or stops at it and the set is listed.
+#[derive(Clone, Copy, PartialEq)]
+pub enum Note {
+    GoesOn,
+    Stops,
+    Listed,
+}
 
 // The board with the candidates of a set as the premises of furnace 1, and no others.
 fn alone(board: Board, places: &[usize], set: usize) -> Board
@@ -26,15 +27,7 @@ fn alone(board: Board, places: &[usize], set: usize) -> Board
     ensures { result ≡ alone_on board places.now set }
 {
     let mut first = [false; 400];
-    let mut rest = set;
-    let mut i = 0;
-    while i < places.len() {
-        if rest % 2 == 1 {
-            first[places[i]] = true;
-        }
-        rest = rest / 2;
-        i += 1;
-    }
+    set_flags(&mut first, places, set, true);
     Board {
         symbols: board.symbols,
         rows: board.rows,
@@ -45,51 +38,54 @@ fn alone(board: Board, places: &[usize], set: usize) -> Board
 }
 
 // Whether the search stops at a set with one candidate fewer.
-fn stops_fewer(notes: &[u8], n: usize, set: usize) -> bool
+fn stops_fewer(notes: &[Note], n: usize, set: usize) -> bool
     requires { (n ≤ most_candidates) × (set < length notes.now) }
     ensures { result ≡ stops_fewer notes.now n set }
 {
-    let mut i = 0;
-    while i < n {
+    for i in 0..n {
         if has(set, i) {
-            if notes[set - power(i)] != GOES_ON {
+            if notes[set - power(i)] != Note::GoesOn {
                 return true;
             }
         }
-        i += 1;
     }
     false
 }
 
 // The note of a set, by those of the sets before it. Where none of these stops it, it is held alone, and the literal is asked for, of the whole
 // board: a set in conflict is not listed, whichever symbol is in conflict.
-fn note(board: Board, table: &[i16], places: &[usize], l: i16, notes: &[u8], set: usize) -> u8
+fn note_one(
+    board: Board,
+    table: &[i16],
+    places: &[usize],
+    l: i16,
+    notes: &[Note],
+    set: usize,
+) -> Note
     requires { (length places.now ≤ most_candidates) × (all (λ p. ltb p 400) places.now ≡ true) × (set < length notes.now) }
-    ensures { result ≡ cond (stops_fewer notes.now (length places.now) set) 1
+    ensures { result ≡ cond (stops_fewer notes.now (length places.now) set) Note.Stops
         (standing_note (asked_whole table.now (alone_on board places.now set) 1 l)) }
 {
     if stops_fewer(notes, places.len(), set) {
-        return STOPS;
+        return Note::Stops;
     }
     match ask_whole(alone(board, places, set), table, 1, l) {
-        Ok(Standing::Conflict) => STOPS,
-        Ok(Standing::Stands) => LISTED,
-        Ok(Standing::RuledOut) => GOES_ON,
-        Ok(Standing::Open) => GOES_ON,
-        Err(_) => GOES_ON,
+        Ok(Standing::Conflict) => Note::Stops,
+        Ok(Standing::Stands) => Note::Listed,
+        Ok(Standing::RuledOut) => Note::GoesOn,
+        Ok(Standing::Open) => Note::GoesOn,
+        Err(_) => Note::GoesOn,
     }
 }
 
 // Writes the note of every set. Every set inside another has a smaller number, so it is noted before.
-pub fn note_sets(board: Board, table: &[i16], places: &[usize], l: i16, notes: &mut [u8])
+pub fn note_sets(board: Board, table: &[i16], places: &[usize], l: i16, notes: &mut [Note])
     requires board_value { (good_board table.now board ≡ true) × (in_range board.symbols l ≡ true) }
     requires places_len_bound { (length places.now ≤ most_candidates) × (all (λ p. ltb p (2 * board.symbols)) places.now ≡ true)
         × (length notes.old ≡ 2 ^ length places.now) }
     ensures { notes.new ≡ notes_of (2 * board.symbols) (rows_on table.now board) places.now (place_of l) }
 {
-    let mut set = 0;
-    while set < notes.len() {
-        notes[set] = note(board, table, places, l, notes, set);
-        set += 1;
+    for set in 0..notes.len() {
+        notes[set] = note_one(board, table, places, l, notes, set);
     }
 }

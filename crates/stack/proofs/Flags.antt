@@ -1,10 +1,13 @@
 -- Literals by their places: one that stands among 2T flags is of T symbols, and literals at one place are one.
-use Rattle.meaning.proofs.Kit.{◌≡◌, ◌∙◌, sym, ap, subst, true, Bool, ◌&&◌, ◌||◌, List, ◌≤◌, ℕ, ◌<◌, ◌+◌, ◌*◌, add-one, arith, eqb, leb, ℤ, pos}
-use Rattle.meaning.proofs.Kit.{nat_abs, length, get_or, drop, drop-cons, le-leb}
-use Rattle.meaning.specs.Tests.{member}
+use Rattle.meaning.proofs.Kit.{◌≡◌, ◌∙◌, sym, ap, ap₂, refl, subst, true, Bool, ◌&&◌, ◌||◌, List, [], ◌∷◌, ◌≤◌, ℕ, ◌<◌, ◌*◌, arith, eqb, leb, ℤ}
+use Rattle.meaning.proofs.Kit.{nat_abs, length, le-leb, eqb-true, eq-eqb}
+use Rattle.std.specs.List.{list_any}
+use Rattle.std.proofs.lemmas.Bool.Decides.{Decides-int_eq}
+use Rattle.std.specs.Ordering.{int_eq}
+use Rattle.meaning.specs.Tests.{all, member}
 use Rattle.meaning.specs.Literals.{has}
 use Rattle.meaning.proofs.Literals.{has_below}
-use Rattle.meaning.proofs.Tests.{both_true, and_intro}
+use Rattle.meaning.proofs.Tests.{both_true, and_intro, same_test}
 use Rattle.literals.specs.Literal.{in_range, place_of, literal_at}
 use Rattle.literals.proofs.Places.{literal_at_place, literal_symbol}
 use Rattle.literals.proofs.Arguments.{range_facts}
@@ -23,7 +26,13 @@ flag_within S T flags l long e =
 pub one_place : (S : ℕ) (l m : ℤ) → in_range S l ≡ true → in_range S m ≡ true → place_of l ≡ place_of m → l ≡ m
 one_place S l m e f same = sym (literal_at_place l (range_facts S l e).0) ∙ ap literal_at same ∙ literal_at_place m (range_facts S m f).0
 
--- the literals from k on: the first of them, and the rest
-pub member_drop : (p : ℕ) (on : List ℤ) (k : ℕ) → k < length on
-    → member p (places_of (drop k on)) ≡ (eqb (place_of (get_or on k (pos 0))) p || member p (places_of (drop (k + 1) on)))
-member_drop p on k less = rw (drop-cons on k (pos 0) less, add-one k)
+-- so a literal is one of some just if its place is one of theirs
+pub member_place : (l : ℤ) (on : List ℤ) → all (in_range 200) on ≡ true → in_range 200 l ≡ true
+    → list_any (λ m. int_eq m l) on ≡ member (place_of l) (places_of on)
+member_place l [] e f = refl
+member_place l (m ∷ on) e f =
+    let both = both_true (in_range 200 m) (all (in_range 200) on) e in
+    let same = same_test (int_eq m l) (eqb (place_of m) (place_of l))
+    (λ h. eq-eqb (place_of m) (place_of l) (ap place_of ((Decides-int_eq m l).0 h)))
+    (λ h. (Decides-int_eq m l).1 (one_place 200 m l both.0 f (eqb-true (place_of m) (place_of l) h))) in
+    ap₂ (λ (a b : Bool). a || b) same (member_place l on both.1 f)

@@ -1,6 +1,6 @@
 -- Striking off flags tests all that is asked of the literals on a stack: each is a premise, and none stands twice.
-use Rattle.meaning.proofs.Kit.{◌≡◌, ◌∙◌, sym, ap, refl, true, false, Bool, ◌&&◌, not, ◌||◌, and-false, List, [], ◌∷◌, ◌≤◌, ℕ, ◌<◌, ◌+◌, suc, ◌*◌}
-use Rattle.meaning.proofs.Kit.{zero, add-one, eqb, ℤ, pos, length, get_or, drop, set, drop-cons, get_or-set_other, le-leb, eqb-true, eqb-false}
+use Rattle.meaning.proofs.Kit.{◌≡◌, ◌∙◌, sym, ap, refl, true, false, Bool, ◌&&◌, not, ◌||◌, and-false, List, [], ◌∷◌, ◌≤◌, ℕ, suc, ◌*◌}
+use Rattle.meaning.proofs.Kit.{zero, eqb, ℤ, set, get_or-set_other, le-leb, eqb-true, eqb-false}
 use Rattle.meaning.specs.Tests.{all, member}
 use Rattle.meaning.specs.Literals.{has}
 use Rattle.literals.specs.Literal.{in_range, place_of}
@@ -60,8 +60,3 @@ module _ (S : ℕ) where
   pub good_struck : (held : List Bool) (s : Stack) → s.count ≤ 2 * S → good_stack S held s ≡ all_struck S held (on_stack s)
   unfolding good_stack
   good_struck held s few = rw (le-leb s.count (2 * S) few) (sym (struck_is held (on_stack s)))
-
-  -- the literals from k on: the first of them, and the rest with its flag struck off
-  pub struck_drop : (held : List Bool) (on : List ℤ) (k : ℕ) → k < length on → let l = get_or on k (pos 0) in
-      all_struck S held (drop k on) ≡ (in_range S l && has held (place_of l) && all_struck S (set held (place_of l) false) (drop (k + 1) on))
-  struck_drop held on k less = rw (drop-cons on k (pos 0) less, add-one k)

@@ -30,14 +30,11 @@ fn all_held(on: &[i16], symbols: usize, held: [bool; 400]) -> bool
     ensures { result ≡ all_struck symbols held on.now }
 {
     let mut left = held;
-    let mut k = 0;
-    while k < on.len() {
-        let l = on[k];
-        if !is_flagged(l, symbols, &left) {
+    for l in on {
+        if !is_flagged(*l, symbols, &left) {
             return false;
         }
-        left[literals::place(l)] = false;
-        k += 1;
+        left[literals::place(*l)] = false;
     }
     true
 }
@@ -71,14 +68,7 @@ fn is_on(on: &[i16], l: i16) -> bool
     requires { (all (in_range 200) on.now ≡ true) × (in_range 200 l ≡ true) }
     ensures { result ≡ member (place_of l) (places_of on.now) }
 {
-    let mut k = 0;
-    while k < on.len() {
-        if on[k] == l {
-            return true;
-        }
-        k += 1;
-    }
-    false
+    on.contains(&l)
 }
 
 // Whether a literal of the board is on a good stack.
