@@ -22,10 +22,8 @@ fn fill(out: &mut [u8], at: usize, n: usize, byte: u8)
     requires { at + n ≤ 0xffff_ffff_ffff_ffff }
     ensures { out.new ≡ sets out.old at (replicate n byte) }
 {
-    let mut k = 0;
-    while k < n {
+    for k in 0..n {
         put(out, at + k, byte);
-        k += 1;
     }
 }
 
@@ -33,15 +31,7 @@ fn fill(out: &mut [u8], at: usize, n: usize, byte: u8)
 fn minuses(part: &[u8]) -> usize
     ensures { result ≡ minuses_of part.now }
 {
-    let mut n = 0;
-    let mut i = 0;
-    while i < part.len() {
-        if part[i] == b'-' {
-            n += 1;
-        }
-        i += 1;
-    }
-    n
+    part.iter().filter(|byte| **byte == b'-').count()
 }
 
 // A digit more; 255 where the number is more.
@@ -57,13 +47,7 @@ fn grown(sum: u8, digit: u8) -> u8
 fn value(digits: &[u8]) -> u8
     ensures { result ≡ capped 0 digits.now }
 {
-    let mut sum: u8 = 0;
-    let mut i = 0;
-    while i < digits.len() {
-        sum = grown(sum, digits[i]);
-        i += 1;
-    }
-    sum
+    digits.iter().fold(0, |sum, digit| grown(sum, *digit))
 }
 
 // The kind byte of a mark.
@@ -95,6 +79,7 @@ fn joins(text: &[u8], brackets: usize) -> usize
     let mut at = 0;
     let mut join = 0u8;
     let mut n = 0;
+    // A loop: where the next unit starts, only reading this one tells.
     loop {
         match unit(&text[at..], brackets) {
             Answer::Refused(_, _) => {
@@ -163,6 +148,7 @@ fn write_units(text: &[u8], brackets: usize, out: &mut [u8], start: usize) -> us
     let mut at = 0;
     let mut join = 0u8;
     let mut to = start;
+    // A loop: where the next unit starts, only reading this one tells.
     loop {
         to = write_unit(&text[at..], brackets, out, to);
         match unit(&text[at..], brackets) {

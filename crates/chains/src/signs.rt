@@ -45,14 +45,7 @@ fn within(class: Class, byte: u8) -> bool
 pub fn run(text: &[u8], class: Class) -> usize
     ensures { result ≡ lead class text.now }
 {
-    let mut n = 0;
-    while n < text.len() {
-        if !within(class, text[n]) {
-            return n;
-        }
-        n += 1;
-    }
-    n
+    text.iter().take_while(|byte| within(class, **byte)).count()
 }
 
 // What the bytes start with, where a unit is due and its spaces and minus signs are passed.
