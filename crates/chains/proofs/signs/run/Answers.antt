@@ -12,7 +12,7 @@ pub returns : goal.returns
 returns c =
     let text = c.args.text.now in
     let test = belongs c.args.class in
-    count_from_yields_List c.take_while.result _ c.count.ensures.ran
+    count_from_yields_List c.take_while.result c.count.result c.count.ensures.ran
     (YieldsList-from_take_while _ test (YieldsList-from_slice text cc) c.take_while.ensures.closure c.take_while.ensures.done
     (λ x b q k. search (rules, tests)))
     ∙ length-prefix_len test text ∙ lead_prefix c.args.class text
