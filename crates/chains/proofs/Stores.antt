@@ -25,7 +25,8 @@ fill_done out at k n byte h = let e : n - k ≡ 0 = omega arith in rw e
 
 pub minus_count : (part : List ℕ) → count_by (λ c. eqb c 45) part ≡ minuses_of part
 unfolding minuses_of
-minus_count part = sym (is_count_by minuses_of (λ c. eqb c 45) refl (λ c rest. let e : suc (minuses_of rest) ≡ 1 + minuses_of rest = omega arith in rw e) part)
+minus_count part =
+    sym (is_count_by minuses_of (λ c. eqb c 45) refl (λ c rest. let e : suc (minuses_of rest) ≡ 1 + minuses_of rest = omega arith in rw e) part)
 
 pub minus_within : (part : List ℕ) → minuses_of part ≤ length part
 unfolding minuses_of

@@ -38,9 +38,8 @@ fn minuses(part: &[u8]) -> usize
 fn grown(sum: u8, digit: u8) -> u8
     ensures { result ≡ number_byte (sum * 10 + (digit - 48)) }
 {
-    let d = if digit < b'0' { 0 } else { digit - b'0' };
-    let n = (sum as usize) * 10 + d as usize;
-    if n <= 255 { n as u8 } else { 255 }
+    sum.saturating_mul(10)
+        .saturating_add(digit.saturating_sub(b'0'))
 }
 
 // The number that digits spell, 255 where it is more.
