@@ -33,14 +33,10 @@ fn grow(n: usize, byte: u8) -> usize
     requires { n ≤ beyond }
     ensures { result ≡ grown n byte }
 {
-    if byte < b'0' {
-        return BEYOND;
+    match byte {
+        b'0'..=b'9' => BEYOND.min(n * 10 + (byte - b'0') as usize),
+        _ => BEYOND,
     }
-    if byte > b'9' {
-        return BEYOND;
-    }
-    let next = n * 10 + (byte - b'0') as usize;
-    if next < BEYOND { next } else { BEYOND }
 }
 
 // The place of the line's end, or of the text's.
