@@ -1,6 +1,8 @@
--- Laws of runs of stores, and of the small loops of the writer.
-use Rattle.meaning.proofs.Kit.{◌≡◌, ◌∙◌, ap, true, false, cond, List, [], ◌∷◌, ◌≤◌, ℕ, ◌<◌, ◌-◌, ◌+◌, suc, ◌*◌, add-one, arith, eqb, length, get_or}
-use Rattle.meaning.proofs.Kit.{drop, replicate, set, drop_of_length-le, drop-cons, sets, ne_eqb, eq-eqb}
+-- Laws of runs of stores, and of what the writer counts and adds up.
+use Rattle.meaning.proofs.Kit.{◌≡◌, ◌∙◌, sym, ap, refl, true, false, cond, List, [], ◌∷◌, ◌≤◌, ℕ, ◌<◌, ◌-◌, ◌+◌, suc, ◌*◌, arith, eqb, length}
+use Rattle.meaning.proofs.Kit.{replicate, set, sets}
+use Rattle.std.specs.List.{count_by, fold}
+use Rattle.std.proofs.lemmas.List.Recursion.{is_count_by}
 use Rattle.chains.proofs.Words.{number_byte, minuses_of, capped}
 
 pub fill_step : (out : List ℕ) (at k n byte : ℕ) → k < n
@@ -21,18 +23,10 @@ fill_done out at k n byte h = let e : n - k ≡ 0 = omega arith in rw e
 
 -- ---- minus signs
 
-module _ (part : List ℕ) (n i : ℕ) (h : i < length part) where
-  pub minus_more : get_or part i 0 ≡ 45 → n + minuses_of (drop i part) ≡ n + 1 + minuses_of (drop (i + 1) part)
-  unfolding minuses_of
-  minus_more e = rw (add-one i, drop-cons part i 0 h, eq-eqb (get_or part i 0) 45 e) (omega arith)
-
-  pub minus_other : (get_or part i 0 ≡ 45 → ⊥) → n + minuses_of (drop i part) ≡ n + minuses_of (drop (i + 1) part)
-  unfolding minuses_of
-  minus_other e = rw (add-one i, drop-cons part i 0 h, ne_eqb (get_or part i 0) 45 e)
-
-pub minus_done : (part : List ℕ) (n i : ℕ) → length part ≤ i → n + minuses_of (drop i part) ≡ n
+pub minus_count : (part : List ℕ) → count_by (λ c. eqb c 45) part ≡ minuses_of part
 unfolding minuses_of
-minus_done part n i h = rw (drop_of_length-le part h) (omega arith)
+minus_count part =
+    sym (is_count_by minuses_of (λ c. eqb c 45) refl (λ c rest. let e : suc (minuses_of rest) ≡ 1 + minuses_of rest = omega arith in rw e) part)
 
 pub minus_within : (part : List ℕ) → minuses_of part ≤ length part
 unfolding minuses_of
@@ -43,11 +37,7 @@ minus_within (c ∷ rest) =
 
 -- ---- digits
 
-pub capped_more : (sum : ℕ) (digits : List ℕ) (i : ℕ) → i < length digits
-    → capped sum (drop i digits) ≡ capped (number_byte (sum * 10 + (get_or digits i 0 - 48))) (drop (i + 1) digits)
+pub capped_fold : (digits : List ℕ) (sum : ℕ) → fold (λ n c. number_byte (n * 10 + (c - 48))) sum digits ≡ capped sum digits
 unfolding capped
-capped_more sum digits i h = rw (add-one i, drop-cons digits i 0 h)
-
-pub capped_done : (sum : ℕ) (digits : List ℕ) (i : ℕ) → length digits ≤ i → capped sum (drop i digits) ≡ sum
-unfolding capped
-capped_done sum digits i h = rw (drop_of_length-le digits h)
+capped_fold [] sum = refl
+capped_fold (c ∷ rest) sum = capped_fold rest (number_byte (sum * 10 + (c - 48)))

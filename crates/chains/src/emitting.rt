@@ -21,10 +21,8 @@ fn fill(out: &mut [u8], at: usize, n: usize, byte: u8)
     requires { at + n ≤ 0xffff_ffff_ffff_ffff }
     ensures { out.new ≡ sets out.old at (replicate n byte) }
 {
-    let mut k = 0;
-    while k < n {
+    for k in 0..n {
         put(out, at + k, byte);
-        k += 1;
     }
 }
 
@@ -32,37 +30,22 @@ fn fill(out: &mut [u8], at: usize, n: usize, byte: u8)
 fn minuses(part: &[u8]) -> usize
     ensures { result ≡ minuses_of part.now }
 {
-    let mut n = 0;
-    let mut i = 0;
-    while i < part.len() {
-        if part[i] == b'-' {
-            n += 1;
-        }
-        i += 1;
-    }
-    n
+    part.iter().filter(|byte| **byte == b'-').count()
 }
 
 // A digit more; 255 where the number is more.
 fn grown(sum: u8, digit: u8) -> u8
     ensures { result ≡ number_byte (sum * 10 + (digit - 48)) }
 {
-    let d = if digit < b'0' { 0 } else { digit - b'0' };
-    let n = (sum as usize) * 10 + d as usize;
-    if n <= 255 { n as u8 } else { 255 }
+    sum.saturating_mul(10)
+        .saturating_add(digit.saturating_sub(b'0'))
 }
 
 // The number that digits spell, 255 where it is more.
 fn value(digits: &[u8]) -> u8
     ensures { result ≡ capped 0 digits.now }
 {
-    let mut sum: u8 = 0;
-    let mut i = 0;
-    while i < digits.len() {
-        sum = grown(sum, digits[i]);
-        i += 1;
-    }
-    sum
+    digits.iter().fold(0, |sum, digit| grown(sum, *digit))
 }
 
 // The kind byte of a mark.
@@ -94,6 +77,7 @@ fn joins(text: &[u8], brackets: usize) -> usize
     let mut at = 0;
     let mut join = 0u8;
     let mut n = 0;
+    // A loop: where the next unit starts, only reading this one tells.
     loop {
         match unit(&text[at..], brackets) {
             Err(_) => {
@@ -162,6 +146,7 @@ fn write_units(text: &[u8], brackets: usize, out: &mut [u8], start: usize) -> us
     let mut at = 0;
     let mut join = 0u8;
     let mut to = start;
+    // A loop: where the next unit starts, only reading this one tells.
     loop {
         to = write_unit(&text[at..], brackets, out, to);
         match unit(&text[at..], brackets) {

@@ -67,6 +67,7 @@ pub fn chain(text: &[u8], brackets: usize) -> Result<usize, Break>
 {
     let mut at = 0;
     let mut join = 0u8;
+    // A loop: where the next unit starts, only reading this one tells.
     loop {
         match unit(&text[at..], brackets) {
             Err(b) => {

@@ -26,18 +26,8 @@ fn within(class: Class, byte: u8) -> bool
 {
     match class {
         Class::Blank => byte == b' ',
-        Class::Denial => {
-            if byte == b' ' {
-                return true;
-            }
-            byte == b'-'
-        }
-        Class::Number => {
-            if byte < b'0' {
-                return false;
-            }
-            byte <= b'9'
-        }
+        Class::Denial => byte == b' ' || byte == b'-',
+        Class::Number => matches!(byte, b'0'..=b'9'),
     }
 }
 
@@ -45,40 +35,25 @@ fn within(class: Class, byte: u8) -> bool
 pub fn run(text: &[u8], class: Class) -> usize
     ensures { result ≡ lead class text.now }
 {
-    let mut n = 0;
-    while n < text.len() {
-        if !within(class, text[n]) {
-            return n;
-        }
-        n += 1;
-    }
-    n
+    text.iter().take_while(|byte| within(class, **byte)).count()
 }
 
 // What the bytes start with, where a unit is due and its spaces and minus signs are passed.
 pub fn start_of(body: &[u8]) -> Start
     ensures { result ≡ start_of body.now }
 {
-    if body.len() == 0 {
-        return Start::Neither;
+    match body {
+        [b'0'..=b'9', ..] => Start::Digits,
+        [b'(', ..] => Start::Bracket,
+        _ => Start::Neither,
     }
-    if within(Class::Number, body[0]) {
-        return Start::Digits;
-    }
-    if body[0] == b'(' {
-        return Start::Bracket;
-    }
-    Start::Neither
 }
 
 // Whether a mark that joins any number of units may stand after `join`.
 fn fits(join: u8, next: u8) -> bool
     ensures { result ≡ first_or join next }
 {
-    if join == 0 {
-        return true;
-    }
-    join == next
+    join == 0 || join == next
 }
 
 // Whether the chain goes on with `next`; `join` is what joins its units so far, 0 where there is only one.
@@ -86,10 +61,8 @@ pub fn goes_on(join: u8, next: u8) -> bool
     ensures { result ≡ goes_on join next }
 {
     match next {
-        b'&' => fits(join, next),
-        b'|' => fits(join, next),
-        b'>' => join == 0,
-        b'=' => join == 0,
+        b'&' | b'|' => fits(join, next),
+        b'>' | b'=' => join == 0,
         _ => false,
     }
 }

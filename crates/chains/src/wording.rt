@@ -32,7 +32,7 @@ fn mark_of(join: Join) -> u8
     }
 }
 
-// A number in decimal, and the place after it.
+// A number in decimal, and the place after it. Not `spelling::put_natural`, which asks for room: here a byte past the end is left out and counted.
 fn put_number(out: &mut [u8], at: usize, n: u8) -> usize
     requires { at + length (natural n) ≤ 0xffff_ffff_ffff_ffff }
     ensures { Put out.old out.new at (natural n) result }

@@ -9,7 +9,8 @@ use Rattle.std.specs.Prelude.{Ok, Err}
 use Rattle.dimacs.specs.Form.{header_in, header_line}
 use Rattle.dimacs.specs.Reading.{read_answer, read_table}
 use Rattle.dimacs.specs.Writing.{write_answer, write_bytes}
-use Rattle.dimacs.specs.declared.header.Counts.TheVariants.{Of, Broken}
+use Rattle.std.proofs.Common.{None, Some}
+use Rattle.dimacs.specs.declared.header.Counts.{Counts}
 use Rattle.dimacs.specs.declared.reading.Reading.{Reading}
 use Rattle.dimacs.specs.declared.writing.Writing.{Writing}
 use Rattle.cnf.specs.Rewriting.{Made, made, read_made, rows_made}
@@ -36,15 +37,15 @@ module _ (table : List ℤ) (b : Board) (text out : List ℕ) {r : Reading} (r-i
   read_refused e = rw (← r-is, e)
 
 module _ (table : List ℤ) (text out : List ℕ) where
-  pub made_broken : Broken ≡ header_in (header_line text) → record { answer = NotMade BadText 0; out = out } ≡ made table text out
+  pub made_broken : None ≡ header_in (header_line text) → record { answer = NotMade BadText 0; out = out } ≡ made table text out
   unfolding made
   made_broken e = rw (← e)
 
-  module _ {v n : ℕ} {c : Change} (counts : Of v n ≡ header_in (header_line text)) (c-is : c ≡ opened v) where
+  module _ {n : Counts} {c : Change} (counts : Some n ≡ header_in (header_line text)) (c-is : c ≡ opened n.variables) where
     pub made_on : {m : Made} → c.outcome ≡ Ok tt → m ≡ read_made table c.board text out → m ≡ made table text out
     unfolding made
     made_on e m-is = m-is ∙ rw (← counts, ← c-is, e)
 
-    pub made_none : {why : Refusal} → c.outcome ≡ Err why → record { answer = NoBoard v; out = out } ≡ made table text out
+    pub made_none : {why : Refusal} → c.outcome ≡ Err why → record { answer = NoBoard n.variables; out = out } ≡ made table text out
     unfolding made
     made_none e = rw (← counts, ← c-is, e)

@@ -12,7 +12,7 @@ use Rattle.dimacs.specs.Form.{header_in, header_line}
 use Rattle.dimacs.specs.Reading.{read_answer, read_table}
 use Rattle.dimacs.specs.Writing.{text_on, write_answer, write_bytes, write_outcome}
 use Rattle.dimacs.specs.declared.header.Counts.{Counts}
-use Rattle.dimacs.specs.declared.header.Counts.TheVariants.{Of, Broken}
+use Rattle.std.proofs.Common.{Option, None, Some}
 use Rattle.dimacs.proofs.ClauseCount.{told_few}
 use Rattle.cnf.specs.Rewriting.{Made, made, made_by, read_made, rows_made}
 use Rattle.cnf.specs.declared.Rewritten.{Rewritten}
@@ -48,11 +48,11 @@ read_within table b text out =
     either_within r.outcome (rows_made (read_table table b text) r.board out) _ (rows_within (read_table table b text) r.board out)
     (λ why. told_few table b text)
 
-by_within : (counts : Counts) (table : List ℤ) (text out : List ℕ) → Within (made_by counts table text out)
-by_within (Of variables clauses) table text out =
-    let new = opened variables in
+by_within : (counts : Option Counts) (table : List ℤ) (text out : List ℕ) → Within (made_by counts table text out)
+by_within (Some counts) table text out =
+    let new = opened counts.variables in
     either_within new.outcome (read_made table new.board text out) _ (read_within table new.board text out) (λ why. tt)
-by_within Broken table text out = omega arith
+by_within None table text out = omega arith
 
 pub made_within : (table : List ℤ) (text out : List ℕ) → Within (made table text out)
 unfolding made

@@ -1,5 +1,5 @@
 -- What the program makes of a text: it is read onto a board of the header's variables, and the board's rows are written.
-use Rattle.std.specs.Prelude.{ℕ, List, ℤ}
+use Rattle.std.specs.Prelude.{ℕ, Option, None, Some, List, ℤ}
 use Rattle.literals.specs.declared.refusal.Refusal.TheVariants.{BadText}
 use Rattle.board.specs.Faults.{if_done}
 use Rattle.board.specs.Changes.{opened}
@@ -8,7 +8,6 @@ use Rattle.dimacs.specs.Form.{header_in, header_line}
 use Rattle.dimacs.specs.Reading.{read_answer, read_table}
 use Rattle.dimacs.specs.Writing.{write_answer, write_bytes}
 use Rattle.dimacs.specs.declared.header.Counts.{Counts}
-use Rattle.dimacs.specs.declared.header.Counts.TheVariants.{Of, Broken}
 use Rattle.cnf.specs.declared.Rewritten.{Rewritten}
 use Rattle.cnf.specs.declared.Rewritten.TheVariants.{Text, NoBoard, Refused}
 
@@ -30,11 +29,11 @@ read_made table b text out =
     if_done r.outcome (rows_made (read_table table b text) r.board out) (λ why. record { answer = Refused why r.clauses; out = out })
 
 -- by what the header counts
-abbrev pub made_by : Counts → List ℤ → (text out : List ℕ) → Made
-made_by (Of variables clauses) table text out =
-    let new = opened variables in
-    if_done new.outcome (read_made table new.board text out) (λ _. record { answer = NoBoard variables; out = out })
-made_by Broken table text out = record { answer = Refused BadText 0; out = out }
+abbrev pub made_by : Option Counts → List ℤ → (text out : List ℕ) → Made
+made_by (Some counts) table text out =
+    let new = opened counts.variables in
+    if_done new.outcome (read_made table new.board text out) (λ _. record { answer = NoBoard counts.variables; out = out })
+made_by None table text out = record { answer = Refused BadText 0; out = out }
 
 unfoldable pub made : List ℤ → (text out : List ℕ) → Made
 made table text out = made_by (header_in (header_line text)) table text out

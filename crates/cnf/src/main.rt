@@ -7,7 +7,6 @@ ghost use Rattle.dimacs.specs.Words.{beyond};
 ghost use Rattle.cnf.specs.Rewriting.{made, read_made, rows_made};
 
 use board::{Board, Outcome};
-use dimacs::header::Counts;
 use literals::refusal::Refusal;
 use std::io;
 use std::io::{Read, Stderr};
@@ -53,13 +52,13 @@ fn rewrite(table: &mut [i16], text: &[u8], out: &mut [u8]) -> Rewritten
     ensures { record { answer = result; out = out.new } ≡ made table.old text.now out.old }
 {
     match dimacs::header::header(text) {
-        Counts::Broken => Rewritten::Refused(Refusal::BadText, 0),
-        Counts::Of(variables, _) => {
-            let change = board::changes::open(variables);
+        None => Rewritten::Refused(Refusal::BadText, 0),
+        Some(counts) => {
+            let change = board::changes::open(counts.variables);
             let outcome = change.outcome;
             match outcome {
                 Ok(()) => rewrite_on(change.board, table, text, out),
-                Err(_) => Rewritten::NoBoard(variables),
+                Err(_) => Rewritten::NoBoard(counts.variables),
             }
         }
     }

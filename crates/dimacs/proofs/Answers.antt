@@ -14,6 +14,7 @@ use Rattle.dimacs.specs.Form.{Parsed, good, broken, body, body_of, clauses_of, c
 use Rattle.dimacs.specs.Clauses.{clauses_faults, passed}
 use Rattle.dimacs.specs.Reading.{read_answer, read_faults, read_table, rows_of_text, surveyed, text_faults}
 use Rattle.dimacs.specs.Gathering.{Place}
+use Rattle.std.proofs.Common.{Option}
 use Rattle.dimacs.specs.declared.header.Counts.{Counts}
 use Rattle.dimacs.specs.declared.survey.Survey.{Survey}
 use Rattle.dimacs.proofs.FirstFaults.{clauses_fit, clauses_numbered, clauses_passed}
@@ -21,7 +22,7 @@ use Rattle.dimacs.proofs.LastPass.{numbered_rows, text_done}
 
 -- ---- what the text says, by its header, which stands from place s up to place e
 
-pub parsed_by : (text : List ℕ) {s e : ℕ} {counts : Counts} → Place text s (past_comments false text) → Place text e (since ends (drop s text))
+pub parsed_by : (text : List ℕ) {s e : ℕ} {counts : Option Counts} → Place text s (past_comments false text) → Place text e (since ends (drop s text))
     → header_in (header_line text) ≡ counts → parse_text text ≡ body_of counts (drop e text)
 unfolding parse_text
 parsed_by text {s} {e} {counts} p q h =

@@ -15,7 +15,7 @@ use Rattle.dimacs.specs.Form.{parse_text, starts_with}
 use Rattle.dimacs.specs.Clauses.{clause_faults, clauses_faults, passed, rows_of_clause}
 use Rattle.dimacs.specs.Reading.{read_answer, read_faults, rows_of_text, text_faults}
 use Rattle.dimacs.specs.declared.header.Counts.{Counts}
-use Rattle.dimacs.specs.declared.header.Counts.TheVariants.{Of, Broken}
+use Rattle.std.proofs.Common.{Option, None, Some}
 use Rattle.dimacs.proofs.FirstFaults.{clauses_fit, clauses_numbered}
 use Rattle.dimacs.proofs.Tested.{by_test}
 
@@ -32,9 +32,9 @@ passed_most S used rules lent (c ∷ cs) =
 
 -- ---- no header counts more than 32,767 clauses
 
-abbrev count_of : Counts → ℕ
-count_of (Of variables n) = n
-count_of Broken = 0
+abbrev count_of : Option Counts → ℕ
+count_of (Some counts) = counts.clauses
+count_of None = 0
 
 few_counted : (ws : List (List ℕ)) → count_of (counts_in ws) < beyond
 unfolding counts_in
@@ -54,9 +54,9 @@ few_in : (n : ℕ) (p : Parsed) → n < beyond → length (clauses_of (counted n
 few_in n (good v cs) h = by_test (eqb (length cs) n) (λ t. rw t (omega (arith, eqb-true (length cs) n t))) (λ f. rw f (omega arith))
 few_in n broken h = omega arith
 
-few_body : (counts : Counts) (rest : List ℕ) → count_of counts < beyond → length (clauses_of (body_of counts rest)) < beyond
-few_body (Of v n) rest h = few_in n (clauses_in v [] (words rest)) h
-few_body Broken rest h = omega arith
+few_body : (counts : Option Counts) (rest : List ℕ) → count_of counts < beyond → length (clauses_of (body_of counts rest)) < beyond
+few_body (Some counts) rest h = few_in counts.clauses (clauses_in counts.variables [] (words rest)) h
+few_body None rest h = omega arith
 
 pub clauses_few : (text : List ℕ) → length (clauses_of (parse_text text)) < beyond
 unfolding parse_text

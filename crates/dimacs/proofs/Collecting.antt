@@ -76,7 +76,7 @@ next_within {row} {count = count} {p = p} sown within false e =
 module _ (S : ℕ) {row : List ℕ} (k : Kept) {s : ℕ} {far negative : Bool} (one : 1 ≤ s) (far-is : far ≡ (k.beyond || ltb S s)) where
   -- there were too many symbols before
   pub steps_many : k.count ≤ length row → k.many ≡ true
-      → Steps S s negative row row k (record { count = k.count; always = k.always; many = true; beyond = far })
+      → Steps S s negative row row k (record { count = k.count; always = k.always; many = k.many; beyond = far })
   steps_many within m = record {
     fits = within;
     step =
@@ -87,10 +87,10 @@ module _ (S : ℕ) {row : List ℕ} (k : Kept) {s : ℕ} {far negative : Bool} (
         rw (gathered_snoc [] o l) (omega (arith, before, inserted_longer (place_of l) g)) in
         record {
           is_beyond = far_next S one far-is o l is h;
-          is_many = sym (lt-ltb most_literals (length (gathered [] (o ++ (l ∷ [])))) longer);
-          is_row = λ e. clash refl e;
-          is_count = λ e. clash refl e;
-          is_always = λ e. clash refl e;
+          is_many = m ∙ sym (lt-ltb most_literals (length (gathered [] (o ++ (l ∷ [])))) longer);
+          is_row = λ e. clash m e;
+          is_count = λ e. clash m e;
+          is_always = λ e. clash m e;
         };
   }
 

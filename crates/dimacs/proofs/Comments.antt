@@ -25,9 +25,9 @@ module _ {text : List ℕ} {i : ℕ} (s : Passed text i) where
   Header r = Place text r (past_comments false text)
 
   -- the text ends here
-  pub passed_all : i ≡ length text → Header i
+  pub passed_all : length text ≤ i → Header i
   unfolding past_comments
-  passed_all e = record { within = s.within; stands = sym (s.same ∙ rw (drop_of_length-le text {i = i} (omega arith))) }
+  passed_all e = record { within = s.within; stands = sym (s.same ∙ rw (drop_of_length-le text {i = i} e)) }
 
   module _ (h : i < length text) where
     -- another line begins here
@@ -45,9 +45,9 @@ module _ {text : List ℕ} {i : ℕ} (s : Passed text i) where
           let line : since ends (drop i text) ≡ since ends rest = rw (drop-cons text i 0 h, is) in
           s.same ∙ first ∙ to_line_end rest ∙ ap (λ (l : List ℕ). past_comments true l) (sym line ∙ sym p.stands)
 
-      pub passed_last : r ≡ length text → Header r
+      pub passed_last : length text ≤ r → Passed text r
       unfolding past_comments
-      passed_last e = record { within = p.within; stands = sym (passed_line ∙ rw (drop_of_length-le text {i = r} (omega arith))) }
+      passed_last e = record { within = p.within; same = passed_line ∙ rw (drop_of_length-le text {i = r} e) }
 
       pub passed_more : r < length text → Passed text (r + 1)
       unfolding past_comments

@@ -1,11 +1,12 @@
 -- The header's line: where it ends, its first bytes, and its two numbers.
-use Rattle.meaning.proofs.Kit.{◌≡◌, ◌∙◌, sym, ap, refl, true, false, Bool, cond, ◌&&◌, List, [], ◌∷◌, ◌≤◌, ℕ, ◌<◌, ◌-◌, ◌+◌, suc, add-one, arith, eqb}
-use Rattle.meaning.proofs.Kit.{and-false, ltb, length, get_or, drop, take, length-drop, drop_of_length-le, drop-cons, ne_eqb, eq-eqb}
-use Rattle.meaning.proofs.Tests.{both_true, clash}
+use Rattle.meaning.proofs.Kit.{◌≡◌, ◌∙◌, ap, refl, false, Bool, cond, ◌&&◌, List, [], ◌∷◌, ℕ, ◌-◌, suc, arith, eqb}
+use Rattle.meaning.proofs.Kit.{ltb, length, drop, take, length-drop}
 use Rattle.dimacs.specs.Words.{beyond, ends, number_of, since, up_to}
 use Rattle.dimacs.specs.Form.{counts_in, header_line, past_comments, starts_with}
 use Rattle.dimacs.specs.Gathering.{Place}
-use Rattle.dimacs.specs.declared.header.Counts.TheVariants.{Of, Broken}
+use Rattle.std.proofs.Common.{None, Some}
+use Rattle.std.proofs.lemmas.Bool.Decides.{nat_tests}
+use Rattle.std.specs.Str.{bytes_eq}
 use Rattle.dimacs.proofs.Scanning.{since_within}
 use Rattle.dimacs.proofs.Tested.{by_test}
 
@@ -30,47 +31,30 @@ line_is text {s} {e} p q =
 
 -- ---- `p cnf` and a blank
 
-pub starts_short : (ps l : List ℕ) → length l < length ps → starts_with ps l ≡ false
+eqb_sym : (a b : ℕ) → eqb a b ≡ eqb b a
+eqb_sym a b = grind (arith, nat_tests)
+
+pub starts_prefix : (ps l : List ℕ) → bytes_eq (take (length ps) l) ps ≡ starts_with ps l
 unfolding starts_with
-starts_short [] l h = absurd (omega arith)
-starts_short (p ∷ ps) [] h = refl
-starts_short (p ∷ ps) (c ∷ l) h = rw (starts_short ps l (omega arith)) (and-false (eqb p c))
-
-pub starts_long : (ps l : List ℕ) → starts_with ps l ≡ true → length ps ≤ length l
-unfolding starts_with
-starts_long [] l e = omega arith
-starts_long (p ∷ ps) [] e = clash e refl
-starts_long (p ∷ ps) (c ∷ l) e = let h = starts_long ps l (both_true (eqb p c) (starts_with ps l) e).1 in omega arith
-
-module _ (ps l : List ℕ) (k : ℕ) where
-  pub starts_done : length ps ≤ k → starts_with (drop k ps) (drop k l) ≡ true
-  unfolding starts_with
-  starts_done h = rw (drop_of_length-le ps h)
-
-  module _ (h : k < length ps) (f : k < length l) where
-    pub starts_no : (get_or l k 0 ≡ get_or ps k 0 → ⊥) → starts_with (drop k ps) (drop k l) ≡ false
-    unfolding starts_with
-    starts_no differs = rw (drop-cons ps k 0 h, drop-cons l k 0 f, ne_eqb (get_or ps k 0) (get_or l k 0) (λ e. differs (sym e)))
-
-    pub starts_yes : get_or l k 0 ≡ get_or ps k 0 → starts_with (drop k ps) (drop k l) ≡ starts_with (drop (k + 1) ps) (drop (k + 1) l)
-    unfolding starts_with
-    starts_yes e = rw (add-one k, drop-cons ps k 0 h, drop-cons l k 0 f, eq-eqb (get_or ps k 0) (get_or l k 0) (sym e))
+starts_prefix [] l = refl
+starts_prefix (p ∷ ps) [] = refl
+starts_prefix (p ∷ ps) (c ∷ l) = rw (starts_prefix ps l, eqb_sym c p)
 
 -- ---- the two numbers, by the words there
 
-pub counts_none : {ws : List (List ℕ)} → ws ≡ [] → Broken ≡ counts_in ws
+pub counts_none : {ws : List (List ℕ)} → ws ≡ [] → None ≡ counts_in ws
 unfolding counts_in
 counts_none e = rw e
 
-pub counts_one : {ws vs : List (List ℕ)} {w : List ℕ} → ws ≡ w ∷ vs → vs ≡ [] → Broken ≡ counts_in ws
+pub counts_one : {ws vs : List (List ℕ)} {w : List ℕ} → ws ≡ w ∷ vs → vs ≡ [] → None ≡ counts_in ws
 unfolding counts_in
 counts_one e f = rw (e, f)
 
-pub counts_three : {ws vs us xs : List (List ℕ)} {w v u : List ℕ} → ws ≡ w ∷ vs → vs ≡ v ∷ us → us ≡ u ∷ xs → Broken ≡ counts_in ws
+pub counts_three : {ws vs us xs : List (List ℕ)} {w v u : List ℕ} → ws ≡ w ∷ vs → vs ≡ v ∷ us → us ≡ u ∷ xs → None ≡ counts_in ws
 unfolding counts_in
 counts_three e f g = rw (e, f, g)
 
 pub counts_two : {ws vs us : List (List ℕ)} {w v : List ℕ} {a b : ℕ} → ws ≡ w ∷ vs → vs ≡ v ∷ us → us ≡ [] → a ≡ number_of w → b ≡ number_of v
-    → counts_in ws ≡ cond (ltb a beyond && ltb b beyond) (Of a b) Broken
+    → counts_in ws ≡ cond (ltb a beyond && ltb b beyond) (Some (record { variables = a; clauses = b })) None
 unfolding counts_in
 counts_two e f g is is-also = rw (e, f, g, is, is-also)

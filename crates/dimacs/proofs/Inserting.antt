@@ -1,7 +1,10 @@
 -- Places put among places of rising symbols, and into a row that is lent.
-use Rattle.meaning.proofs.Kit.{◌≡◌, ◌∙◌, sym, ap, refl, true, false, not, List, [], ◌∷◌, ◌++◌, append_assoc, ◌≤◌, ℕ, ◌<◌, ◌+◌, suc, ◌/◌, add-one}
-use Rattle.meaning.proofs.Kit.{arith, eqb, length, get_or, drop, take, length-append, length-drop, length-take, length-take-le, drop-cons, ⊎_elim}
-use Rattle.meaning.proofs.Kit.{take_at, get_or-take, drop-length, take-take, lt-ltb, le-ltb}
+use Rattle.meaning.proofs.Kit.{◌≡◌, ◌∙◌, sym, ap, refl, true, false, not, List, [], ◌∷◌, ◌++◌, append_assoc, ◌≤◌, ℕ, ◌<◌, ◌+◌, suc, ◌/◌}
+use Rattle.meaning.proofs.Kit.{arith, eqb, length, get_or, drop, take, length-append, length-drop, length-take, length-take-le, ⊎_elim}
+use Rattle.meaning.proofs.Kit.{take_at, get_or-take, take-take, lt-ltb, le-ltb}
+use Rattle.meaning.proofs.Kit.{cond, ltb}
+use Rattle.std.specs.List.{prefix_len}
+use Rattle.std.proofs.lemmas.List.Recursion.{same_from_clauses}
 use Rattle.meaning.proofs.Tests.{clash}
 use Rattle.meaning.proofs.Tables.{le_or_lt}
 use Rattle.dimacs.specs.Gathering.{Inserts, clashes, inserted, lower_of, put_at}
@@ -23,16 +26,11 @@ lower_most s [] = unfold lower_of in omega arith
 lower_most s (q ∷ row) =
     ⊎_elim (λ h. omega (arith, first_not s q row h)) (λ h. omega (arith, first_lower s q row h, lower_most s row)) (le_or_lt s (q / 2))
 
-module _ (s : ℕ) (row : List ℕ) (j : ℕ) (h : j < length row) where
-  pub lower_stops : s ≤ get_or row j 0 / 2 → lower_of s (drop j row) ≡ 0
-  lower_stops k = rw (drop-cons row j 0 h) (first_not s (get_or row j 0) (drop (suc j) row) k)
-
-  pub lower_more : get_or row j 0 / 2 < s → lower_of s (drop j row) ≡ suc (lower_of s (drop (j + 1) row))
-  lower_more k = rw (add-one, drop-cons row j 0 h) (first_lower s (get_or row j 0) (drop (suc j) row) k)
-
-pub lower_none : (s : ℕ) (row : List ℕ) (j : ℕ) → j ≡ length row → lower_of s (drop j row) ≡ 0
+pub lower_prefix : (s : ℕ) (row : List ℕ) → prefix_len (λ q. ltb (q / 2) s) row ≡ lower_of s row
 unfolding lower_of
-lower_none s row j e = rw (e, drop-length row)
+lower_prefix s =
+    same_from_clauses (prefix_len (λ q. ltb (q / 2) s)) (lower_of s) (λ q n. cond (ltb (q / 2) s) (1 + n) 0) refl (λ q row. refl)
+    (λ q row. let e : suc (lower_of s row) ≡ 1 + lower_of s row = omega arith in rw e)
 
 -- ---- insertion, at that place
 

@@ -1,7 +1,7 @@
 -- The number that a word spells, a byte at a time: it stays at 32,768 once it is there, so that no count of digits is too large for a machine
 -- word; and it is the plain number of the digits, where that is below.
 use Rattle.meaning.proofs.Kit.{◌≡◌, sym, refl, true, false, Bool, cond, List, [], ◌∷◌, ◌≤◌, ℕ, ◌<◌, ◌-◌, ◌+◌, ◌*◌, min, add-one, arith, length, get_or}
-use Rattle.meaning.proofs.Kit.{drop, drop_of_length-le, drop-cons, le-leb, lt-leb}
+use Rattle.meaning.proofs.Kit.{drop, drop_of_length-le, drop-cons}
 use Rattle.meaning.specs.Tests.{all}
 use Rattle.spelling.specs.Text.{decimal, is_digit}
 use Rattle.dimacs.specs.Words.{beyond, is_gap, number_of, up_to}
@@ -46,18 +46,6 @@ grown_most n c = most (is_digit c) (n * 10 + (c - 48))
 pub number_most : (w : List ℕ) → number_of w ≤ beyond
 unfolding number_of
 number_most w = most (all is_digit w) (decimal 0 w)
-
--- ---- one digit more, by the tests `byte < 48` and `byte > 57`
-
-module _ (n c : ℕ) where
-  pub grown_low : c < 48 → beyond ≡ grown n c
-  grown_low h = rw (lt-leb 48 c h)
-
-  pub grown_high : 48 ≤ c → 57 < c → beyond ≡ grown n c
-  grown_high h k = rw (le-leb 48 c h, lt-leb c 57 k)
-
-  pub grown_digit : 48 ≤ c → c ≤ 57 → min (n * 10 + (c - 48)) beyond ≡ grown n c
-  grown_digit h k = rw (le-leb 48 c h, le-leb c 57 k)
 
 -- ---- up to a gap of a text
 

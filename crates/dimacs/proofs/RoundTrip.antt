@@ -10,7 +10,7 @@ use Rattle.dimacs.specs.Words.{beyond, closed, ends, in_word, is_gap, literal_of
 use Rattle.dimacs.specs.Form.{good, clauses_in, clause_then, counted, counts_in, header_in, header_start, parse_text, past_comments, starts_with}
 use Rattle.dimacs.specs.Writing.{clause_line, clause_lines, counts_line, spaced, text_of, zero_end}
 use Rattle.dimacs.specs.Promises.{ReadsBack}
-use Rattle.dimacs.specs.declared.header.Counts.TheVariants.{Of}
+use Rattle.std.proofs.Common.{Some}
 use Rattle.dimacs.proofs.Splitting.{words_cut}
 use Rattle.spelling.proofs.Digits.{natural_some}
 use Rattle.dimacs.proofs.Digits.{literal_some, literal_spells, literal_word, natural_line, natural_spells, natural_word}
@@ -92,7 +92,7 @@ module _ (S n : ℕ) (small : S < beyond) (few : n < beyond) where
       ∙ ap (λ (l : List ℕ). natural S ∷ words l) (sym (append-nil (natural n)))
       ∙ ap (λ (ws : List (List ℕ)). natural S ∷ ws) (word_then (natural n) [] (natural_some n) (natural_word n) refl)
 
-  line_counts : header_in line ≡ Of S n
+  line_counts : header_in line ≡ Some (record { variables = S; clauses = n })
   unfolding header_in starts_with counts_in
   line_counts = rw (line_words, natural_spells S small, natural_spells n few, lt-ltb S beyond small, lt-ltb n beyond few)
 

@@ -1,8 +1,7 @@
 -- 02, Ticket 2: what a DIMACS text says, the variables that its header counts and its clauses; or that it breaks the form, which is refusal 15.
-use Rattle.std.specs.Prelude.{ℕ, Bool, true, false, cond, ◌&&◌, List, [], ◌∷◌, ◌++◌, eqb, leb, ltb, ℤ, nat_abs, length, drop}
+use Rattle.std.specs.Prelude.{ℕ, Option, None, Some, Bool, true, false, cond, ◌&&◌, List, [], ◌∷◌, ◌++◌, eqb, leb, ltb, ℤ, nat_abs, length, drop}
 use Rattle.dimacs.specs.Words.{beyond, ends, literal_of, number_of, since, up_to, words}
 use Rattle.dimacs.specs.declared.header.Counts.{Counts}
-use Rattle.dimacs.specs.declared.header.Counts.TheVariants.{Of, Broken}
 
 pub data Parsed : Type 0 where
   good : (variables : ℕ) → (clauses : List (List ℤ)) → Parsed
@@ -35,14 +34,15 @@ starts_with [] text = true
 starts_with (p ∷ ps) [] = false
 starts_with (p ∷ ps) (c ∷ rest) = eqb p c && starts_with ps rest
 
-unfoldable pub counts_in : List (List ℕ) → Counts
-counts_in [] = Broken
-counts_in (v ∷ []) = Broken
-counts_in (v ∷ n ∷ []) = cond (ltb (number_of v) beyond && ltb (number_of n) beyond) (Of (number_of v) (number_of n)) Broken
-counts_in (v ∷ n ∷ w ∷ ws) = Broken
+unfoldable pub counts_in : List (List ℕ) → Option Counts
+counts_in [] = None
+counts_in (v ∷ []) = None
+counts_in (v ∷ n ∷ []) =
+    cond (ltb (number_of v) beyond && ltb (number_of n) beyond) (Some (record { variables = number_of v; clauses = number_of n })) None
+counts_in (v ∷ n ∷ w ∷ ws) = None
 
-unfoldable pub header_in : (line : List ℕ) → Counts
-header_in line = cond (starts_with header_start line) (counts_in (words (drop 6 line))) Broken
+unfoldable pub header_in : (line : List ℕ) → Option Counts
+header_in line = cond (starts_with header_start line) (counts_in (words (drop 6 line))) None
 
 -- ---- "then literals with 0 after each clause, over blanks and line ends": none is beyond the header's variables, and no clause is left open
 
@@ -69,9 +69,9 @@ abbrev pub counted : ℕ → Parsed → Parsed
 counted n (good variables clauses) = cond (eqb (length clauses) n) (good variables clauses) broken
 counted n broken = broken
 
-abbrev pub body_of : Counts → List ℕ → Parsed
-body_of (Of variables n) body = counted n (clauses_in variables [] (words body))
-body_of Broken body = broken
+abbrev pub body_of : Option Counts → List ℕ → Parsed
+body_of (Some counts) body = counted counts.clauses (clauses_in counts.variables [] (words body))
+body_of None body = broken
 
 -- ---- the whole text
 

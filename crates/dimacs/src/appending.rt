@@ -49,6 +49,7 @@ pub fn append(
     let mut row = used;
     let mut rule = rules;
     let mut i = at;
+    // A loop: where the next clause stands, only the end of this one tells.
     loop {
         let here = next_word(text, i);
         if here == text.len() {

@@ -1,6 +1,6 @@
 // One clause of a text, as a row of places in a lent buffer.
 
-ghost use Rattle.std.specs.Prelude.{◌≡◌, not, ◌||◌, ◌≤◌, length};
+ghost use Rattle.std.specs.Prelude.{◌≡◌, not, ◌≤◌, length};
 ghost use Rattle.meaning.specs.Literals.{place};
 ghost use Rattle.literals.specs.Row.{most_literals};
 ghost use Rattle.dimacs.specs.Words.{beyond};
@@ -27,15 +27,6 @@ pub struct Clause {
     pub keeps: bool,
 }
 
-fn either(a: bool, b: bool) -> bool
-    ensures { result ≡ a || b }
-{
-    if a {
-        return true;
-    }
-    b
-}
-
 // The place of a literal.
 fn place_of(symbol: usize, negative: bool) -> usize
     requires { (1 ≤ symbol) × (symbol ≤ beyond) }
@@ -52,22 +43,16 @@ fn take_in(row: &mut [usize], k: Kept, symbols: usize, symbol: usize, negative: 
     requires { (1 ≤ symbol) × (symbol ≤ beyond) × (k.count ≤ length row.old) × (length row.old ≡ most_literals) }
     ensures { Steps symbols symbol negative row.old row.new k result }
 {
-    let far = either(k.beyond, symbols < symbol);
+    let beyond = k.beyond || symbols < symbol;
     if k.many {
-        return Kept {
-            count: k.count,
-            always: k.always,
-            many: true,
-            beyond: far,
-        };
+        return Kept { beyond, ..k };
     }
     let s = insert(row, k.count, place_of(symbol, negative));
-    let always = either(k.always, s.clash);
     Kept {
         count: s.count,
-        always: always,
+        always: k.always || s.clash,
         many: s.full,
-        beyond: far,
+        beyond,
     }
 }
 
@@ -83,6 +68,7 @@ pub fn gather(row: &mut [usize], text: &[u8], at: usize, variables: usize, symbo
         beyond: false,
     };
     let mut i = at;
+    // A loop: where the next literal stands, only the end of this one tells.
     loop {
         let here = next_word(text, i);
         if here == text.len() {

@@ -9,7 +9,7 @@ ghost use Rattle.dimacs.specs.Gathering.{clauses_from};
 ghost use Rattle.dimacs.specs.Reading.{read_answer, read_table};
 
 use crate::appending::append;
-use crate::header::{Counts, header_in, header_place};
+use crate::header::{header_in, header_place};
 use crate::survey::survey_clauses;
 use crate::words::line_end;
 use board::testing::good;
@@ -107,7 +107,7 @@ pub fn read(board: Board, table: &mut [i16], text: &[u8]) -> Reading
     let start = header_place(text);
     let end = line_end(text, start);
     match header_in(&text[start..end]) {
-        Counts::Broken => refused(board, Refusal::BadText, 0),
-        Counts::Of(variables, clauses) => add_clauses(board, table, text, end, variables, clauses),
+        None => refused(board, Refusal::BadText, 0),
+        Some(counts) => add_clauses(board, table, text, end, counts.variables, counts.clauses),
     }
 }

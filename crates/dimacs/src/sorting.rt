@@ -4,7 +4,7 @@ ghost use Rattle.std.specs.Prelude.{◌≡◌, ◌<◌, ◌≤◌, length, take}
 ghost use Rattle.dimacs.specs.Gathering.{lower_of, put_at, Inserts};
 
 // What putting a place into a row answers: how many places there are then, whether its opposite was there, and whether there was
-// no room for another symbol.
+// no room for another symbol. No enum of the cases: what is kept of a clause takes these three over as they are.
 #[derive(Clone, Copy)]
 pub struct Inserted {
     pub count: usize,
@@ -17,14 +17,7 @@ fn lower(row: &[usize], count: usize, s: usize) -> usize
     requires { count ≤ length row.now }
     ensures { result ≡ lower_of s (take count row.now) }
 {
-    let mut j = 0;
-    while j < count {
-        if row[j] / 2 >= s {
-            return j;
-        }
-        j += 1;
-    }
-    j
+    row[..count].iter().take_while(|p| **p / 2 < s).count()
 }
 
 // Puts a place at j, and those of the first `count` places from j on one further.
@@ -32,11 +25,7 @@ fn put_at(row: &mut [usize], count: usize, j: usize, p: usize)
     requires { (j ≤ count) × (count < length row.old) }
     ensures { row.new ≡ put_at row.old count j p }
 {
-    let mut k = count;
-    while j < k {
-        row[k] = row[k - 1];
-        k -= 1;
-    }
+    row.copy_within(j..count, j + 1);
     row[j] = p;
 }
 
@@ -50,7 +39,7 @@ pub fn insert(row: &mut [usize], count: usize, p: usize) -> Inserted
         let q = row[j];
         if q / 2 == p / 2 {
             return Inserted {
-                count: count,
+                count,
                 clash: q != p,
                 full: false,
             };
@@ -58,7 +47,7 @@ pub fn insert(row: &mut [usize], count: usize, p: usize) -> Inserted
     }
     if count == row.len() {
         return Inserted {
-            count: count,
+            count,
             clash: false,
             full: true,
         };

@@ -103,6 +103,7 @@ pub fn survey_clauses(
     };
     let mut count = 0;
     let mut i = at;
+    // A loop: where the next clause stands, only the end of this one tells.
     loop {
         let here = next_word(text, i);
         if here == text.len() {

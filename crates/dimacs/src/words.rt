@@ -25,10 +25,7 @@ pub const BEYOND: usize = 32768;
 fn is_gap(byte: u8) -> bool
     ensures { result ≡ is_gap byte }
 {
-    if byte == b' ' {
-        return true;
-    }
-    byte == b'\n'
+    byte == b' ' || byte == b'\n'
 }
 
 // The number with a digit more.
@@ -36,14 +33,10 @@ fn grow(n: usize, byte: u8) -> usize
     requires { n ≤ beyond }
     ensures { result ≡ grown n byte }
 {
-    if byte < b'0' {
-        return BEYOND;
+    match byte {
+        b'0'..=b'9' => BEYOND.min(n * 10 + (byte - b'0') as usize),
+        _ => BEYOND,
     }
-    if byte > b'9' {
-        return BEYOND;
-    }
-    let next = n * 10 + (byte - b'0') as usize;
-    if next < BEYOND { next } else { BEYOND }
 }
 
 // The place of the line's end, or of the text's.
@@ -51,14 +44,7 @@ pub fn line_end(text: &[u8], at: usize) -> usize
     requires { at ≤ length text.now }
     ensures { Place text.now result (since ends (drop at text.now)) }
 {
-    let mut i = at;
-    while i < text.len() {
-        if text[i] == b'\n' {
-            return i;
-        }
-        i += 1;
-    }
-    i
+    at + text[at..].iter().take_while(|byte| **byte != b'\n').count()
 }
 
 // The place of the next word, or the text's end.
@@ -66,14 +52,7 @@ pub fn next_word(text: &[u8], at: usize) -> usize
     requires { at ≤ length text.now }
     ensures { Place text.now result (since in_word (drop at text.now)) }
 {
-    let mut i = at;
-    while i < text.len() {
-        if !is_gap(text[i]) {
-            return i;
-        }
-        i += 1;
-    }
-    i
+    at + text[at..].iter().take_while(|byte| is_gap(**byte)).count()
 }
 
 // The number that the bytes from a place up to a gap spell.
@@ -83,21 +62,15 @@ pub fn number_at(text: &[u8], at: usize) -> Number
     ensures place { Place text.now result.end (since is_gap (drop at text.now)) }
 {
     let mut value = 0;
-    let mut i = at;
-    while i < text.len() {
-        let byte = text[i];
-        if is_gap(byte) {
-            return Number {
-                value: value,
-                end: i,
-            };
+    for (k, byte) in text[at..].iter().enumerate() {
+        if is_gap(*byte) {
+            return Number { value, end: at + k };
         }
-        value = grow(value, byte);
-        i += 1;
+        value = grow(value, *byte);
     }
     Number {
-        value: value,
-        end: i,
+        value,
+        end: text.len(),
     }
 }
 

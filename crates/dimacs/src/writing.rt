@@ -33,6 +33,7 @@ fn natural_size(n: usize) -> usize
 {
     let mut size = 1;
     let mut left = n;
+    // A while: it goes by the number that is left, a digit fewer at each turn.
     while 10 <= left {
         left = left / 10;
         size += 1;
@@ -58,10 +59,8 @@ fn line_size(part: &[i16]) -> usize
     ensures { (result ≡ length (clause_line part.now)) × (result ≤ 58) }
 {
     let mut size = 2;
-    let mut k = 0;
-    while k < part.len() {
-        size += literal_size(part[k]) + 1;
-        k += 1;
+    for l in part {
+        size += literal_size(*l) + 1;
     }
     size
 }
@@ -82,10 +81,8 @@ fn text_size(table: &[i16], used: usize, symbols: usize) -> usize
     ensures { result ≡ length (text_of symbols (clauses_at used table.now)) }
 {
     let mut size = 8 + natural_size(symbols) + natural_size(used);
-    let mut row = 0;
-    while row < used {
+    for row in 0..used {
         size += row_size(table, row);
-        row += 1;
     }
     size
 }
@@ -96,10 +93,7 @@ fn fits(room: usize, table: &[i16], used: usize, symbols: usize) -> bool
     requires table_len_bound { length (text_of symbols (clauses_at used table.now)) ≤ 15 + 42 * used }
     ensures { result ≡ leb (length (text_of symbols (clauses_at used table.now))) room }
 {
-    if 15 + 42 * used <= room {
-        return true;
-    }
-    text_size(table, used, symbols) <= room
+    15 + 42 * used <= room || text_size(table, used, symbols) <= room
 }
 
 // Writes a row's literals as a line: "single blanks, 0 last", and the line feed.
@@ -108,12 +102,10 @@ fn put_line(out: &mut [u8], at: usize, part: &[i16]) -> usize
     ensures { Put out.old out.new at (clause_line part.now) result }
 {
     let mut next = at;
-    let mut k = 0;
-    while k < part.len() {
-        next = put_literal(out, next, part[k]);
+    for l in part {
+        next = put_literal(out, next, *l);
         out[next] = b' ';
         next += 1;
-        k += 1;
     }
     out[next] = b'0';
     out[next + 1] = b'\n';
@@ -138,10 +130,8 @@ fn put_rows(out: &mut [u8], at: usize, table: &[i16], used: usize) -> usize
     ensures { Put out.old out.new at (clause_lines (clauses_at used table.now)) result }
 {
     let mut next = at;
-    let mut row = 0;
-    while row < used {
+    for row in 0..used {
         next = put_row(out, next, table, row);
-        row += 1;
     }
     next
 }

@@ -1,9 +1,11 @@
 -- Decimal numbers, digit by digit, and pieces of a line one after the other.
 use Rattle.meaning.proofs.Kit.{◌≡◌, ◌∙◌, sym, ap, refl, subst, true, false, Bool, List, [], ◌∷◌, ◌++◌, append-nil, append_assoc, ◌≤◌, ℕ, ◌<◌, ◌+◌}
 use Rattle.meaning.proofs.Kit.{suc, ◌*◌, zero, ◌/◌, ◌%◌, add-one, arith, ltb, T, ℤ, pos, nat_abs, negsuc, lt_z, length, get_or, take, set, length-append}
-use Rattle.meaning.proofs.Kit.{take-suc, w16, SFits, to_z-of_z, ltb-true, lt-ltb, le-ltb, ltb-false}
+use Rattle.meaning.proofs.Kit.{take-suc, take_all, sets-eq, w16, SFits, to_z-of_z, ltb-true, lt-ltb, le-ltb, ltb-false}
 use lib.Seq.{length-sets}
 use Rattle.meaning.proofs.Tables.{sets_append}
+use borrow.Rule.Slice.PartMut.{put_mid}
+use Rattle.std.proofs.lemmas.Slice.{put_mid-paste}
 use Rattle.spelling.specs.Text.{Put, digits_of, literal, literal_list, natural}
 use Rattle.literals.proofs.Signed.{back}
 
@@ -123,13 +125,15 @@ pub list_none : (ls : List ℤ) → literal_list (take 0 ls) ≡ []
 unfolding literal_list
 list_none ls = refl
 
--- ---- a turn of each loop
+-- a word that is copied into a part of the buffer
+pub put_whole : (l word : List ℕ) (at k : ℕ) (part : List ℕ) → at + length word ≤ length l → k ≡ length word → part ≡ word
+    → Put l (put_mid at k l part) at word (at + length word)
+put_whole l word at k part h size same =
+    let whole : take (length word) word ≡ word = take_all (length word) word (omega arith) in
+    let pasted = put_mid-paste at k l part word (length word) same (sym size) refl in
+    record { written = pasted ∙ rw (whole, sets-eq word l at h); ends = refl }
 
-pub word_next : (word : List ℕ) (k : ℕ) {l m : List ℕ} {at : ℕ} → k < length word → Put l m at (take k word) (at + k)
-    → Put l (set m (at + k) (get_or word k 0)) at (take (k + 1) word) (at + (k + 1))
-word_next word k {l} {m} {at} h p =
-    let e : at + (k + 1) ≡ at + k + 1 = omega arith in
-    rw e (each_put 0 (λ c. c ∷ []) (λ l. l) refl (λ c cs. refl) word k h p (put_one m (at + k) (get_or word k 0)))
+-- ---- a turn of the loop over literals
 
 pub list_put : (ls : List ℤ) (k : ℕ) {l m r : List ℕ} {at mid next : ℕ} → k < length ls
     → Put l m at (literal_list (take k ls)) mid → Put (set m mid 32) r (mid + 1) (literal (get_or ls k (pos 0))) next

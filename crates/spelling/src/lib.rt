@@ -55,12 +55,9 @@ pub fn put_word(out: &mut [u8], at: usize, word: &[u8]) -> usize
     requires { at + length word.now ≤ length out.old }
     ensures { Put out.old out.new at word.now result }
 {
-    let mut k = 0;
-    while k < word.len() {
-        out[at + k] = word[k];
-        k += 1;
-    }
-    at + k
+    let end = at + word.len();
+    out[at..end].copy_from_slice(word);
+    end
 }
 
 // Writes a word and a number after it: there is room for twenty digits.
@@ -93,11 +90,9 @@ pub fn put_literals(out: &mut [u8], at: usize, part: &[i16]) -> usize
     ensures upper_bound { result ≤ at + 7 * length part.now }
 {
     let mut next = at;
-    let mut k = 0;
-    while k < part.len() {
+    for l in part {
         out[next] = b' ';
-        next = put_literal(out, next + 1, part[k]);
-        k += 1;
+        next = put_literal(out, next + 1, *l);
     }
     next
 }

@@ -3,7 +3,6 @@ use Rattle.meaning.proofs.Kit.{◌≡◌, ◌∙◌, sym, ap, refl, true, List, 
 use Rattle.meaning.proofs.Kit.{length-take, take-take}
 use Rattle.chains.proofs.Words.{is_good, Put, whole_text}
 use Rattle.formula.proofs.Sizes.{enough}
-use Rattle.spelling.proofs.Pieces.{put_length}
 use Rattle.chains.proofs.Emitted.{emitted_most}
 use Rattle.text.specs.Reading.{bytes_in}
 
@@ -28,18 +27,9 @@ module _ (text : List ℕ) {before after : List ℕ} {size : ℕ} (p : Put befor
   front : (n : ℕ) → n ≤ length before → n ≤ size → take n after ≡ take n (bytes_in text)
   front n h k = ap (take n) p.written ∙ clipped n before (bytes_in text) h (omega (arith, size_is))
 
-  -- twice as many bytes as the text has hold them all
-  module _ (keeps : is_good (whole_text text) ≡ true) (wide : 2 * length text ≤ length before) where
-    pub all_fit : size ≤ length after
-    all_fit = omega (arith, size_is, emitted_most text keeps, put_length p)
-
-    pub all_held : take size after ≡ bytes_in text
-    all_held = front size (omega (arith, size_is, emitted_most text keeps)) (omega arith) ∙ take_all size (bytes_in text) (omega (arith, size_is))
-
-  -- and of more than are enough so many are held
-  module _ (wide : length before ≡ enough) {kept : ℕ} (is : kept ≡ min size enough) where
-    pub kept_fits : kept ≤ length after
-    kept_fits = omega (arith, put_length p)
-
-    pub kept_held : take kept after ≡ take enough (bytes_in text)
-    kept_held = front kept (omega arith) (omega arith) ∙ take_least kept enough (bytes_in text) (is ∙ ap (λ (m : ℕ). min m enough) size_is)
+  -- with room for twice the text's bytes, or for as many as are enough, what is kept of them tells what all of them do
+  pub kept_held : {room kept : ℕ} → length before ≡ room → min (2 * length text) enough ≤ room → room ≤ enough → kept ≡ min size room
+      → is_good (whole_text text) ≡ true → take kept after ≡ take enough (bytes_in text)
+  kept_held {room} {kept} long wide most is keeps =
+      let all : kept ≡ min (length (bytes_in text)) enough = omega (arith, size_is, emitted_most text keeps) in
+      front kept (omega arith) (omega arith) ∙ take_least kept enough (bytes_in text) all

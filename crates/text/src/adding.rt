@@ -1,6 +1,6 @@
 // A rule added from text: its bytes are written into a buffer of the call's own, and added as they are.
 
-ghost use Rattle.std.specs.Prelude.{◌≡◌, true, ◌≤◌, length};
+ghost use Rattle.std.specs.Prelude.{◌≡◌, true, ◌*◌, ◌≤◌, min, length};
 ghost use Rattle.formula.specs.Answers.{is_good};
 ghost use Rattle.board.specs.Rules.{ruled, ruled_table};
 ghost use Rattle.chains.specs.Form.{whole_text};
@@ -15,26 +15,17 @@ use chains::emitting::emit;
 use chains::reading::read_text;
 use literals::refusal::Refusal;
 
-// Adds the rule of a short text.
-fn add_short(board: Board, table: &mut [i16], text: &[u8]) -> Addition
-    requires { (length text.now ≤ 128) × (is_good (whole_text text.now) ≡ true) }
+// Adds the rule of a text, its bytes written into a buffer of this size: it holds them all, or as many as are enough to read, and the
+// bytes that do not fit are not looked at.
+fn add_in_room<const ROOM: usize>(board: Board, table: &mut [i16], text: &[u8]) -> Addition
+    requires keeps { is_good (whole_text text.now) ≡ true }
+    requires room { (min (2 * length text.now) 98304 ≤ ROOM) × (ROOM ≤ 98304) }
     ensures value { result ≡ ruled table.old board (bytes_in text.now) }
     ensures table_after { table.new ≡ ruled_table table.old board (bytes_in text.now) }
 {
-    let mut room = [0u8; 256];
+    let mut room = [0u8; ROOM];
     let size = emit(text, &mut room);
-    add_rule(board, table, &room[..size])
-}
-
-// Adds the rule of any text: bytes that do not fit are not looked at.
-fn add_long(board: Board, table: &mut [i16], text: &[u8]) -> Addition
-    requires { is_good (whole_text text.now) ≡ true }
-    ensures value { result ≡ ruled table.old board (bytes_in text.now) }
-    ensures table_after { table.new ≡ ruled_table table.old board (bytes_in text.now) }
-{
-    let mut room = [0u8; 98304];
-    let size = emit(text, &mut room);
-    let kept = if size < ENOUGH { size } else { ENOUGH };
+    let kept = size.min(ROOM);
     add_rule(board, table, &room[..kept])
 }
 
@@ -45,9 +36,10 @@ fn add_formula(board: Board, table: &mut [i16], text: &[u8]) -> Addition
     ensures table_after { table.new ≡ ruled_table table.old board (bytes_in text.now) }
 {
     if text.len() <= SHORT {
-        return add_short(board, table, text);
+        add_in_room::<256>(board, table, text)
+    } else {
+        add_in_room::<ENOUGH>(board, table, text)
     }
-    add_long(board, table, text)
 }
 
 // Adds a rule from text. The board is tested here only where the text breaks the form: adding the bytes tests it too.

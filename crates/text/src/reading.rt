@@ -1,6 +1,6 @@
 // A text read to the bytes of its formula.
 
-ghost use Rattle.std.specs.Prelude.{◌≡◌, true, ◌≤◌, length};
+ghost use Rattle.std.specs.Prelude.{◌≡◌, true, ◌*◌, ◌≤◌, min, length};
 ghost use Rattle.formula.specs.Answers.{is_good, read_of};
 ghost use Rattle.chains.specs.Form.{whole_text};
 ghost use Rattle.text.specs.Reading.{read_in, read_text_answer, read_text_bytes};
@@ -20,24 +20,16 @@ pub const SHORT: usize = 128;
 // The first bytes of a formula that are enough to read it: what is not too deep has fewer.
 pub const ENOUGH: usize = 98304;
 
-// What the byte reader answers of a short text's bytes.
-fn judge_short(text: &[u8], symbols: usize) -> Result<usize, Break>
-    requires { (length text.now ≤ 128) × (is_good (whole_text text.now) ≡ true) }
+// What the byte reader answers of a text's bytes, written into a buffer of this size: it holds them all, or as many as are enough to
+// read, and the bytes that do not fit are not looked at.
+fn judge_in_room<const ROOM: usize>(text: &[u8], symbols: usize) -> Result<usize, Break>
+    requires keeps { is_good (whole_text text.now) ≡ true }
+    requires room { (min (2 * length text.now) 98304 ≤ ROOM) × (ROOM ≤ 98304) }
     ensures { result ≡ read_of (read_in symbols text.now) }
 {
-    let mut room = [0u8; 256];
+    let mut room = [0u8; ROOM];
     let size = emit(text, &mut room);
-    read_whole(&room[..size], symbols)
-}
-
-// And of any text's: bytes that do not fit are not looked at.
-fn judge_long(text: &[u8], symbols: usize) -> Result<usize, Break>
-    requires { is_good (whole_text text.now) ≡ true }
-    ensures { result ≡ read_of (read_in symbols text.now) }
-{
-    let mut room = [0u8; 98304];
-    let size = emit(text, &mut room);
-    let kept = if size < ENOUGH { size } else { ENOUGH };
+    let kept = size.min(ROOM);
     read_whole(&room[..kept], symbols)
 }
 
@@ -46,9 +38,10 @@ fn judge(text: &[u8], symbols: usize) -> Result<usize, Break>
     ensures { result ≡ read_of (read_in symbols text.now) }
 {
     if text.len() <= SHORT {
-        return judge_short(text, symbols);
+        judge_in_room::<256>(text, symbols)
+    } else {
+        judge_in_room::<ENOUGH>(text, symbols)
     }
-    judge_long(text, symbols)
 }
 
 // Writes the bytes of the formula that a text says, and nothing where they do not fit.
