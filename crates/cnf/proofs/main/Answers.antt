@@ -4,11 +4,11 @@ use Rattle.cnf.proofs.Within.{Fits, Within, made_within}
 use Rattle.cnf.proofs.main.Goals as goal
 
 pub slice_bounds-out-end : goal.slice_bounds-out-end
-slice_bounds-out-end c = subst (Fits _) c.in-Text.is (subst Within (sym c.rewrite.ensures) (made_within _ _ _))
+slice_bounds-out-end c = subst (Fits _) c.in-Ok.is (subst Within (sym c.rewrite.ensures) (made_within _ _ _))
 
-pub slice_bounds-write_all-end-in-Text : goal.slice_bounds-write_all-end-in-Text
-slice_bounds-write_all-end-in-Text c =
-    sym (length-take-le _ _ (subst (Fits _) c.in-Text.is (subst Within (sym c.rewrite.ensures) (made_within _ _ _))))
+pub slice_bounds-write_all-end-in-Ok : goal.slice_bounds-write_all-end-in-Ok
+slice_bounds-write_all-end-in-Ok c =
+    sym (length-take-le _ _ (subst (Fits _) c.in-Ok.is (subst Within (sym c.rewrite.ensures) (made_within _ _ _))))
 
 pub say_refusal-requires : goal.say_refusal-requires
-say_refusal-requires c = subst (Fits _) c.in-Refused.is (subst Within (sym c.rewrite.ensures) (made_within _ _ _))
+say_refusal-requires c = subst (Fits _) c.in-Err-Refused.is (subst Within (sym c.rewrite.ensures) (made_within _ _ _))
