@@ -1,5 +1,6 @@
 -- What the program makes of a text, step by step: by the header, by the reading and by the writing.
-use Rattle.meaning.proofs.Kit.{◌≡◌, ◌∙◌, List, ℕ, ℤ, Ok, Err}
+use Rattle.meaning.proofs.Kit.{◌≡◌, ◌∙◌, List, ℕ, ℤ}
+use Rattle.std.proofs.Common.{Ok, Err}
 use Rattle.literals.specs.declared.refusal.Refusal.{Refusal}
 use Rattle.literals.specs.declared.refusal.Refusal.TheVariants.{BadText}
 use Rattle.board.specs.Changes.{opened}

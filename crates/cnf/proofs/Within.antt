@@ -1,5 +1,6 @@
 -- A text that is made lies within the bytes lent, and no more clauses come before one at fault than a header can count.
-use Rattle.meaning.proofs.Kit.{List, ◌≤◌, ℕ, ◌<◌, arith, ℤ, length, drop, length-append, Result, Ok, Err}
+use Rattle.meaning.proofs.Kit.{List, ◌≤◌, ℕ, ◌<◌, arith, ℤ, length, drop, length-append}
+use Rattle.std.proofs.Common.{Result, Ok, Err}
 use Rattle.literals.specs.declared.refusal.Refusal.{Refusal}
 use Rattle.board.specs.Faults.{if_done}
 use Rattle.board.specs.Changes.{opened}
