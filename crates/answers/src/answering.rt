@@ -5,7 +5,7 @@ ghost use Rattle.names.specs.Names.{table_length};
 ghost use Rattle.orders.specs.Lines.{most_bytes};
 ghost use Rattle.saying.specs.Limits.{kept_length};
 
-use crate::choosing::{least_line, sets_line};
+use crate::choosing::{Fault, least_line, sets_line};
 use crate::{asking, table, tree};
 use literals::refusal::Refusal;
 use names::naming::{run, slot_of};
@@ -152,23 +152,20 @@ fn say_done(
 
 // ---- lines that ask
 
-// One literal and no word more, or the word at fault.
-#[derive(Clone, Copy)]
-enum Asked {
-    Of(i16),
-    Not(Slip, usize),
-}
-
-fn sole_literal(names: &[u8], line: &[u8]) -> Asked
+// One literal and no word more.
+fn sole_literal(names: &[u8], line: &[u8]) -> Result<i16, Fault>
     requires { length names.now ≡ table_length }
 {
     match literal_in(names, word(line, 1)) {
-        Literal::Not(slip) => Asked::Not(slip, 1),
+        Literal::Not(slip) => Err(Fault { slip, word: 1 }),
         Literal::Of(l) => {
             if !ends_at(line, 2) {
-                return Asked::Not(Slip::WordTooMany, 2);
+                return Err(Fault {
+                    slip: Slip::WordTooMany,
+                    word: 2,
+                });
             }
-            Asked::Of(l)
+            Ok(l)
         }
     }
 }
@@ -187,8 +184,8 @@ fn answer_literal(
     requires { (length names.now ≡ table_length) × (length texts.now ≡ kept_length) }
 {
     match sole_literal(names, line) {
-        Asked::Not(slip, k) => show_slip(rt, line, echo, slip, k),
-        Asked::Of(l) => match order {
+        Err(fault) => show_slip(rt, line, echo, fault.slip, fault.word),
+        Ok(l) => match order {
             Order::Why => tree::why(rt, desk, table, names, texts, l),
             Order::Ground => asking::ground(rt, desk, table, names, l),
             _ => asking::ask(rt, desk, table, names, l),

@@ -1,6 +1,6 @@
 // Lines that ask of one literal, of the marks and of the readings to blame.
 
-ghost use Rattle.std.specs.Prelude.{◌≡◌, ◌<◌, length};
+ghost use Rattle.std.specs.Prelude.{◌≡◌, ◌≢◌, ◌/◌, ◌<◌, length};
 ghost use Rattle.names.specs.Names.{table_length};
 
 use board::Outcome;
@@ -39,14 +39,12 @@ fn say_marked(rt: &impl Print, names: &[u8], marks: &[u8]) -> io::Result<()>
     requires { length names.now ≡ table_length }
 {
     let mut count = 0;
-    let mut p = 0;
-    while p < marks.len() {
-        if marks[p] != 0 {
+    for (p, mark) in marks.iter().enumerate() {
+        if *mark != 0 {
             say_comma(rt, count)?;
             say_place(rt, names, p)?;
             count += 1;
         }
-        p += 1;
     }
     if count == 0 {
         say(rt, b"the rules alone")?;
@@ -109,6 +107,14 @@ pub fn say_derived(rt: &impl Print, names: &[u8], l: i16) -> io::Result<()>
     say(rt, b" stands")
 }
 
+// The place of the opposite of a place's literal.
+pub fn opposite_place(p: usize) -> usize
+    requires { p < 400 }
+    ensures { (result < 400) × (result / 2 ≡ p / 2) × (result ≢ p) }
+{
+    if p % 2 == 0 { p + 1 } else { p - 1 }
+}
+
 // The mark of a derived literal, by its place.
 fn say_mark(
     rt: &impl Print,
@@ -134,18 +140,14 @@ fn say_mark(
 fn say_marks(rt: &impl Print, desk: Desk, names: &[u8], ranks: &[u16]) -> io::Result<()>
     requires { (length names.now ≡ table_length) × (length ranks.now ≡ 400) }
 {
-    let mut none = true;
-    let mut p = 0;
-    while p < 400 {
-        if ranks[p] != NO_RANK {
-            let opposite = if p % 2 == 0 { p + 1 } else { p - 1 };
-            say_mark(rt, desk, names, p, ranks[p], ranks[opposite] != NO_RANK)?;
-            none = false;
-        }
-        p += 1;
+    if ranks.iter().all(|rank| *rank == NO_RANK) {
+        return say(rt, b"  nothing stands, nothing is ruled out\n");
     }
-    if none {
-        say(rt, b"  nothing stands, nothing is ruled out\n")?;
+    for (p, rank) in ranks.iter().enumerate() {
+        if *rank != NO_RANK {
+            let opposed = ranks[opposite_place(p)] != NO_RANK;
+            say_mark(rt, desk, names, p, *rank, opposed)?;
+        }
     }
     Ok(())
 }

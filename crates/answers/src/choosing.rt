@@ -1,8 +1,7 @@
 // Lines that choose among literals: the smallest sets that carry one, and the least to drop.
 
-ghost use Rattle.std.specs.Prelude.{◌≡◌, ◌≤◌, length};
+ghost use Rattle.std.specs.Prelude.{◌≡◌, ◌≤◌, length, IfOk};
 ghost use Rattle.names.specs.Names.{table_length};
-ghost use Rattle.answers.specs.Choices.{Few};
 
 use board::Outcome;
 use candidates::sets::has;
@@ -15,34 +14,36 @@ use saying::premises::{is_held, literal_of};
 use saying::showing::{refuse, show_slip};
 use std::io;
 
-// The most literals that are given: as many as a furnace can hold, which is more than a line has words.
-const MOST_GIVEN: usize = 400;
-
-// The literals of a line, counted, or the word that is none.
+// A word of a line that is at fault, and what is wrong with it.
 #[derive(Clone, Copy)]
-enum Given {
-    Count(usize),
-    Not(Slip, usize),
+pub struct Fault {
+    pub slip: Slip,
+    pub word: usize,
 }
 
-// Reads the literals of a line from a word on.
-fn gather(names: &[u8], line: &[u8], from: usize, given: &mut [i16]) -> Given
+// Reads the literals of a line from a word on, and answers how many there are. There is room for as many as a furnace can hold, which is more than a
+// line has words.
+fn gather(names: &[u8], line: &[u8], from: usize, given: &mut [i16]) -> Result<usize, Fault>
     requires { (length names.now ≡ table_length) × (length given.old ≡ 400) × (from ≤ 2) }
-    ensures { Few result }
+    ensures { IfOk result (λ n. n ≤ 400) }
 {
-    let mut count = 0;
-    while count < MOST_GIVEN && !ends_at(line, from + count) {
-        match literal_in(names, word(line, from + count)) {
+    for (k, place) in given.iter_mut().enumerate() {
+        if ends_at(line, from + k) {
+            return Ok(k);
+        }
+        match literal_in(names, word(line, from + k)) {
             Literal::Not(slip) => {
-                return Given::Not(slip, from + count);
+                return Err(Fault {
+                    slip,
+                    word: from + k,
+                });
             }
             Literal::Of(l) => {
-                given[count] = l;
+                *place = l;
             }
         }
-        count += 1;
     }
-    Given::Count(count)
+    Ok(given.len())
 }
 
 // All that the furnace holds.
@@ -51,14 +52,12 @@ fn gather_held(desk: Desk, given: &mut [i16]) -> usize
     ensures { result ≤ 400 }
 {
     let mut count = 0;
-    let mut p = 0;
-    while p < 400 {
+    for p in 0..400 {
         let l = literal_of(p);
         if is_held(desk, l) {
             given[count] = l;
             count += 1;
         }
-        p += 1;
     }
     count
 }
@@ -68,14 +67,12 @@ fn say_set(rt: &impl Print, names: &[u8], given: &[i16], set: u16, none: &[u8]) 
     requires { length names.now ≡ table_length }
 {
     let mut count = 0;
-    let mut i = 0;
-    while i < given.len() && i < 16 {
-        if has(set as usize, i) {
+    for (i, l) in given.iter().enumerate() {
+        if i < 16 && has(set as usize, i) {
             say_comma(rt, count)?;
-            say_literal(rt, names, given[i])?;
+            say_literal(rt, names, *l)?;
             count += 1;
         }
-        i += 1;
     }
     if count == 0 {
         say(rt, none)?;
@@ -128,8 +125,8 @@ pub fn least_line(
         return say_least(rt, desk, table, names, &given[..count]);
     }
     match gather(names, line, 1, &mut given) {
-        Given::Not(slip, k) => show_slip(rt, line, echo, slip, k),
-        Given::Count(count) => say_least(rt, desk, table, names, &given[..count]),
+        Err(fault) => show_slip(rt, line, echo, fault.slip, fault.word),
+        Ok(count) => say_least(rt, desk, table, names, &given[..count]),
     }
 }
 
@@ -137,15 +134,13 @@ pub fn least_line(
 fn say_sets(rt: &impl Print, names: &[u8], given: &[i16], l: i16, sets: &[u16]) -> io::Result<()>
     requires { length names.now ≡ table_length }
 {
-    let mut k = 0;
-    while k < sets.len() {
+    for set in sets {
         say(rt, b"  ")?;
         say_literal(rt, names, l)?;
         say(rt, b" by ")?;
-        say_set(rt, names, given, sets[k], b"the rules alone")?;
-        k += 1;
+        say_set(rt, names, given, *set, b"the rules alone")?;
     }
-    if k == 0 {
+    if sets.is_empty() {
         say(rt, b"  ")?;
         say_literal(rt, names, l)?;
         say(rt, b" by no set of these\n")?;
@@ -192,8 +187,8 @@ pub fn sets_line(
     match literal_in(names, word(line, 1)) {
         Literal::Not(slip) => show_slip(rt, line, echo, slip, 1),
         Literal::Of(l) => match gather(names, line, 2, &mut given) {
-            Given::Not(slip, k) => show_slip(rt, line, echo, slip, k),
-            Given::Count(count) => list_sets(rt, desk, table, names, &given[..count], l),
+            Err(fault) => show_slip(rt, line, echo, fault.slip, fault.word),
+            Ok(count) => list_sets(rt, desk, table, names, &given[..count], l),
         },
     }
 }

@@ -18,13 +18,11 @@ use std::io;
 fn say_alternatives(rt: &impl Print, names: &[u8], part: &[i16]) -> io::Result<()>
     requires { length names.now ≡ table_length }
 {
-    let mut k = 0;
-    while k < part.len() {
+    for (k, l) in part.iter().enumerate() {
         if 0 < k {
             say(rt, b" | ")?;
         }
-        say_literal(rt, names, part[k])?;
-        k += 1;
+        say_literal(rt, names, *l)?;
     }
     say(rt, b"\n")
 }
@@ -50,10 +48,8 @@ fn say_rows(rt: &impl Print, table: &[i16], names: &[u8], rows: usize) -> io::Re
     if rows == 0 {
         return say(rt, b"  no row\n");
     }
-    let mut row = 0;
-    while row < rows {
+    for row in 0..rows {
         say_row(rt, table, names, row)?;
-        row += 1;
     }
     Ok(())
 }

@@ -4,7 +4,7 @@ ghost use Rattle.std.specs.Prelude.{◌≡◌, ◌<◌, ◌≤◌, length};
 ghost use Rattle.names.specs.Names.{table_length};
 ghost use Rattle.saying.specs.Limits.{kept_length};
 
-use crate::asking::say_derived;
+use crate::asking::{opposite_place, say_derived};
 use board::Outcome;
 use board::testing::Placed;
 use literals::refusal::Refusal;
@@ -78,12 +78,9 @@ fn put_below(row: &[i16], l: i16, depth: usize, waiting: &mut [u32], count: usiz
     ensures { result ≤ 2816 }
 {
     let mut next = count;
-    let mut k = row.len();
-    while 0 < k {
-        k -= 1;
-        let other = row[k];
-        if other != l && next < MOST_LINES && literals::in_range(other, 200) {
-            waiting[next] = waiting_at(depth, literals::place(literals::opposite(other)));
+    for other in row.iter().rev() {
+        if *other != l && next < MOST_LINES && literals::in_range(*other, 200) {
+            waiting[next] = waiting_at(depth, literals::place(literals::opposite(*other)));
             next += 1;
         }
     }
@@ -107,6 +104,7 @@ fn say_tree(
     waiting[0] = waiting_at(0, root);
     let mut count = 1;
     let mut left = MOST_LINES;
+    // A while: it goes by a stack, on which each line that is shown may put more.
     while 0 < count && 0 < left {
         left -= 1;
         count -= 1;
@@ -149,7 +147,7 @@ fn say_why(
     if is_derived(desk, table, literal_of(p)) {
         return say_tree(rt, desk, table, names, texts, p);
     }
-    let opposite = if p % 2 == 0 { p + 1 } else { p - 1 };
+    let opposite = opposite_place(p);
     if is_derived(desk, table, literal_of(opposite)) {
         return say_tree(rt, desk, table, names, texts, opposite);
     }

@@ -1,12 +1,12 @@
 -- A text that is made lies within the bytes lent, and no more clauses come before one at fault than a header can count.
 use Rattle.meaning.proofs.Kit.{List, ◌≤◌, ℕ, ◌<◌, arith, ℤ, length, drop, length-append}
+use Rattle.std.proofs.Common.{Result, Ok, Err}
 use Rattle.literals.specs.declared.refusal.Refusal.{Refusal}
 use Rattle.board.specs.Faults.{if_done}
 use Rattle.board.specs.Changes.{opened}
 use Rattle.board.specs.Settling.{over}
 use Rattle.board.specs.declared.Board.{Board}
 use Rattle.board.specs.Faults.{Outcome}
-use Rattle.std.specs.Prelude.{Ok, Err}
 use Rattle.dimacs.specs.Words.{beyond}
 use Rattle.dimacs.specs.Form.{header_in, header_line}
 use Rattle.dimacs.specs.Reading.{read_answer, read_table}
@@ -15,14 +15,14 @@ use Rattle.dimacs.specs.declared.header.Counts.{Counts}
 use Rattle.std.proofs.Common.{Option, None, Some}
 use Rattle.dimacs.proofs.ClauseCount.{told_few}
 use Rattle.cnf.specs.Rewriting.{Made, made, made_by, read_made, rows_made}
-use Rattle.cnf.specs.declared.Rewritten.{Rewritten}
-use Rattle.cnf.specs.declared.Rewritten.TheVariants.{Text, NoBoard, Refused as NotMade}
+use Rattle.cnf.specs.declared.Fault.{Fault}
+use Rattle.cnf.specs.declared.Fault.TheVariants.{NoBoard, Refused as NotMade}
 
 -- a text has at most so many bytes; and few clauses are told
-abbrev pub Fits : ℕ → Rewritten → Type 0
-Fits room (Text bytes) = bytes ≤ room
-Fits room (NoBoard variables) = Unit {0}
-Fits room (NotMade why clauses) = clauses < beyond
+abbrev pub Fits : ℕ → Result ℕ Fault → Type 0
+Fits room (Ok bytes) = bytes ≤ room
+Fits room (Err (NoBoard variables)) = Unit {0}
+Fits room (Err (NotMade why clauses)) = clauses < beyond
 
 abbrev pub Within : Made → Type 0
 Within m = Fits (length m.out) m.answer
@@ -32,7 +32,7 @@ unfolding rows_made write_answer write_bytes
 rows_within table b out = go (write_outcome table b out)
   where
     go : (o : Outcome)
-        → Fits (length (over o (text_on table b) out)) (if_done o (Text (if_done o (length (text_on table b)) (λ _. 0))) (λ why. NotMade why 0))
+        → Fits (length (over o (text_on table b) out)) (if_done o (Ok (if_done o (length (text_on table b)) (λ _. 0))) (λ why. Err (NotMade why 0)))
     go (Ok _) = omega (arith, length-append (text_on table b) (drop (length (text_on table b)) out))
     go (Err why) = omega arith
 

@@ -2,63 +2,63 @@
 // is said in a line on standard error.
 #![tactic(auto)]
 
-ghost use Rattle.std.specs.Prelude.{◌≡◌, ◌+◌, ◌<◌, ◌≤◌, length, IfOk};
+ghost use Rattle.std.specs.Prelude.{◌≡◌, ◌+◌, ◌<◌, ◌≤◌, length};
 ghost use Rattle.dimacs.specs.Words.{beyond};
 ghost use Rattle.cnf.specs.Rewriting.{made, read_made, rows_made};
 
-use board::{Board, Outcome};
+use board::Board;
+use input::read_full;
 use literals::refusal::Refusal;
 use std::io;
-use std::io::{Read, Stderr};
+use std::io::Stderr;
 
 // The most bytes of input that are taken.
 const MOST_INPUT: usize = 262144;
 
-// What a text comes to: how many bytes its rows take as text; or that no board has so many symbols as its header counts variables; or why it is
-// refused, and how many clauses come before the first at fault.
+// Why a text is not rewritten: no board has so many symbols as its header counts variables; or a refusal, and how many clauses come before the first
+// at fault.
 #[derive(Clone, Copy)]
-enum Rewritten {
-    Text(usize),
+enum Fault {
     NoBoard(usize),
     Refused(Refusal, usize),
 }
 
-// Writes the rows of a board as text.
-fn write_rows(board: Board, table: &[i16], out: &mut [u8]) -> Rewritten
+// Writes the rows of a board as text, and answers how many bytes it has.
+fn write_rows(board: Board, table: &[i16], out: &mut [u8]) -> Result<usize, Fault>
     ensures { record { answer = result; out = out.new } ≡ rows_made table.now board out.old }
 {
     let writing = dimacs::writing::write(board, table, out);
     let outcome = writing.outcome;
     match outcome {
-        Ok(()) => Rewritten::Text(writing.bytes),
-        Err(why) => Rewritten::Refused(why, 0),
+        Ok(()) => Ok(writing.bytes),
+        Err(why) => Err(Fault::Refused(why, 0)),
     }
 }
 
 // Reads a text onto a board, and writes its rows.
-fn rewrite_on(board: Board, table: &mut [i16], text: &[u8], out: &mut [u8]) -> Rewritten
+fn rewrite_on(board: Board, table: &mut [i16], text: &[u8], out: &mut [u8]) -> Result<usize, Fault>
     ensures { record { answer = result; out = out.new } ≡ read_made table.old board text.now out.old }
 {
     let reading = dimacs::reading::read(board, table, text);
     let outcome = reading.outcome;
     match outcome {
         Ok(()) => write_rows(reading.board, table, out),
-        Err(why) => Rewritten::Refused(why, reading.clauses),
+        Err(why) => Err(Fault::Refused(why, reading.clauses)),
     }
 }
 
 // Reads a text onto a board of the header's variables, and writes its rows.
-fn rewrite(table: &mut [i16], text: &[u8], out: &mut [u8]) -> Rewritten
+fn rewrite(table: &mut [i16], text: &[u8], out: &mut [u8]) -> Result<usize, Fault>
     ensures { record { answer = result; out = out.new } ≡ made table.old text.now out.old }
 {
     match dimacs::header::header(text) {
-        None => Rewritten::Refused(Refusal::BadText, 0),
+        None => Err(Fault::Refused(Refusal::BadText, 0)),
         Some(counts) => {
             let change = board::changes::open(counts.variables);
             let outcome = change.outcome;
             match outcome {
                 Ok(()) => rewrite_on(change.board, table, text, out),
-                Err(_) => Rewritten::NoBoard(counts.variables),
+                Err(_) => Err(Fault::NoBoard(counts.variables)),
             }
         }
     }
@@ -110,21 +110,6 @@ fn say_refusal(err: Stderr, why: Refusal, before: usize) -> io::Result<()>
     }
 }
 
-// Fills the buffer as far as the input goes, and answers how many bytes there were.
-fn read_full<R: Read>(from: &mut R, buf: &mut [u8]) -> io::Result<usize>
-    ensures { IfOk result (λ n. n ≤ length buf.new) }
-{
-    let mut done = 0;
-    while done < buf.len() {
-        let n = from.read(&mut buf[done..])?;
-        if n == 0 {
-            break;
-        }
-        done += n;
-    }
-    Ok(done)
-}
-
 fn main(rt: HostRuntime) -> io::Result<()> {
     let mut input = [0u8; 262145];
     let n = read_full(&mut rt.reader(), &mut input)?;
@@ -136,13 +121,13 @@ fn main(rt: HostRuntime) -> io::Result<()> {
     let mut table = [0i16; 18432];
     let mut out = [0u8; 86031];
     match rewrite(&mut table, &input[..n], &mut out) {
-        Rewritten::Text(bytes) => rt.write_all(&out[..bytes]),
-        Rewritten::NoBoard(variables) => say(
+        Ok(bytes) => rt.write_all(&out[..bytes]),
+        Err(Fault::NoBoard(variables)) => say(
             rt.stderr(),
             b"cnf: refused 2: the header counts ",
             variables,
             b" variables, and a board has 1 to 200\n",
         ),
-        Rewritten::Refused(why, before) => say_refusal(rt.stderr(), why, before),
+        Err(Fault::Refused(why, before)) => say_refusal(rt.stderr(), why, before),
     }
 }

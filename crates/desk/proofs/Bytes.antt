@@ -1,13 +1,15 @@
 -- Bytes of the input up to a line feed, taken at once.
 use Rattle.meaning.proofs.Kit.{◌≡◌, ◌∙◌, sym, ap, refl, ⊎_elim, true, false, Bool, cond, List, [], ◌∷◌, ◌++◌, append-nil, append_assoc, ◌≤◌, ℕ, ◌<◌}
-use Rattle.meaning.proofs.Kit.{◌-◌, ◌+◌, suc, zero, min, add-one, arith, eqb, ltb, length, get_or, drop, take, set, length-drop, drop_of_length-le}
-use Rattle.meaning.proofs.Kit.{length-take, length-take-le, drop-cons, take_all, take-suc, drop-drop, take-suc-set, take-length, ne_eqb, eq-eqb}
+use Rattle.meaning.proofs.Kit.{◌-◌, ◌+◌, suc, zero, min, arith, eqb, ltb, length, drop, take, length-drop, drop_of_length-le}
+use Rattle.meaning.proofs.Kit.{length-take, length-take-le, take_all, drop-drop, take-length}
 use Rattle.meaning.proofs.Kit.{eqb-true, ltb-true, lt-ltb, le-ltb, ltb-false}
 use native.Mathlib.Nat.{min-le_left}
 use Rattle.meaning.proofs.Tests.{true_or_false}
 use Rattle.meaning.proofs.Tables.{le_or_lt}
 use lib.Seq.{take-append-add, take-add, take-take}
 use Rattle.std.proofs.lemmas.List.{drop-take}
+use Rattle.std.specs.List.{position_or_len}
+use Rattle.std.proofs.lemmas.List.Recursion.{is_position_or_len}
 use Rattle.desk.specs.Sittings.{Sat, kept, after_byte, after_part, after_bytes, line_length, after_line}
 
 pub length_within : (bytes : List ℕ) → line_length bytes ≤ length bytes
@@ -57,34 +59,16 @@ unfolding line_length
 line_feed [] h = absurd (omega arith)
 line_feed (b ∷ rest) h = ⊎_elim (λ e. rw (e, eqb-true b 10 e)) (λ e. rw e (line_feed rest (omega (arith, rw e at h)))) (true_or_false (eqb b 10))
 
--- the bytes of a line, one after the other
-module _ (bytes : List ℕ) (n : ℕ) where
-  pub length_more : n < length bytes → (get_or bytes n 0 ≡ 10 → ⊥) → n + line_length (drop n bytes) ≡ (n + 1) + line_length (drop (n + 1) bytes)
-  unfolding line_length
-  length_more h e = rw (add-one, drop-cons bytes n 0 h, ne_eqb (get_or bytes n 0) 10 e) (omega arith)
-
-  pub length_stops : n < length bytes → get_or bytes n 0 ≡ 10 → n + line_length (drop n bytes) ≡ n
-  unfolding line_length
-  length_stops h e = rw (drop-cons bytes n 0 h, eq-eqb (get_or bytes n 0) 10 e) (omega arith)
-
-  pub length_all : length bytes ≤ n → n + line_length (drop n bytes) ≡ n
-  unfolding line_length
-  length_all h = rw (drop_of_length-le bytes h) (omega arith)
+-- the place that is looked for is the line's length
+pub line_is : (bytes : List ℕ) → position_or_len (λ b. eqb b 10) bytes ≡ line_length bytes
+unfolding line_length
+line_is bytes =
+    let one : (n : ℕ) → suc n ≡ 1 + n = λ n. omega arith in
+    sym (is_position_or_len line_length (λ b. eqb b 10) refl (λ b rest. ap (cond (eqb b 10) 0) (one (line_length rest))) bytes)
 
 -- ---- a line's bytes behind those that are there
 
 module _ (line₀ bytes : List ℕ) (filled : ℕ) where
-  pub gathered_none : take (filled + 0) line₀ ≡ take filled line₀ ++ take 0 bytes
-  gathered_none = let same : filled + 0 ≡ filled = omega arith in rw (same) (sym (append-nil (take filled line₀)))
-
-  pub gathered_more : (line : List ℕ) (k : ℕ) → filled + k < length line → k < length bytes
-      → take (filled + k) line ≡ take filled line₀ ++ take k bytes
-      → take (filled + (k + 1)) (set line (filled + k) (get_or bytes k 0)) ≡ take filled line₀ ++ take (k + 1) bytes
-  gathered_more line k room here e =
-      let next : filled + (k + 1) ≡ suc (filled + k) = omega arith in
-      rw (next, add-one, take-suc-set line (filled + k) (get_or bytes k 0) room, e, take-suc bytes k 0 here)
-      (append_assoc (take filled line₀) (take k bytes) (get_or bytes k 0 ∷ []))
-
   -- what there is no room for is what is not kept
   cut : (m n : ℕ) → n ≡ min (length bytes) m → take n bytes ≡ take m bytes
   cut m n least =

@@ -1,14 +1,15 @@
 // The bytes of the input as lines, each taken and answered.
 
-ghost use Rattle.std.specs.Prelude.{ℕ, ◌≡◌, ◌++◌, ◌≤◌, min, length, take, IfOk, OnErr};
+ghost use Rattle.std.specs.Prelude.{ℕ, ◌≡◌, ◌++◌, ◌≤◌, length, take, IfOk, OnErr};
 ghost use Rattle.names.specs.Names.{table_length};
 ghost use Rattle.saying.specs.Limits.{kept_length};
-ghost use Rattle.desk.specs.Sittings.{after_bytes, after_end, after_line, after_part, kept, Leaves, line_length, plain_length, sat, starting};
+ghost use Rattle.desk.specs.Sittings.{after_bytes, after_end, after_line, after_part, kept, Leaves, plain_length, sat, starting};
 ghost use Rattle.orders.specs.States.{state_of};
 ghost use Rattle.stack.specs.Stacking.{empty_stack};
 
 use answers::answering::answer;
 use board::Board;
+use input::line_length;
 use orders::Desk;
 use orders::taking::{MOST_BYTES, take};
 use saying::pieces::say_line;
@@ -81,20 +82,6 @@ fn plain_length(line: &[u8]) -> usize
     n
 }
 
-// How many bytes stand before the first line feed, or at all where there is none.
-fn line_length(bytes: &[u8]) -> usize
-    ensures { result ≡ line_length bytes.now }
-{
-    let mut n = 0;
-    while n < bytes.len() {
-        if bytes[n] == b'\n' {
-            return n;
-        }
-        n += 1;
-    }
-    n
-}
-
 fn counted(lines: usize) -> usize {
     if lines < MOST_LINES { lines + 1 } else { lines }
 }
@@ -144,26 +131,16 @@ fn take_line(
     })
 }
 
-// How many of so many bytes there is room for.
-fn fitting(count: usize, room: usize) -> usize
-    ensures { result ≡ min count room }
-{
-    if count < room { count } else { room }
-}
-
 // Puts bytes behind those of a line, as many as there is room for. Answers how many the line has then.
 fn gather(line: &mut [u8], filled: usize, bytes: &[u8]) -> usize
     requires { (length line.old ≡ 502) × (filled ≤ 502) }
     ensures line_after { take result line.new ≡ kept (take filled line.old ++ bytes.now) }
     ensures upper_bound { result ≤ 502 }
 {
-    let n = fitting(bytes.len(), ROOM - filled);
-    let mut k = 0;
-    while k < n {
-        line[filled + k] = bytes[k];
-        k += 1;
-    }
-    filled + n
+    let n = bytes.len().min(ROOM - filled);
+    let end = filled + n;
+    line[filled..end].copy_from_slice(&bytes[..n]);
+    end
 }
 
 // Takes and answers the line in the buffer.
@@ -233,6 +210,7 @@ pub fn take_bytes(
 {
     let mut here = sitting;
     let mut at = 0;
+    // A while: the next line begins where this one ends.
     while at < bytes.len() {
         let end = at + line_length(&bytes[at..]);
         here = take_part(

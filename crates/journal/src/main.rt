@@ -1,14 +1,15 @@
 // The journal: commands on standard input, a line for each on standard output.
 #![tactic(auto)]
 
-ghost use Rattle.std.specs.Prelude.{◌+◌, ◌≤◌, ◌<◌, ◌≡◌, true, length, IfOk, OnOk};
+ghost use Rattle.std.specs.Prelude.{◌+◌, ◌≤◌, ◌<◌, ◌≡◌, true, length, OnOk};
 ghost use Rattle.std.specs.Io.KnownBytes.{Appends};
 ghost use Rattle.journal.specs.Promises.{all_lines};
 ghost use Rattle.journal.specs.Told.{left, more, Runs, starting, told};
 
 use board::Board;
+use input::read_full;
 use std::io;
-use std::io::{Read, Write};
+use std::io::Write;
 
 // The most bytes of input that are taken.
 const MOST_INPUT: usize = 32768;
@@ -51,11 +52,7 @@ fn start() -> Run
 fn goes_on(run: Run, input: &[u8]) -> bool
     ensures { result ≡ more run input.now }
 {
-    if run.stops {
-        false
-    } else {
-        run.next < input.len()
-    }
+    !run.stops && run.next < input.len()
 }
 
 // Carries out one command, and puts its line into the buffer.
@@ -91,6 +88,7 @@ fn fill(run: Run, table: &mut [i16], input: &[u8], out: &mut [u8]) -> Run
     ensures next_lt_next { (run.next < result.next) × Runs result input.now × (result.filled ≤ length out.new) }
 {
     let mut here = advance(Run { filled: 0, ..run }, table, input, out);
+    // A while: a command tells where the next one stands, and whether one follows.
     while goes_on(here, input) && here.filled + LINE <= out.len() {
         here = advance(here, table, input, out);
     }
@@ -103,6 +101,7 @@ fn journal<W: Write>(to: &mut W, table: &mut [i16], input: &[u8]) -> io::Result<
 {
     let mut out = [0u8; 4096];
     let mut run = start();
+    // A while: a buffer is filled with as many commands as their lines leave room for.
     while goes_on(run, input) {
         run = fill(run, table, input, &mut out);
         to.write_all(&out[..run.filled])?;
@@ -110,21 +109,7 @@ fn journal<W: Write>(to: &mut W, table: &mut [i16], input: &[u8]) -> io::Result<
     Ok(())
 }
 
-// Fills the buffer as far as the input goes, and answers how many bytes there were.
-fn read_full<R: Read>(from: &mut R, buf: &mut [u8]) -> io::Result<usize>
-    ensures { IfOk result (λ n. n ≤ length buf.new) }
-{
-    let mut done = 0;
-    while done < buf.len() {
-        let n = from.read(&mut buf[done..])?;
-        if n == 0 {
-            break;
-        }
-        done += n;
-    }
-    Ok(done)
-}
-
+// Reads the input, and carries out its commands.
 fn main(rt: HostRuntime) -> io::Result<()> {
     let mut input = [0u8; 32769];
     let n = read_full(&mut rt.reader(), &mut input)?;

@@ -44,11 +44,9 @@ fn board_of<'a>(
         first: [false; 400],
         second: [false; 400],
     };
-    let mut k = 0;
-    while k < 400 {
+    for k in 0..400 {
         board.first[k] = first[k] != 0;
         board.second[k] = second[k] != 0;
-        k += 1;
     }
     board
 }
@@ -77,11 +75,9 @@ fn panel_of<'a>(
         first: [0; 400],
         second: [0; 400],
     };
-    let mut k = 0;
-    while k < 400 {
+    for k in 0..400 {
         out.first[k] = first[k] as u8;
         out.second[k] = second[k] as u8;
-        k += 1;
     }
     out
 }

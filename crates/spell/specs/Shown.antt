@@ -1,7 +1,6 @@
--- What is shown of a line: its bytes in hex, its rows as text, and the line again.
-use Rattle.std.specs.Prelude.{ℕ, suc, ◌+◌, ◌-◌, ◌/◌, ◌%◌, Bool, cond, ◌||◌, List, [], ◌∷◌, ◌++◌, leb, ltb, ℤ}
+-- What is shown of a line: its bytes in hex, as many of them as fit, and what breaks the form.
+use Rattle.std.specs.Prelude.{ℕ, suc, ◌+◌, ◌-◌, ◌/◌, ◌%◌, Bool, cond, List, [], ◌∷◌, leb, ltb}
 use Rattle.formula.specs.Answers.{extent, read_of}
-use Rattle.spelling.specs.Text.{literal}
 use Rattle.chains.specs.Form.{chain_at, most_open}
 
 -- a hex digit, in small letters
@@ -12,15 +11,6 @@ hex_digit n = cond (ltb n 10) (48 + n) (97 + (n - 10))
 unfoldable pub hex_spaced : List ℕ → List ℕ
 hex_spaced [] = []
 hex_spaced (b ∷ rest) = 32 ∷ hex_digit (b / 16) ∷ hex_digit (b % 16) ∷ hex_spaced rest
-
--- literals, a bar before each
-unfoldable pub barred : List ℤ → List ℕ
-barred [] = []
-barred (l ∷ ls) = 124 ∷ (literal l ++ barred ls)
-
--- a byte as it is, or `?` where it does not print
-abbrev pub shown_byte : ℕ → ℕ
-shown_byte c = cond (ltb c 32 || ltb 126 c) 63 c
 
 -- how many bytes are shown where one is at fault: all where they fit on a screen of 80 columns, else those up to the one at fault
 abbrev pub shown_of : (count place : ℕ) → ℕ

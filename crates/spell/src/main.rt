@@ -7,29 +7,13 @@ mod pieces;
 mod sentences;
 mod showing;
 
-ghost use Rattle.std.specs.Prelude.{ℕ, ◌+◌, ◌*◌, ◌<◌, ◌≤◌, ◌≡◌, length, get_or, IfOk};
+ghost use Rattle.std.specs.Prelude.{◌+◌, ◌*◌, ◌≤◌, length};
 
+use input::{line_length, read_full};
 use std::io;
-use std::io::Read;
 
 // The most bytes of input that are taken.
 const MOST_INPUT: usize = 32768;
-
-// How many bytes stand before the first line feed, or at all where there is none.
-fn line_length(rest: &[u8]) -> usize
-    ensures within { result ≤ length rest.now }
-    ensures before { (k : ℕ) → k < result → get_or rest.now k 0 ≡ 10 → ⊥ }
-    ensures found { result < length rest.now → get_or rest.now result 0 ≡ 10 }
-{
-    let mut n = 0;
-    while n < rest.len() {
-        if rest[n] == b'\n' {
-            return n;
-        }
-        n += 1;
-    }
-    n
-}
 
 // Answers each line, with an empty line between two answers. The buffers are for one line's rows, its bytes and what is shown of it.
 fn answer_lines(
@@ -42,6 +26,7 @@ fn answer_lines(
     requires { (2 * length input.now ≤ length bytes.old) × (6 * length input.now + 4 ≤ length page.old) }
 {
     let mut at = 0;
+    // A while: the next line begins where this one ends.
     while at < input.len() {
         if 0 < at {
             sentences::say(rt, b"\n")?;
@@ -51,21 +36,6 @@ fn answer_lines(
         at = end + 1;
     }
     Ok(())
-}
-
-// Fills the buffer as far as the input goes, and answers how many bytes there were.
-fn read_full<R: Read>(from: &mut R, buf: &mut [u8]) -> io::Result<usize>
-    ensures { IfOk result (λ n. n ≤ length buf.new) }
-{
-    let mut done = 0;
-    while done < buf.len() {
-        let n = from.read(&mut buf[done..])?;
-        if n == 0 {
-            break;
-        }
-        done += n;
-    }
-    Ok(done)
 }
 
 // Reads the input, and answers its lines. No input at all asks for help.

@@ -4,9 +4,9 @@ ghost use Rattle.std.specs.Prelude.{◌≡◌, ◌+◌, ◌*◌, ◌<◌, ◌≤
 ghost use Rattle.literals.specs.Row.{width};
 ghost use Rattle.spell.specs.Shown.{shown_of};
 
-use crate::pieces::{put_barred, put_blanks, put_hex, put_line};
+use crate::pieces::{put_blanks, put_hex};
 use literals::WIDTH;
-use spelling::put_word;
+use spelling::{put_marked, put_shown, put_word};
 use std::io;
 
 // So many bytes in hex fit on a screen of 80 columns.
@@ -16,7 +16,7 @@ const SCREEN: usize = 26;
 pub fn show_line(rt: &impl Print, page: &mut [u8], line: &[u8]) -> io::Result<()>
     requires { length line.now + 1 ≤ length page.old }
 {
-    let mid = put_line(page, 0, line);
+    let mid = put_shown(page, 0, line);
     let end = put_word(page, mid, b"\n");
     rt.write_all(&page[..end])
 }
@@ -77,7 +77,7 @@ fn show_row(rt: &impl Print, part: &[i16]) -> io::Result<()>
     requires { length part.now ≤ 8 }
 {
     let mut line = [0u8; 64];
-    let mid = put_barred(&mut line, 0, part);
+    let mid = put_marked(&mut line, 0, b'|', part);
     let end = put_word(&mut line, mid, b"\n");
     rt.write_all(&line[1..end])
 }
@@ -86,12 +86,10 @@ fn show_row(rt: &impl Print, part: &[i16]) -> io::Result<()>
 pub fn show_rows(rt: &impl Print, table: &[i16], rows: usize) -> io::Result<()>
     requires { width * rows ≤ length table.now }
 {
-    let mut row = 0;
-    while row < rows {
+    for row in 0..rows {
         let at = WIDTH * row;
         let n = literals::literal_count(table, at);
         show_row(rt, &table[at..at + n])?;
-        row += 1;
     }
     Ok(())
 }

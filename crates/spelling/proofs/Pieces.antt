@@ -1,12 +1,12 @@
 -- Decimal numbers, digit by digit, and pieces of a line one after the other.
 use Rattle.meaning.proofs.Kit.{◌≡◌, ◌∙◌, sym, ap, refl, subst, true, false, Bool, List, [], ◌∷◌, ◌++◌, append-nil, append_assoc, ◌≤◌, ℕ, ◌<◌, ◌+◌}
-use Rattle.meaning.proofs.Kit.{suc, ◌*◌, zero, ◌/◌, ◌%◌, add-one, arith, ltb, T, ℤ, pos, nat_abs, negsuc, lt_z, length, get_or, take, set, length-append}
+use Rattle.meaning.proofs.Kit.{suc, ◌*◌, zero, ◌/◌, ◌%◌, add-one, arith, ltb, T, ℤ, pos, nat_abs, negsuc, lt_z, length, get_or, take, set, map, length-append}
 use Rattle.meaning.proofs.Kit.{take-suc, take_all, sets-eq, w16, SFits, to_z-of_z, ltb-true, lt-ltb, le-ltb, ltb-false}
 use lib.Seq.{length-sets}
 use Rattle.meaning.proofs.Tables.{sets_append}
 use borrow.Rule.Slice.PartMut.{put_mid}
 use Rattle.std.proofs.lemmas.Slice.{put_mid-paste}
-use Rattle.spelling.specs.Text.{Put, digits_of, literal, literal_list, natural}
+use Rattle.spelling.specs.Text.{Put, digits_of, literal, literal_list, marked, natural, shown}
 use Rattle.literals.proofs.Signed.{back}
 
 -- ---- decimal numbers
@@ -112,18 +112,23 @@ module _ {A : Type 0} (d : A) (one : A → List ℕ) (text : List A → List ℕ
       → Put m r mid (one (get_or xs k d)) next → Put l r at (text (take (k + 1) xs)) next
   each_put xs k h p q = rw (each_next xs k h) (put_put (text (take k xs)) (one (get_or xs k d)) p q)
 
--- ---- lists of literals, a mark before each
+-- ---- literals, a mark before each
 
-pub marked_put : (mark : ℕ) (text : List ℤ → List ℕ) → text [] ≡ [] → ((l : ℤ) (ls : List ℤ) → text (l ∷ ls) ≡ (mark ∷ literal l) ++ text ls)
-    → (ls : List ℤ) (k : ℕ) {l m r : List ℕ} {at mid next : ℕ} → k < length ls → Put l m at (text (take k ls)) mid
-    → Put (set m mid mark) r (mid + 1) (literal (get_or ls k (pos 0))) next → Put l r at (text (take (k + 1) ls)) next
-marked_put mark text none more ls k {m = m} {mid = mid} h p q =
+pub marked_none : (mark : ℕ) (ls : List ℤ) → marked mark (take 0 ls) ≡ []
+unfolding marked
+marked_none mark ls = refl
+
+pub marked_put : (mark : ℕ) (ls : List ℤ) (k : ℕ) {l m r : List ℕ} {at mid next : ℕ} → k < length ls → Put l m at (marked mark (take k ls)) mid
+    → Put (set m mid mark) r (mid + 1) (literal (get_or ls k (pos 0))) next → Put l r at (marked mark (take (k + 1) ls)) next
+unfolding marked
+marked_put mark ls k {m = m} {mid = mid} h p q =
     let last = put_put (mark ∷ []) (literal (get_or ls k (pos 0))) (put_one m mid mark) q in
-    each_put (pos 0) (λ l. mark ∷ literal l) text none more ls k h p last
+    each_put (pos 0) (λ l. mark ∷ literal l) (marked mark) refl (λ l ls. refl) ls k h p last
 
-pub list_none : (ls : List ℤ) → literal_list (take 0 ls) ≡ []
-unfolding literal_list
-list_none ls = refl
+pub marked_by_space : (ls : List ℤ) → marked 32 ls ≡ literal_list ls
+unfolding marked literal_list
+marked_by_space [] = refl
+marked_by_space (l ∷ ls) = ap (λ (rest : List ℕ). 32 ∷ (literal l ++ rest)) (marked_by_space ls)
 
 -- a word that is copied into a part of the buffer
 pub put_whole : (l word : List ℕ) (at k : ℕ) (part : List ℕ) → at + length word ≤ length l → k ≡ length word → part ≡ word
@@ -133,13 +138,14 @@ put_whole l word at k part h size same =
     let pasted = put_mid-paste at k l part word (length word) same (sym size) refl in
     record { written = pasted ∙ rw (whole, sets-eq word l at h); ends = refl }
 
--- ---- a turn of the loop over literals
+-- ---- a line again
 
-pub list_put : (ls : List ℤ) (k : ℕ) {l m r : List ℕ} {at mid next : ℕ} → k < length ls
-    → Put l m at (literal_list (take k ls)) mid → Put (set m mid 32) r (mid + 1) (literal (get_or ls k (pos 0))) next
-    → Put l r at (literal_list (take (k + 1) ls)) next
-unfolding literal_list
-list_put = marked_put 32 literal_list refl (λ l ls. refl)
+pub shown_put : (line : List ℕ) (k : ℕ) {l m : List ℕ} {at byte : ℕ} → k < length line → byte ≡ shown (get_or line k 0)
+    → Put l m at (map shown (take k line)) (at + k) → Put l (set m (at + k) byte) at (map shown (take (k + 1) line)) (at + (k + 1))
+shown_put line k {l} {m} {at} {byte} h is p =
+    let e : at + (k + 1) ≡ at + k + 1 = omega arith in
+    let last = put_one m (at + k) (shown (get_or line k 0)) in
+    rw (e, is) (each_put 0 (λ b. shown b ∷ []) (map shown) refl (λ b bs. refl) line k h p last)
 
 -- ---- how long a number, a literal and a list of literals can be
 

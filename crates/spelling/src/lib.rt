@@ -1,8 +1,8 @@
 // Numbers, literals and words written into a lent buffer from a place on. Each function answers the place after what it wrote.
 #![tactic(auto)]
 
-ghost use Rattle.std.specs.Prelude.{◌+◌, ◌*◌, ◌<◌, ◌≤◌, ◌++◌, length};
-ghost use Rattle.spelling.specs.Text.{literal, literal_list, natural, Put};
+ghost use Rattle.std.specs.Prelude.{◌≡◌, ◌+◌, ◌*◌, ◌<◌, ◌≤◌, ◌++◌, length, map};
+ghost use Rattle.spelling.specs.Text.{literal, literal_list, marked, natural, Put, shown};
 
 // Writes a number in decimal.
 pub fn put_natural(out: &mut [u8], at: usize, n: usize) -> usize
@@ -83,16 +83,47 @@ pub fn put_literal(out: &mut [u8], at: usize, l: i16) -> usize
     put_symbol(out, at, n)
 }
 
+// Writes literals, a mark before each: there is room for it, a sign and five digits of each.
+pub fn put_marked(out: &mut [u8], at: usize, mark: u8, part: &[i16]) -> usize
+    requires { at + 7 * length part.now ≤ length out.old }
+    ensures put { Put out.old out.new at (marked mark part.now) result }
+    ensures upper_bound { result ≤ at + 7 * length part.now }
+{
+    let mut next = at;
+    for l in part {
+        out[next] = mark;
+        next = put_literal(out, next + 1, *l);
+    }
+    next
+}
+
 // Writes literals, a space before each: there is room for a sign and five digits of each.
 pub fn put_literals(out: &mut [u8], at: usize, part: &[i16]) -> usize
     requires { at + 7 * length part.now ≤ length out.old }
     ensures put { Put out.old out.new at (literal_list part.now) result }
     ensures upper_bound { result ≤ at + 7 * length part.now }
 {
-    let mut next = at;
-    for l in part {
-        out[next] = b' ';
-        next = put_literal(out, next + 1, *l);
+    put_marked(out, at, b' ', part)
+}
+
+// A byte as it is, or `?` where it does not print.
+fn shown(byte: u8) -> u8
+    ensures { result ≡ shown byte }
+{
+    match byte {
+        b' '..=b'~' => byte,
+        _ => b'?',
     }
-    next
+}
+
+// Writes a line again, each byte in its place.
+pub fn put_shown(out: &mut [u8], at: usize, line: &[u8]) -> usize
+    requires { at + length line.now ≤ length out.old }
+    ensures put { Put out.old out.new at (map shown line.now) result }
+    ensures value { result ≡ at + length line.now }
+{
+    for (k, byte) in line.iter().enumerate() {
+        out[at + k] = shown(*byte);
+    }
+    at + line.len()
 }

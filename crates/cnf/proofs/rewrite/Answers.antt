@@ -6,9 +6,9 @@ use Rattle.cnf.proofs.rewrite.Goals as goal
 pub returns-in-None : goal.returns-in-None
 returns-in-None c = made_broken _ _ _ (sym c.in-None.is ∙ c.header.ensures)
 
-pub returns-in-Done : goal.returns-in-Done
-returns-in-Done c =
-    made_on _ _ _ (sym c.in-Some.is ∙ c.header.ensures) c.open-change.ensures c.in-Done.is c.rewrite_on.ensures
+pub returns-in-Ok : goal.returns-in-Ok
+returns-in-Ok c =
+    made_on _ _ _ (sym c.in-Some.is ∙ c.header.ensures) c.open-change.ensures c.in-Ok.is c.rewrite_on.ensures
 
-pub returns-in-Refused : goal.returns-in-Refused
-returns-in-Refused c = made_none _ _ _ (sym c.in-Some.is ∙ c.header.ensures) c.open-change.ensures c.in-Refused.is
+pub returns-in-Err : goal.returns-in-Err
+returns-in-Err c = made_none _ _ _ (sym c.in-Some.is ∙ c.header.ensures) c.open-change.ensures c.in-Err.is

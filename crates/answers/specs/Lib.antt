@@ -1,2 +1,0 @@
--- The literals that a line chooses from.
-pub mod Choices

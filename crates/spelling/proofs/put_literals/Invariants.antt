@@ -1,7 +1,0 @@
--- The loop of `put_literals`: the literals before this one are written.
-use Rattle.meaning.proofs.Kit.{◌≤◌, ◌+◌, ◌*◌, take}
-use Rattle.spelling.specs.Text.{Put, literal_list}
-use Rattle.spelling.proofs.put_literals.Given as goal
-
-abbrev pub invariant-loop-l : goal.invariant-loop-l
-invariant-loop-l l = Put l.fn.out l.out l.at (literal_list (take l.l-index l.part)) l.next × (l.next ≤ l.at + 7 * l.l-index)
