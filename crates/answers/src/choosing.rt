@@ -7,7 +7,7 @@ ghost use Rattle.answers.specs.Choices.{Few};
 use board::Outcome;
 use candidates::sets::has;
 use orders::order::Order;
-use orders::reading::{Literal, literal_in};
+use orders::reading::literal_in;
 use orders::words::{ends_at, word};
 use orders::{Desk, Slip};
 use saying::pieces::{say, say_comma, say_literal};
@@ -33,10 +33,10 @@ fn gather(names: &[u8], line: &[u8], from: usize, given: &mut [i16]) -> Given
     let mut count = 0;
     while count < MOST_GIVEN && !ends_at(line, from + count) {
         match literal_in(names, word(line, from + count)) {
-            Literal::Not(slip) => {
+            Err(slip) => {
                 return Given::Not(slip, from + count);
             }
-            Literal::Of(l) => {
+            Ok(l) => {
                 given[count] = l;
             }
         }
@@ -190,8 +190,8 @@ pub fn sets_line(
 {
     let mut given = [0i16; 400];
     match literal_in(names, word(line, 1)) {
-        Literal::Not(slip) => show_slip(rt, line, echo, slip, 1),
-        Literal::Of(l) => match gather(names, line, 2, &mut given) {
+        Err(slip) => show_slip(rt, line, echo, slip, 1),
+        Ok(l) => match gather(names, line, 2, &mut given) {
             Given::Not(slip, k) => show_slip(rt, line, echo, slip, k),
             Given::Count(count) => list_sets(rt, desk, table, names, &given[..count], l),
         },
