@@ -63,7 +63,8 @@ fn simple(desk: Desk, reply: Reply) -> Taken
     }
 }
 
-// A line that is not taken, by the word at fault.
+// A line that is not taken, by the word at fault. The lines below match on what a word says and have no `?`: each answers the desk beside the slip, which
+// is no Result.
 fn slip(desk: Desk, why: Slip, word: usize) -> Taken
     ensures { result ≡ record { desk = desk; told = record { reply = Reply.Not why; place = word; added = 0 } } }
 {
