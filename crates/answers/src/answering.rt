@@ -11,7 +11,7 @@ use literals::refusal::Refusal;
 use names::naming::{run, slot_of};
 use names::slots::find;
 use orders::order::Order;
-use orders::reading::{Literal, literal_in};
+use orders::reading::literal_in;
 use orders::taking::MOST_BYTES;
 use orders::words::{ends_at, rest, word, word_place};
 use orders::{Desk, Reply, Slip, Told};
@@ -64,8 +64,8 @@ fn say_literal_done(rt: &impl Print, names: &[u8], line: &[u8], done: &[u8]) -> 
 {
     say(rt, b"  ")?;
     match literal_in(names, word(line, 1)) {
-        Literal::Of(l) => say_literal(rt, names, l),
-        Literal::Not(_) => say(rt, word(line, 1)),
+        Ok(l) => say_literal(rt, names, l),
+        Err(_) => say(rt, word(line, 1)),
     }?;
     say(rt, done)
 }
@@ -157,8 +157,8 @@ fn sole_literal(names: &[u8], line: &[u8]) -> Result<i16, Fault>
     requires { length names.now ≡ table_length }
 {
     match literal_in(names, word(line, 1)) {
-        Literal::Not(slip) => Err(Fault { slip, word: 1 }),
-        Literal::Of(l) => {
+        Err(slip) => Err(Fault { slip, word: 1 }),
+        Ok(l) => {
             if !ends_at(line, 2) {
                 return Err(Fault {
                     slip: Slip::WordTooMany,

@@ -6,7 +6,7 @@ ghost use Rattle.names.specs.Names.{table_length};
 use board::Outcome;
 use candidates::sets::has;
 use orders::order::Order;
-use orders::reading::{Literal, literal_in};
+use orders::reading::literal_in;
 use orders::words::{ends_at, word};
 use orders::{Desk, Slip};
 use saying::pieces::{say, say_comma, say_literal};
@@ -32,13 +32,13 @@ fn gather(names: &[u8], line: &[u8], from: usize, given: &mut [i16]) -> Result<u
             return Ok(k);
         }
         match literal_in(names, word(line, from + k)) {
-            Literal::Not(slip) => {
+            Err(slip) => {
                 return Err(Fault {
                     slip,
                     word: from + k,
                 });
             }
-            Literal::Of(l) => {
+            Ok(l) => {
                 *place = l;
             }
         }
@@ -185,8 +185,8 @@ pub fn sets_line(
 {
     let mut given = [0i16; 400];
     match literal_in(names, word(line, 1)) {
-        Literal::Not(slip) => show_slip(rt, line, echo, slip, 1),
-        Literal::Of(l) => match gather(names, line, 2, &mut given) {
+        Err(slip) => show_slip(rt, line, echo, slip, 1),
+        Ok(l) => match gather(names, line, 2, &mut given) {
             Err(fault) => show_slip(rt, line, echo, fault.slip, fault.word),
             Ok(count) => list_sets(rt, desk, table, names, &given[..count], l),
         },

@@ -1,6 +1,6 @@
 -- The number of a word, a digit at a time: it stays at 32,767 once it is there, so that no count of digits is too large for a machine word.
-use Rattle.meaning.proofs.Kit.{◌≡◌, ◌∙◌, sym, refl, true, List, [], ◌∷◌, ◌≤◌, ℕ, ◌<◌, ◌-◌, ◌+◌, suc, ◌*◌, min, add-one, arith, leb, ltb, length, get_or}
-use Rattle.meaning.proofs.Kit.{drop, drop_of_length-le, drop-cons, leb-true}
+use Rattle.meaning.proofs.Kit.{◌≡◌, ◌∙◌, sym, refl, true, List, [], ◌∷◌, ◌≤◌, ℕ, ◌<◌, ◌-◌, ◌+◌, suc, ◌*◌, min, add-one, arith, ltb, length, get_or}
+use Rattle.meaning.proofs.Kit.{drop, drop_of_length-le, drop-cons}
 use Rattle.meaning.specs.Tests.{all}
 use Rattle.meaning.proofs.Tests.{both_true}
 use Rattle.candidates.proofs.Turns.{all_drop}
@@ -30,14 +30,6 @@ valued_none word e =
     record { within = omega arith; small = omega arith; digits = (both_true (all is_digit word) (ltb 0 (length word)) e).0; goes_on_lem = refl }
 
 module _ {word : List ℕ} {k value : ℕ} (v : Valued word k value) where
-  -- the byte there is a digit
-  pub digit_here : k < length word → (48 ≤ get_or word k 0) × (get_or word k 0 ≤ 57)
-  digit_here h =
-      let c = get_or word k 0 in
-      let here = (both_true (is_digit c) (all is_digit (drop (k + 1) word)) (sym (all_drop is_digit word k 0 h) ∙ v.digits)).0 in
-      let both = both_true (leb 48 c) (leb c 57) here in
-      (leb-true 48 c both.0, leb-true c 57 both.1)
-
   pub valued_more : k < length word → (next : ℕ) → next ≡ min (value * 10 + (get_or word k 0 - 48)) most → Valued word (k + 1) next
   unfolding decimal
   valued_more h next e = record {

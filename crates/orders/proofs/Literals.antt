@@ -4,11 +4,9 @@ use Rattle.meaning.proofs.Kit.{get_or, drop, w16, SFits, to_z, of_z, to_z-of_z, 
 use Rattle.meaning.proofs.Tests.{true_or_false}
 use Rattle.names.specs.Names.{is_known, is_name, most_named, name_slot}
 use Rattle.orders.specs.Reading.{Narrow, affirmed, denied, is_number, literal_in, most, named_in, opposite, symbol_in, value_of}
+use Rattle.std.specs.Prelude.{ℤ, Result, Ok, Err}
+use Rattle.orders.specs.declared.Slip.{Slip}
 use Rattle.orders.specs.declared.Slip.TheVariants.{SymbolDue}
-use Rattle.orders.specs.declared.reading.Number.{Number}
-use Rattle.orders.specs.declared.reading.Number.TheVariants.{Of, Not}
-use Rattle.orders.specs.declared.reading.Literal.{Literal}
-use Rattle.orders.specs.declared.reading.Literal.TheVariants.{Of as OfLiteral, Not as NotLiteral}
 
 -- ---- a number that fits
 
@@ -34,15 +32,15 @@ opposite_fits n h = rw (opposite_is n h) (small_opposite n h)
 
 -- ---- of a number that was found
 
-module _ {found : Number} {n : ℕ} (e : found ≡ Of n) (h : Narrow found) where
+module _ {found : Result ℕ Slip} {n : ℕ} (e : found ≡ Ok n) (h : Narrow found) where
   pub narrow_number : n ≤ most
   narrow_number = subst Narrow e h
 
-  pub affirmed_is : OfLiteral (to_z w16 n) ≡ affirmed found
-  affirmed_is = ap OfLiteral (read_as n narrow_number) ∙ ap affirmed (sym e)
+  pub affirmed_is : Ok (to_z w16 n) ≡ affirmed found
+  affirmed_is = ap Ok (read_as n narrow_number) ∙ ap affirmed (sym e)
 
-  pub denied_is : OfLiteral (to_z w16 (of_z w16 (pos 0 -ℤ to_z w16 n))) ≡ denied found
-  denied_is = ap OfLiteral (to_z-of_z (opposite_fits n narrow_number) ∙ opposite_is n narrow_number) ∙ ap denied (sym e)
+  pub denied_is : Ok (to_z w16 (of_z w16 (pos 0 -ℤ to_z w16 n))) ≡ denied found
+  denied_is = ap Ok (to_z-of_z (opposite_fits n narrow_number) ∙ opposite_is n narrow_number) ∙ ap denied (sym e)
 
 -- ---- a word
 
@@ -63,7 +61,7 @@ symbol_narrow names word =
     (true_or_false (is_number word))
 
 module _ (names : List ℕ) where
-  pub literal_of_none : (word : List ℕ) → length word ≡ 0 → NotLiteral SymbolDue ≡ literal_in names word
+  pub literal_of_none : (word : List ℕ) → length word ≡ 0 → Err SymbolDue ≡ literal_in names word
   unfolding literal_in
   literal_of_none [] h = refl
   literal_of_none (c ∷ rest) h = absurd (omega arith)
@@ -80,17 +78,17 @@ module _ (names : List ℕ) where
 
 -- ---- a literal that a word says fits
 
-abbrev pub Fitting : Literal → Type 0
-Fitting (OfLiteral l) = SFits w16 l
-Fitting (NotLiteral slip) = Unit {0}
+abbrev pub Fitting : Result ℤ Slip → Type 0
+Fitting (Ok l) = SFits w16 l
+Fitting (Err slip) = Unit {0}
 
-affirmed_fits : (found : Number) → Narrow found → Fitting (affirmed found)
-affirmed_fits (Of n) h = number_fits n h
-affirmed_fits (Not slip) h = tt
+affirmed_fits : (found : Result ℕ Slip) → Narrow found → Fitting (affirmed found)
+affirmed_fits (Ok n) h = number_fits n h
+affirmed_fits (Err slip) h = tt
 
-denied_fits : (found : Number) → Narrow found → Fitting (denied found)
-denied_fits (Of n) h = small_opposite n h
-denied_fits (Not slip) h = tt
+denied_fits : (found : Result ℕ Slip) → Narrow found → Fitting (denied found)
+denied_fits (Ok n) h = small_opposite n h
+denied_fits (Err slip) h = tt
 
 pub literal_fits : (names word : List ℕ) → Fitting (literal_in names word)
 unfolding literal_in

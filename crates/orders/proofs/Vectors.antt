@@ -4,9 +4,8 @@ use Rattle.orders.specs.Words.{ends_at, rest_at, word_at}
 use Rattle.orders.specs.Reading.{is_number, literal_in, number_in, symbol_in, value_of}
 use Rattle.orders.specs.Marks.{are_marks, are_rows, marked_by, rows_marked}
 use Rattle.orders.specs.Orders.{order_of, slot_of_order}
+use Rattle.std.specs.Prelude.{Ok, Err}
 use Rattle.orders.specs.declared.Slip.TheVariants.{NumberDue, SymbolDue}
-use Rattle.orders.specs.declared.reading.Number.TheVariants.{Of, Not}
-use Rattle.orders.specs.declared.reading.Literal.TheVariants.{Of as OfLiteral, Not as NotLiteral}
 use Rattle.orders.specs.declared.order.Order.TheVariants.{Furnace, Nothing, Open, Unknown}
 use Rattle.dimacs.specs.Words.{since, up_to}
 use Rattle.spelling.specs.Text.{decimal}
@@ -40,41 +39,41 @@ more_than_one = refl
 
 -- ---- numbers: "0007", "99999" and "1a"
 
-zeros_before : number_in (48 ∷ 48 ∷ 48 ∷ 55 ∷ []) ≡ Of 7
+zeros_before : number_in (48 ∷ 48 ∷ 48 ∷ 55 ∷ []) ≡ Ok 7
 unfolding number_in is_number value_of decimal
 zeros_before = refl
 
-at_most : number_in (57 ∷ 57 ∷ 57 ∷ 57 ∷ 57 ∷ []) ≡ Of 32767
+at_most : number_in (57 ∷ 57 ∷ 57 ∷ 57 ∷ 57 ∷ []) ≡ Ok 32767
 unfolding number_in is_number value_of decimal
 at_most = refl
 
-no_digit : number_in (49 ∷ 97 ∷ []) ≡ Not NumberDue
+no_digit : number_in (49 ∷ 97 ∷ []) ≡ Err NumberDue
 unfolding number_in is_number
 no_digit = refl
 
-no_word : number_in [] ≡ Not NumberDue
+no_word : number_in [] ≡ Err NumberDue
 unfolding number_in is_number
 no_word = refl
 
 -- ---- literals: "-12", "0", "-0", "--3" and "-", no symbol being named
 
-minus : literal_in [] (45 ∷ 49 ∷ 50 ∷ []) ≡ OfLiteral (negsuc 11)
+minus : literal_in [] (45 ∷ 49 ∷ 50 ∷ []) ≡ Ok (negsuc 11)
 unfolding literal_in symbol_in is_number value_of decimal
 minus = refl
 
-nought : literal_in [] (48 ∷ []) ≡ OfLiteral (pos 0)
+nought : literal_in [] (48 ∷ []) ≡ Ok (pos 0)
 unfolding literal_in symbol_in is_number value_of decimal
 nought = refl
 
-minus_nought : literal_in [] (45 ∷ 48 ∷ []) ≡ OfLiteral (pos 0)
+minus_nought : literal_in [] (45 ∷ 48 ∷ []) ≡ Ok (pos 0)
 unfolding literal_in symbol_in is_number value_of decimal
 minus_nought = refl
 
-minus_twice : literal_in [] (45 ∷ 45 ∷ 51 ∷ []) ≡ NotLiteral SymbolDue
+minus_twice : literal_in [] (45 ∷ 45 ∷ 51 ∷ []) ≡ Err SymbolDue
 unfolding literal_in symbol_in is_number is_name
 minus_twice = refl
 
-minus_alone : literal_in [] (45 ∷ []) ≡ NotLiteral SymbolDue
+minus_alone : literal_in [] (45 ∷ []) ≡ Err SymbolDue
 unfolding literal_in symbol_in is_number is_name
 minus_alone = refl
 

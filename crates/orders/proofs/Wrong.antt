@@ -16,11 +16,9 @@ use Rattle.orders.specs.Lines.{Line, opening, naming, working, calling, asking, 
 use Rattle.orders.specs.Lines.{most_bytes, line_of}
 use Rattle.orders.specs.States.{State, ordered, did, tells, told_by, reply_of, is_made, worked, work_reply}
 use Rattle.orders.specs.Promises.{LosesNothing}
+use Rattle.std.specs.Prelude.{Result, Ok, Err}
+use Rattle.orders.specs.declared.Slip.{Slip}
 use Rattle.orders.specs.declared.Slip.TheVariants.{LineTooLong, WordTooMany, NameDue, MarksDue}
-use Rattle.orders.specs.declared.reading.Number.{Number}
-use Rattle.orders.specs.declared.reading.Number.TheVariants.{Of, Not}
-use Rattle.orders.specs.declared.reading.Literal.{Literal}
-use Rattle.orders.specs.declared.reading.Literal.TheVariants.{Of as OfLiteral, Not as NotLiteral}
 use Rattle.orders.specs.declared.order.Order.{Order}
 use Rattle.orders.specs.declared.order.Order.TheVariants.{Open, Name, Rule, Hold, Drop, Push, Pop, Valve, Pairs, Furnace, Ask, Why, Ground}
 use Rattle.orders.specs.declared.order.Order.TheVariants.{Marks, Blame, Least, Sets, Rows, Cnf, Echo, Help, Unknown, Nothing}
@@ -36,13 +34,13 @@ Own asking = Unit {0}
 Own (slipping slip k) = Unit {0}
 Own resting = Unit {0}
 
-by_number_lem : (found : Number) (k : ℕ) (next : ℕ → Line) → ((n : ℕ) → Own (next n)) → Own (by_number found k next)
-by_number_lem (Of n) k next own = own n
-by_number_lem (Not slip) k next own = tt
+by_number_lem : (found : Result ℕ Slip) (k : ℕ) (next : ℕ → Line) → ((n : ℕ) → Own (next n)) → Own (by_number found k next)
+by_number_lem (Ok n) k next own = own n
+by_number_lem (Err slip) k next own = tt
 
-by_literal_lem : (found : Literal) (k : ℕ) (next : ℤ → Line) → ((l : ℤ) → Own (next l)) → Own (by_literal found k next)
-by_literal_lem (OfLiteral l) k next own = own l
-by_literal_lem (NotLiteral slip) k next own = tt
+by_literal_lem : (found : Result ℤ Slip) (k : ℕ) (next : ℤ → Line) → ((l : ℤ) → Own (next l)) → Own (by_literal found k next)
+by_literal_lem (Ok l) k next own = own l
+by_literal_lem (Err slip) k next own = tt
 
 either : (b : Bool) (one other : Line) → Own one → Own other → Own (cond b one other)
 either true one other p q = p

@@ -1,5 +1,5 @@
 -- What a line is: the call that it makes, what it does to the desk itself, or why it is not taken. Words are looked at from the front.
-use Rattle.std.specs.Prelude.{ℕ, cond, List, eqb, ltb, ℤ, length}
+use Rattle.std.specs.Prelude.{ℕ, cond, List, ltb, ℤ, length, Result, Ok, Err}
 use Rattle.names.specs.Names.{is_name}
 use Rattle.names.specs.Replacing.{replaced}
 use Rattle.positions.specs.Entering.{variable_of, pairs_of}
@@ -10,10 +10,8 @@ use Rattle.orders.specs.Marks.{table_fits, pairs_in}
 use Rattle.orders.specs.Orders.{order_of}
 use Rattle.orders.specs.declared.Slip.{Slip}
 use Rattle.orders.specs.declared.Slip.TheVariants.{LineTooLong, UnknownWord, NameDue, MarksDue, WordTooMany}
-use Rattle.orders.specs.declared.reading.Number.{Number}
-use Rattle.orders.specs.declared.reading.Number.TheVariants.{Of, Not}
-use Rattle.orders.specs.declared.reading.Literal.{Literal}
-use Rattle.orders.specs.declared.reading.Literal.TheVariants.{Of as OfLiteral, Not as NotLiteral}
+use Rattle.orders.specs.declared.taking.LiteralCall.{LiteralCall}
+use Rattle.orders.specs.declared.taking.LiteralCall.TheVariants.{Hold as ToHold, Drop as ToDrop, Push as ToPush}
 use Rattle.orders.specs.declared.order.Order.{Order}
 use Rattle.orders.specs.declared.order.Order.TheVariants.{Open, Name, Rule, Hold, Drop, Push, Pop, Valve, Pairs, Furnace, Ask, Why, Ground}
 use Rattle.orders.specs.declared.order.Order.TheVariants.{Marks, Blame, Least, Sets, Rows, Cnf, Echo, Help, Unknown, Nothing}
@@ -30,13 +28,13 @@ pub data Line : Type 0 where
   resting : Line
 
 -- word k is a number, or it is at fault
-abbrev pub by_number : Number → (k : ℕ) → (ℕ → Line) → Line
-by_number (Of n) k next = next n
-by_number (Not slip) k next = slipping slip k
+abbrev pub by_number : Result ℕ Slip → (k : ℕ) → (ℕ → Line) → Line
+by_number (Ok n) k next = next n
+by_number (Err slip) k next = slipping slip k
 
-abbrev pub by_literal : Literal → (k : ℕ) → (ℤ → Line) → Line
-by_literal (OfLiteral l) k next = next l
-by_literal (NotLiteral slip) k next = slipping slip k
+abbrev pub by_literal : Result ℤ Slip → (k : ℕ) → (ℤ → Line) → Line
+by_literal (Ok l) k next = next l
+by_literal (Err slip) k next = slipping slip k
 
 -- there is no word k
 abbrev pub ended : (k : ℕ) → List ℕ → Line → Line
@@ -56,8 +54,10 @@ abbrev pub rule_line : (lent : ℕ) → (names : List ℕ) → List ℕ → Line
 rule_line lent names line = calling (adds_text lent (replaced names (rest_at 1 line)))
 
 -- the call of a line with one literal, by which of the three it is
-abbrev pub literal_call : (which lent furnace : ℕ) → ℤ → Call
-literal_call which lent furnace l = cond (eqb which 0) (holds lent furnace l) (cond (eqb which 1) (withdraws lent furnace l) (pushes lent furnace l))
+abbrev pub literal_call : LiteralCall → (lent furnace : ℕ) → ℤ → Call
+literal_call ToHold lent furnace l = holds lent furnace l
+literal_call ToDrop lent furnace l = withdraws lent furnace l
+literal_call ToPush lent furnace l = pushes lent furnace l
 
 abbrev pub literal_line : (ℤ → Call) → (names : List ℕ) → List ℕ → Line
 literal_line call names line = by_literal (literal_in names (word_at 1 line)) 1 (λ l. ended 2 line (calling (call l)))
@@ -95,9 +95,9 @@ abbrev pub ordered_by : Order → (lent furnace : ℕ) → (names : List ℕ) �
 ordered_by Open lent furnace names line = open_line line
 ordered_by Name lent furnace names line = name_line names line
 ordered_by Rule lent furnace names line = rule_line lent names line
-ordered_by Hold lent furnace names line = literal_line (literal_call 0 lent furnace) names line
-ordered_by Drop lent furnace names line = literal_line (literal_call 1 lent furnace) names line
-ordered_by Push lent furnace names line = literal_line (literal_call 2 lent furnace) names line
+ordered_by Hold lent furnace names line = literal_line (literal_call ToHold lent furnace) names line
+ordered_by Drop lent furnace names line = literal_line (literal_call ToDrop lent furnace) names line
+ordered_by Push lent furnace names line = literal_line (literal_call ToPush lent furnace) names line
 ordered_by Pop lent furnace names line = pop_line lent furnace line
 ordered_by Valve lent furnace names line = valve_line lent names line
 ordered_by Pairs lent furnace names line = pairs_line lent names line

@@ -2,24 +2,11 @@
 
 ghost use Rattle.std.specs.Prelude.{◌≡◌, true, ◌≤◌, length};
 ghost use Rattle.names.specs.Names.{table_length};
-ghost use Rattle.orders.specs.Reading.{is_number, value_of, number_in, symbol_in, literal_in, affirmed, denied, Narrow};
+ghost use Rattle.orders.specs.Reading.{is_number, value_of, number_in, symbol_in, literal_in};
 
 use crate::Slip;
 use crate::words::is_between;
 use names::naming::{SYMBOLS, is_name, slot_of};
-
-// A number or a symbol's number, or what is wrong with the word.
-#[derive(Clone, Copy)]
-pub enum Number {
-    Of(usize),
-    Not(Slip),
-}
-
-#[derive(Clone, Copy)]
-pub enum Literal {
-    Of(i16),
-    Not(Slip),
-}
 
 // Whatever is above this counts as this, which is no symbol of any board.
 const MOST: usize = 32767;
@@ -45,63 +32,43 @@ fn value_of(word: &[u8]) -> usize
     value
 }
 
-pub fn number_in(word: &[u8]) -> Number
+pub fn number_in(word: &[u8]) -> Result<usize, Slip>
     ensures { result ≡ number_in word.now }
 {
     if is_number(word) {
-        return Number::Of(value_of(word));
+        return Ok(value_of(word));
     }
-    Number::Not(Slip::NumberDue)
+    Err(Slip::NumberDue)
 }
 
-pub fn symbol_in(names: &[u8], word: &[u8]) -> Number
+pub fn symbol_in(names: &[u8], word: &[u8]) -> Result<usize, Slip>
     requires { table_length ≤ length names.now }
     ensures { result ≡ symbol_in names.now word.now }
 {
     if is_number(word) {
-        return Number::Of(value_of(word));
+        return Ok(value_of(word));
     }
     if !is_name(word) {
-        return Number::Not(Slip::SymbolDue);
+        return Err(Slip::SymbolDue);
     }
     let slot = slot_of(names, word);
     if slot < SYMBOLS {
-        return Number::Of(slot + 1);
+        return Ok(slot + 1);
     }
-    Number::Not(Slip::UnknownName)
+    Err(Slip::UnknownName)
 }
 
-// The literal of a symbol's number.
-fn affirm(found: Number) -> Literal
-    requires { Narrow found }
-    ensures { result ≡ affirmed found }
-{
-    match found {
-        Number::Of(n) => Literal::Of(n as i16),
-        Number::Not(slip) => Literal::Not(slip),
-    }
-}
-
-// Its opposite.
-fn deny(found: Number) -> Literal
-    requires { Narrow found }
-    ensures { result ≡ denied found }
-{
-    match found {
-        Number::Of(n) => Literal::Of(-(n as i16)),
-        Number::Not(slip) => Literal::Not(slip),
-    }
-}
-
-pub fn literal_in(names: &[u8], word: &[u8]) -> Literal
+pub fn literal_in(names: &[u8], word: &[u8]) -> Result<i16, Slip>
     requires { table_length ≤ length names.now }
     ensures { result ≡ literal_in names.now word.now }
 {
     if word.len() == 0 {
-        return Literal::Not(Slip::SymbolDue);
+        return Err(Slip::SymbolDue);
     }
     if word[0] == b'-' {
-        return deny(symbol_in(names, &word[1..]));
+        let opposite = symbol_in(names, &word[1..])?;
+        return Ok(-(opposite as i16));
     }
-    affirm(symbol_in(names, word))
+    let symbol = symbol_in(names, word)?;
+    Ok(symbol as i16)
 }

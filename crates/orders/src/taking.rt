@@ -10,7 +10,7 @@ ghost use Rattle.orders.specs.States.{state_of, ordered, simply, reply_of, named
 
 use crate::marks::{pairs_in, table_fits};
 use crate::order::{Order, order_of};
-use crate::reading::{Literal, Number, literal_in, number_in, symbol_in};
+use crate::reading::{literal_in, number_in, symbol_in};
 use crate::words::{ends_at, rest, word};
 use crate::{Desk, Reply, Slip, Taken, Told};
 use board::Outcome;
@@ -25,11 +25,12 @@ use stack::Step;
 pub const MOST_BYTES: usize = 500;
 
 // Which of the three calls a line with one literal is.
-const HOLD: u8 = 0;
-
-const DROP: u8 = 1;
-
-const PUSH: u8 = 2;
+#[derive(Clone, Copy)]
+pub enum LiteralCall {
+    Hold,
+    Drop,
+    Push,
+}
 
 // ---- what a line comes to
 
@@ -62,7 +63,8 @@ fn simple(desk: Desk, reply: Reply) -> Taken
     }
 }
 
-// A line that is not taken, by the word at fault.
+// A line that is not taken, by the word at fault. The lines below match on what a word says and have no `?`: each answers the desk beside the slip, which
+// is no Result.
 fn slip(desk: Desk, why: Slip, word: usize) -> Taken
     ensures { result ≡ record { desk = desk; told = record { reply = Reply.Not why; place = word; added = 0 } } }
 {
@@ -149,8 +151,8 @@ fn open_line(desk: Desk, table: &[i16], names: &mut [u8], line: &[u8]) -> Taken
         (open_line line.now) result.told }
 {
     match number_in(word(line, 1)) {
-        Number::Not(why) => slip(desk, why, 1),
-        Number::Of(n) => {
+        Err(why) => slip(desk, why, 1),
+        Ok(n) => {
             if !ends_at(line, 2) {
                 return slip(desk, Slip::WordTooMany, 2);
             }
@@ -208,8 +210,8 @@ fn name_line(desk: Desk, table: &[i16], names: &mut [u8], line: &[u8]) -> Taken
         (name_line names.old line.now) result.told }
 {
     match symbol_in(names, word(line, 1)) {
-        Number::Not(why) => slip(desk, why, 1),
-        Number::Of(symbol) => {
+        Err(why) => slip(desk, why, 1),
+        Ok(symbol) => {
             let given = word(line, 2);
             if !is_name(given) {
                 return slip(desk, Slip::NameDue, 2);
@@ -255,8 +257,8 @@ fn furnace_line(desk: Desk, table: &[i16], names: &[u8], line: &[u8]) -> Taken
         (furnace_line line.now) result.told }
 {
     match number_in(word(line, 1)) {
-        Number::Not(why) => slip(desk, why, 1),
-        Number::Of(n) => {
+        Err(why) => slip(desk, why, 1),
+        Ok(n) => {
             if !ends_at(line, 2) {
                 return slip(desk, Slip::WordTooMany, 2);
             }
@@ -297,10 +299,10 @@ fn valve_line(desk: Desk, table: &mut [i16], names: &[u8], line: &[u8]) -> Taken
         (valve_line (length table.old) names.now line.now) result.told }
 {
     match symbol_in(names, word(line, 1)) {
-        Number::Not(why) => slip(desk, why, 1),
-        Number::Of(first) => match number_in(word(line, 2)) {
-            Number::Not(why) => slip(desk, why, 2),
-            Number::Of(count) => {
+        Err(why) => slip(desk, why, 1),
+        Ok(first) => match number_in(word(line, 2)) {
+            Err(why) => slip(desk, why, 2),
+            Ok(count) => {
                 if !ends_at(line, 3) {
                     return slip(desk, Slip::WordTooMany, 3);
                 }
@@ -349,12 +351,10 @@ fn second_valve(
         (second_valve (length table.old) names.now line.now first count) result.told }
 {
     match symbol_in(names, word(line, 3)) {
-        Number::Not(why) => slip(desk, why, 3),
-        Number::Of(other) => match number_in(word(line, 4)) {
-            Number::Not(why) => slip(desk, why, 4),
-            Number::Of(others) => {
-                enter_pairs(desk, table, names, line, first, count, other, others)
-            }
+        Err(why) => slip(desk, why, 3),
+        Ok(other) => match number_in(word(line, 4)) {
+            Err(why) => slip(desk, why, 4),
+            Ok(others) => { enter_pairs(desk, table, names, line, first, count, other, others) }
         },
     }
 }
@@ -365,10 +365,10 @@ fn pairs_line(desk: Desk, table: &mut [i16], names: &[u8], line: &[u8]) -> Taken
         (pairs_line (length table.old) names.now line.now) result.told }
 {
     match symbol_in(names, word(line, 1)) {
-        Number::Not(why) => slip(desk, why, 1),
-        Number::Of(first) => match number_in(word(line, 2)) {
-            Number::Not(why) => slip(desk, why, 2),
-            Number::Of(count) => second_valve(desk, table, names, line, first, count),
+        Err(why) => slip(desk, why, 1),
+        Ok(first) => match number_in(word(line, 2)) {
+            Err(why) => slip(desk, why, 2),
+            Ok(count) => second_valve(desk, table, names, line, first, count),
         },
     }
 }
@@ -376,36 +376,36 @@ fn pairs_line(desk: Desk, table: &mut [i16], names: &[u8], line: &[u8]) -> Taken
 // ---- premises
 
 // Holds, withdraws or pushes a literal.
-fn act(desk: Desk, table: &[i16], names: &[u8], which: u8, l: i16) -> Taken
+fn act(desk: Desk, table: &[i16], names: &[u8], which: LiteralCall, l: i16) -> Taken
     ensures { Does (state_of desk table.now names.now) (state_of result.desk table.now names.now)
         (calling (literal_call which (length table.now) desk.furnace l)) result.told }
 {
     let board = desk.board;
     let stacks = desk.stacks;
-    if which == HOLD {
-        let change = board::changes::hold(board, table, desk.furnace, l);
-        return of_step(desk, Step { change, stacks });
-    }
-    if which == DROP {
-        return of_step(
+    match which {
+        LiteralCall::Hold => {
+            let change = board::changes::hold(board, table, desk.furnace, l);
+            of_step(desk, Step { change, stacks })
+        }
+        LiteralCall::Drop => of_step(
             desk,
             stack::steps::withdraw(board, table, stacks, desk.furnace, l),
-        );
+        ),
+        LiteralCall::Push => of_step(
+            desk,
+            stack::steps::push(board, table, stacks, desk.furnace, l),
+        ),
     }
-    of_step(
-        desk,
-        stack::steps::push(board, table, stacks, desk.furnace, l),
-    )
 }
 
-fn literal_line(desk: Desk, table: &[i16], names: &[u8], line: &[u8], which: u8) -> Taken
+fn literal_line(desk: Desk, table: &[i16], names: &[u8], line: &[u8], which: LiteralCall) -> Taken
     requires { length names.now ≡ table_length }
     ensures { Does (state_of desk table.now names.now) (state_of result.desk table.now names.now)
         (literal_line (literal_call which (length table.now) desk.furnace) names.now line.now) result.told }
 {
     match literal_in(names, word(line, 1)) {
-        Literal::Not(why) => slip(desk, why, 1),
-        Literal::Of(l) => {
+        Err(why) => slip(desk, why, 1),
+        Ok(l) => {
             if !ends_at(line, 2) {
                 return slip(desk, Slip::WordTooMany, 2);
             }
@@ -438,9 +438,9 @@ fn take_order(desk: Desk, table: &mut [i16], names: &mut [u8], line: &[u8], orde
         Order::Open => open_line(desk, table, names, line),
         Order::Name => name_line(desk, table, names, line),
         Order::Rule => rule_line(desk, table, names, line),
-        Order::Hold => literal_line(desk, table, names, line, HOLD),
-        Order::Drop => literal_line(desk, table, names, line, DROP),
-        Order::Push => literal_line(desk, table, names, line, PUSH),
+        Order::Hold => literal_line(desk, table, names, line, LiteralCall::Hold),
+        Order::Drop => literal_line(desk, table, names, line, LiteralCall::Drop),
+        Order::Push => literal_line(desk, table, names, line, LiteralCall::Push),
         Order::Pop => pop_line(desk, table, names, line),
         Order::Valve => valve_line(desk, table, names, line),
         Order::Pairs => pairs_line(desk, table, names, line),

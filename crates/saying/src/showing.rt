@@ -11,7 +11,7 @@ use names::replacing::replace;
 use names::slots::put;
 use orders::Slip;
 use orders::order::Order;
-use orders::reading::{Number, number_in};
+use orders::reading::number_in;
 use orders::words::{rest, word_place};
 use std::io;
 
@@ -60,8 +60,8 @@ fn say_broken(rt: &impl Print, text: &[u8], place: usize) -> io::Result<()> {
 // Whether a run is no number, or that of a symbol of the board.
 fn is_good_number(run: &[u8], symbols: usize) -> bool {
     match number_in(run) {
-        Number::Not(_) => true,
-        Number::Of(n) => 1 <= n && n <= symbols,
+        Err(_) => true,
+        Ok(n) => 1 <= n && n <= symbols,
     }
 }
 

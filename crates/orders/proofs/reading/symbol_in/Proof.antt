@@ -2,14 +2,14 @@
 use Rattle.meaning.proofs.Kit.{◌≡◌, ◌∙◌, sym, ap, false, cond, suc, add-one, arith, ltb, not-false, not-true, lt-ltb, le-ltb}
 use Rattle.names.specs.Names.{most_named}
 use Rattle.orders.specs.Reading.{is_number, symbol_in}
-use Rattle.orders.specs.declared.reading.Number.TheVariants.{Of, Not}
+use Rattle.std.specs.Prelude.{Ok, Err}
 use Rattle.orders.specs.declared.Slip.TheVariants.{UnknownName}
 use Rattle.orders.proofs.reading.symbol_in.Statement.{statement}
 use Rattle.orders.proofs.reading.symbol_in.Tie as tie
 
 returns : tie.Need-returns-then-is_number
 unfolding symbol_in
-returns c = rw (← c.is_number.ensures, c.if-is_number.true) (ap Of c.value_of.ensures)
+returns c = rw (← c.is_number.ensures, c.if-is_number.true) (ap Ok c.value_of.ensures)
 
 -- it is no number
 no_number : (c : tie.Else-is_number) → is_number c.args.word.now ≡ false
@@ -21,7 +21,7 @@ returns_2 c = rw (no_number c.before.before, sym c.is_name.ensures ∙ not-true 
 
 -- it is a name: what it comes to, by its slot
 named : (c : tie.After-slot_of-slot) → let a = c.args in
-    symbol_in a.names.now a.word.now ≡ cond (ltb c.slot_of-slot.result most_named) (Of (suc c.slot_of-slot.result)) (Not UnknownName)
+    symbol_in a.names.now a.word.now ≡ cond (ltb c.slot_of-slot.result most_named) (Ok (suc c.slot_of-slot.result)) (Err UnknownName)
 unfolding symbol_in
 named c =
     rw (no_number c.before.before.before, sym c.is_name.ensures ∙ not-false _ c.if-not-is_name.false-raw, ← c.slot_of-slot.ensures)

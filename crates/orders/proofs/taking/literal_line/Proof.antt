@@ -16,15 +16,15 @@ read c = rw (← c.word.ensures) (sym c.literal_in.ensures)
 
 returns : tie.Need-returns-then-not-ends_at
 returns c =
-    rw (c.slip-then-not-ends_at.ensures, read (at c.before.before) ∙ c.in-Of.is, sym c.ends_at.ensures ∙ not-true _ c.if-not-ends_at.true-raw)
+    rw (c.slip-then-not-ends_at.ensures, read (at c.before.before) ∙ c.in-Ok.is, sym c.ends_at.ensures ∙ not-true _ c.if-not-ends_at.true-raw)
     (slip_does _ _ 2)
 
-returns_2 : tie.Need-returns-in-Not
-returns_2 c = rw (c.slip.ensures, read c.before.before ∙ c.in-Not.is) (slip_does _ _ 1)
+returns_2 : tie.Need-returns-in-Err
+returns_2 c = rw (c.slip.ensures, read c.before.before ∙ c.in-Err.is) (slip_does _ _ 1)
 
 returns_3 : tie.Need-returns-else-not-ends_at
 returns_3 c =
-    let said = read (at c.before.before) ∙ c.in-Of.is in
+    let said = read (at c.before.before) ∙ c.in-Ok.is in
     rw (said, sym c.ends_at.ensures ∙ not-false _ c.if-not-ends_at.false-raw, ← to_z-of_z (subst Fitting said (literal_fits _ _))) c.act.ensures
 
 pub literal_line_spec : {M : Type 1} → statement M

@@ -19,21 +19,21 @@ named c = rw (← c.word-given.ensures) (sym c.is_name.ensures)
 
 returns : tie.Need-returns-then-not-is_name
 returns c =
-    let said = read (one c.before.before) ∙ c.in-Of.is in
+    let said = read (one c.before.before) ∙ c.in-Ok.is in
     rw (c.slip-then-not-is_name.ensures, said, named c.before.before ∙ not-true _ c.if-not-is_name.true-raw) (slip_does _ _ 2)
 
 returns_2 : tie.Need-returns-then-not-ends_at
 returns_2 c =
-    let said = read (one c.before.before.before.before) ∙ c.in-Of.is in
+    let said = read (one c.before.before.before.before) ∙ c.in-Ok.is in
     let more = sym c.ends_at.ensures ∙ not-true _ c.if-not-ends_at.true-raw in
     rw (c.slip-then-not-ends_at.ensures, said, named c.before.before.before.before ∙ not-false _ c.if-not-is_name.false-raw, more) (slip_does _ _ 3)
 
-returns_3 : tie.Need-returns-in-Not
-returns_3 c = rw (c.slip.ensures, read c.before.before ∙ c.in-Not.is) (slip_does _ _ 1)
+returns_3 : tie.Need-returns-in-Err
+returns_3 c = rw (c.slip.ensures, read c.before.before ∙ c.in-Err.is) (slip_does _ _ 1)
 
 returns_4 : tie.Need-returns-else-not-ends_at
 returns_4 c =
-    let said = read (one c.before.before.before.before.before.before.before) ∙ c.in-Of.is in
+    let said = read (one c.before.before.before.before.before.before.before) ∙ c.in-Ok.is in
     let over = sym c.ends_at.ensures ∙ not-false _ c.if-not-ends_at.false-raw in
     rw (said, named c.before.before.before.before.before.before.before ∙ not-false _ c.if-not-is_name.false-raw, over, ← c.word-given.ensures) c.name.ensures
 

@@ -14,18 +14,18 @@ read : (c : tie.After-symbol_in) → let a = c.args in symbol_in a.names.now (wo
 read c = rw (← c.word.ensures) (sym c.symbol_in.ensures)
 
 read_next : (c : tie.After-number_in) → number_in (word_at 2 c.args.line.now) ≡ c.number_in.result
-read_next c = rw (← c.word-in-Of.ensures) (sym c.number_in.ensures)
+read_next c = rw (← c.word-in-Ok.ensures) (sym c.number_in.ensures)
 
-returns : tie.Need-returns-in-Not
-returns c = rw (c.slip.ensures, read c.before.before ∙ c.in-Not.is) (slip_does _ _ 1)
+returns : tie.Need-returns-in-Err
+returns c = rw (c.slip.ensures, read c.before.before ∙ c.in-Err.is) (slip_does _ _ 1)
 
-returns_2 : tie.Need-returns-in-Not-number_in
+returns_2 : tie.Need-returns-in-Err-number_in
 returns_2 c =
-    rw (c.slip-in-Not-number_in.ensures, read (one c.before.before) ∙ c.in-Of.is, read_next c.before.before ∙ c.in-Not-number_in.is) (slip_does _ _ 2)
+    rw (c.slip-in-Err-number_in.ensures, read (one c.before.before) ∙ c.in-Ok.is, read_next c.before.before ∙ c.in-Err-number_in.is) (slip_does _ _ 2)
 
-returns_3 : tie.Need-returns-in-Of-number_in
+returns_3 : tie.Need-returns-in-Ok-number_in
 returns_3 c =
-    rw (read (one c.before.before.before.before) ∙ c.in-Of.is, read_next c.before.before.before.before ∙ c.in-Of-number_in.is) c.second_valve.ensures
+    rw (read (one c.before.before.before.before) ∙ c.in-Ok.is, read_next c.before.before.before.before ∙ c.in-Ok-number_in.is) c.second_valve.ensures
 
 pub pairs_line_spec : {M : Type 1} → statement M
 pairs_line_spec = tie.close (tie.spec
