@@ -16,7 +16,6 @@ use board::{Board, Change, Outcome};
 use dimacs::reading::Reading;
 use dimacs::writing::Writing;
 use least::Withdrawal;
-use literals::refusal::number;
 use smallest::Listing;
 use text::Spelling;
 
@@ -119,7 +118,7 @@ pub fn number_of(outcome: Outcome) -> u8
 {
     match outcome {
         Outcome::Done => 0,
-        Outcome::Refused(why) => number(why),
+        Outcome::Refused(why) => u8::from(why),
     }
 }
 
@@ -242,7 +241,7 @@ pub fn answer_out(answer: Standing) -> PanelAnswer
         Standing::RuledOut => standing(2),
         Standing::Conflict => standing(3),
         Standing::Refused(why) => PanelAnswer {
-            refusal: number(why),
+            refusal: u8::from(why),
             standing: 0,
         },
     }
