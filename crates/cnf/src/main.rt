@@ -101,12 +101,7 @@ fn say_refusal(err: Stderr, why: Refusal, before: usize) -> io::Result<()>
             clause,
             b" needs a row more than the 2048 there are\n",
         ),
-        _ => say(
-            err,
-            b"cnf: refused ",
-            literals::refusal::number(why) as usize,
-            b"\n",
-        ),
+        _ => say(err, b"cnf: refused ", u8::from(why) as usize, b"\n"),
     }
 }
 

@@ -33,7 +33,8 @@ module _ (number s : ℕ) where
           let there : suc last - 1 - suc k ≡ last - 1 - k = omega arith in
           rw (one, there, compare.suc-suc) rest
 
-  pub look_found : (names : List ℕ) (k : ℕ) → position (named_so s) names ≡ Some k → look names (bits (length names) number) s ≡ bit_at number (length names - 1 - k)
+  pub look_found : (names : List ℕ) (k : ℕ) → position (named_so s) names ≡ Some k
+      → look names (bits (length names) number) s ≡ bit_at number (length names - 1 - k)
   look_found names k e = look_placed names ∙ go (ltb at (length names)) e
     where
       at : ℕ

@@ -1,5 +1,6 @@
 -- What the functions answer of what the bytes say.
-use Rattle.std.specs.Prelude.{ℕ, zero, suc, ◌+◌, ◌-◌, ◌/◌, ◌%◌, ◌^◌, Bool, true, false, cond, List, [], ◌∷◌, ◌++◌, map, length, set, replicate, eqb, leb, Option, Some, None}
+use Rattle.std.specs.Prelude.{ℕ, zero, suc, ◌+◌, ◌-◌, ◌/◌, ◌%◌, ◌^◌, Bool, true, false, cond, List, [], ◌∷◌, ◌++◌, map, length, set, replicate, eqb}
+use Rattle.std.specs.Prelude.{leb, Option, Some, None}
 use Rattle.meaning.specs.Formulae.{Formula, symbol, neg, and, or, imp, same, value, symbols_of, look}
 use Rattle.meaning.specs.Clauses.{assignments}
 use Rattle.formula.specs.Parse.{Parsed, good, bad}

@@ -89,7 +89,7 @@ fn refuse(board: Board, used: usize, last: u8, why: Refusal, out: &mut [u8], at:
     ensures did { Did (refused board used last why) result out.old out.new at }
     ensures written_bound { result.written ≤ at + 24 }
 {
-    let number = literals::refusal::number(why);
+    let number = u8::from(why);
     let written = put_named(out, at, b" no ", number as usize);
     Progress {
         board,
@@ -156,7 +156,7 @@ fn put_place(out: &mut [u8], at: usize, why: Refusal, place: usize) -> usize
     ensures put { Put out.old out.new at (place_text why place) result }
     ensures upper_bound { result ≤ at + 24 }
 {
-    let number = literals::refusal::number(why);
+    let number = u8::from(why);
     if number < 2 {
         return at;
     }

@@ -1,6 +1,7 @@
 -- The definitions of `specs/Row.antt` taken one number at a time: what the numbers of a row from the kth on say, by number k.
 use Rattle.meaning.proofs.Kit.{◌≡◌, ◌∙◌, sym, ap, refl, ⊎_elim, true, false, Bool, cond, ◌&&◌, List, [], ◌∷◌, ◌≤◌, ℕ, ◌<◌, ◌-◌, ◌+◌, add-one}
-use Rattle.meaning.proofs.Kit.{arith, eqb, ℤ, pos, nat_abs, length, get_or, drop, take, take_all, length-drop, length-take-le, drop_of_length-le, drop-cons, ne_eqb, eq-eqb}
+use Rattle.meaning.proofs.Kit.{arith, eqb, ℤ, pos, nat_abs, length, get_or, drop, take, take_all, length-drop, length-take-le, drop_of_length-le}
+use Rattle.meaning.proofs.Kit.{drop-cons, ne_eqb, eq-eqb}
 use Rattle.meaning.proofs.Kit.{le-leb, lt-ltb, le-ltb, lt-leb}
 use Rattle.meaning.proofs.Tables.{le_or_lt}
 use Rattle.literals.specs.Literal.{in_range}

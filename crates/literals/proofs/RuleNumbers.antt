@@ -1,6 +1,7 @@
 -- The numbers of rows' rules: how one is read, and what it is for one to be sound.
 use Rattle.meaning.proofs.Kit.{◌≡◌, ◌∙◌, sym, ap, refl, subst, ⊎_elim, true, false, Bool, ◌&&◌, true≢false, and-false, List, ◌≤◌, ℕ, ◌<◌, ◌-◌, ◌+◌}
-use Rattle.meaning.proofs.Kit.{eq-or-lt_of_le, add-one, arith, leb, T, ℤ, pos, nat_abs, negsuc, lt_z, w16, SFits, to_z-of_z, le-leb, ltb-true, leb-true}
+use Rattle.meaning.proofs.Kit.{eq-or-lt_of_le, add-one, arith, leb, T, ℤ, pos, nat_abs, negsuc, lt_z, w16, SFits, to_z-of_z, le-leb, ltb-true}
+use Rattle.meaning.proofs.Kit.{leb-true}
 use Rattle.meaning.proofs.Kit.{lt-leb, ltb-false}
 use lib.Dec.{leb-zero}
 use lib.Signed.{le_z, non_neg}

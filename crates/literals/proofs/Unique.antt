@@ -28,5 +28,5 @@ one_rows_sound κs a x y = (cc, refl)
 one_literal_count : One contract'.literal_count.ended literals.literal_count.Reads.Post
 one_literal_count κs a x y = (cc, refl)
 
-one_number : One contract'.refusal.number.ended literals.refusal.number.Reads.Post
+one_number : One contract'.refusal.U8FromRefusal.from.ended literals.refusal.U8FromRefusal.from.Reads.Post
 one_number κs a x y = (cc, refl)

@@ -16,7 +16,7 @@ use board::{Board, Change, Outcome};
 use dimacs::reading::Reading;
 use dimacs::writing::Writing;
 use least::Withdrawal;
-use literals::refusal::{Refusal, number};
+use literals::refusal::Refusal;
 use smallest::Listing;
 use text::Spelling;
 
@@ -115,7 +115,7 @@ pub fn number_of(outcome: Outcome) -> u8
 {
     match outcome {
         Ok(()) => 0,
-        Err(why) => number(why),
+        Err(why) => u8::from(why),
     }
 }
 
@@ -238,7 +238,7 @@ pub fn answer_out(answer: Result<Standing, Refusal>) -> PanelAnswer
         Ok(Standing::RuledOut) => standing(2),
         Ok(Standing::Conflict) => standing(3),
         Err(why) => PanelAnswer {
-            refusal: number(why),
+            refusal: u8::from(why),
             standing: 0,
         },
     }

@@ -164,7 +164,7 @@ pub fn on(rt: &impl Print, b: Board, lent: usize) -> io::Result<()> {
 }
 
 pub fn refused(rt: &impl Print, why: Refusal) -> io::Result<()> {
-    counted(rt, b" no", literals::refusal::number(why) as usize)
+    counted(rt, b" no", u8::from(why) as usize)
 }
 
 pub fn outcome(rt: &impl Print, o: Outcome) -> io::Result<()> {

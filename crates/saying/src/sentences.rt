@@ -34,7 +34,7 @@ fn say_nothing_to_show(rt: &impl Print, order: Order) -> io::Result<()> {
 // Why a call is refused, with its number. Those of formula bytes and of tables that are lent come up in no line.
 pub fn say_refusal(rt: &impl Print, order: Order, why: Refusal) -> io::Result<()> {
     say(rt, b"refused ")?;
-    say_number(rt, literals::refusal::number(why) as usize)?;
+    say_number(rt, u8::from(why) as usize)?;
     say(rt, b": ")?;
     match why {
         Refusal::BadBoard => say(rt, b"no board is open\n"),

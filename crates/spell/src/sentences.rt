@@ -43,7 +43,7 @@ pub fn say_refusal(rt: &impl Print, why: Refusal) -> io::Result<()> {
         Refusal::TooManySymbols => say(rt, b"refused 7: more than 8 different symbols\n"),
         Refusal::NoAssignment => say(rt, b"refused 8: no assignment satisfies it\n"),
         Refusal::TableFull => say(rt, b"refused 9: its rows do not fit\n"),
-        _ => say_number(rt, literals::refusal::number(why)),
+        _ => say_number(rt, u8::from(why)),
     }
 }
 

@@ -3,7 +3,8 @@ use Rattle.meaning.proofs.Kit.{◌∙◌, sym, ap, ◌<◌, ◌-◌, ℕ, arith,
 use Rattle.literals.specs.Row.{rising, row_sound}
 use Rattle.literals.proofs.Signed.{back_abs}
 use Rattle.literals.proofs.Arguments.{range_is}
-use Rattle.literals.proofs.Rows.{lent, lent_is, lent_long, after_first, rising_high, rising_low, rising_next, rising_none, rising_zero, row_first, row_no}
+use Rattle.literals.proofs.Rows.{lent, lent_is, lent_long, after_first, rising_high, rising_low, rising_next, rising_none, rising_zero, row_first}
+use Rattle.literals.proofs.Rows.{row_no}
 use Rattle.literals.proofs.row_sound.Goals.{then-s-last-via-then-s-last, then-s-last-via-else-s-last+then-symbols-s}
 use Rattle.literals.proofs.row_sound.Goals.{then-s-eq0, else-s-eq0+else-s-last+else-symbols-s}
 use Rattle.literals.proofs.row_sound.Goals as goal

@@ -4,7 +4,8 @@ use Rattle.meaning.proofs.Kit.{SFits, to_z, of_z, to_z-of_z, le-leb, lt-leb}
 use mir.Facts.{sfits_to_z}
 use Rattle.meaning.proofs.Tables.{le_or_lt}
 use Rattle.literals.specs.Row.{width, most_literals, numbers_at, rule_at, row_sound, rule_before, rows_sound}
-use Rattle.literals.proofs.RuleNumbers.{rule_low, number_below, number_above, unsound, before_first, before_next, Rises, rises_none, rises_more, rises_within}
+use Rattle.literals.proofs.RuleNumbers.{rule_low, number_below, number_above, unsound, before_first, before_next, Rises, rises_none, rises_more}
+use Rattle.literals.proofs.RuleNumbers.{rises_within}
 use Rattle.literals.proofs.RuleNumbers.{rises_beyond}
 use Rattle.literals.proofs.rows_sound.Goals as goal
 
@@ -39,7 +40,8 @@ returns-then-rule-last c =
     let fits : SFits w16 z = record { sfits = omega arith } in
     let low = number_below z _ c.loop-row.invariant.1.some (compared fits c.loop-row.invariant.0 c.if-rule-last.true) in
     let wrong = rule_low a.rules a.table.now row low in
-    sym (unsound a.symbols a.table.now a.used a.rules row c.loop-row-test.true (rw wrong (and-false (row_sound a.symbols (numbers_at a.table.now row)))))
+    let literals = row_sound a.symbols (numbers_at a.table.now row) in
+    sym (unsound a.symbols a.table.now a.used a.rules row c.loop-row-test.true (rw wrong (and-false literals)))
 
 pub loop-row-preserved : goal.loop-row-preserved
 unfolding rule_at numbers_at

@@ -1,5 +1,6 @@
 -- `naming::one_of_eight` meets its contract.
-use Rattle.meaning.proofs.Kit.{◌≡◌, ◌∙◌, false, Bool, ◌||◌, or-false, or_assoc, List, ◌≤◌, ℕ, ◌-◌, ◌+◌, suc, zero, add-zero, arith, length, get_or, drop, take, drop-cons}
+use Rattle.meaning.proofs.Kit.{◌≡◌, ◌∙◌, false, Bool, ◌||◌, or-false, or_assoc, List, ◌≤◌, ℕ, ◌-◌, ◌+◌, suc, zero, add-zero, arith, length, get_or}
+use Rattle.meaning.proofs.Kit.{drop, take, drop-cons}
 use Rattle.std.proofs.Common.{rules, tests}
 use Rattle.std.proofs.lemmas.Iterator.{YieldsList-from_slice}
 use Rattle.std.proofs.lemmas.Iterator.Consumers.{fold_from_yields_List}
