@@ -3,7 +3,6 @@
 ghost use Rattle.std.specs.Prelude.{◌≡◌, ◌≢◌, ◌/◌, ◌<◌, length};
 ghost use Rattle.names.specs.Names.{table_length};
 
-use board::Outcome;
 use board::asking::Standing;
 use orders::Desk;
 use orders::order::Order;
@@ -20,17 +19,17 @@ pub fn ask(rt: &impl Print, desk: Desk, table: &[i16], names: &[u8], l: i16) -> 
     requires { length names.now ≡ table_length }
 {
     let board = desk.board;
-    let standing = board::asking::ask(board, table, desk.furnace, l);
-    if let Err(why) = standing {
-        return refuse(rt, Order::Ask, why);
-    }
+    let standing = match board::asking::ask(board, table, desk.furnace, l) {
+        Ok(standing) => standing,
+        Err(why) => return refuse(rt, Order::Ask, why),
+    };
     say(rt, b"  ")?;
     say_literal(rt, names, l)?;
     match standing {
         Standing::Stands => say(rt, b" stands\n"),
         Standing::RuledOut => say(rt, b" is ruled out\n"),
         Standing::Conflict => say(rt, b" is in conflict\n"),
-        _ => say(rt, b" is open\n"),
+        Standing::Open => say(rt, b" is open\n"),
     }
 }
 

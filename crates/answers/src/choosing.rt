@@ -3,7 +3,6 @@
 ghost use Rattle.std.specs.Prelude.{◌≡◌, ◌≤◌, length, IfOk};
 ghost use Rattle.names.specs.Names.{table_length};
 
-use board::Outcome;
 use candidates::sets::has;
 use orders::order::Order;
 use orders::reading::literal_in;

@@ -4,7 +4,6 @@ ghost use Rattle.std.specs.Prelude.{◌≡◌, ◌+◌, ◌*◌, ◌≤◌, leng
 ghost use Rattle.literals.specs.Row.{width};
 ghost use Rattle.names.specs.Names.{table_length};
 
-use board::Outcome;
 use board::testing::good;
 use literals::WIDTH;
 use literals::refusal::Refusal;

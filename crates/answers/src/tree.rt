@@ -5,7 +5,6 @@ ghost use Rattle.names.specs.Names.{table_length};
 ghost use Rattle.saying.specs.Limits.{kept_length};
 
 use crate::asking::{opposite_place, say_derived};
-use board::Outcome;
 use board::testing::Placed;
 use literals::refusal::Refusal;
 use orders::Desk;

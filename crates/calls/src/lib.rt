@@ -8,6 +8,7 @@ ghost use Rattle.std.specs.Prelude.{◌≤◌, length};
 use board::asking::{Reason, Standing};
 use board::rules::Addition;
 use board::{Board, Change, Outcome};
+use literals::refusal::Refusal;
 use report::comparing::{BYTE, WORD, changed, same_board, written};
 use report::counting::{how_many, sum};
 use report::printing;
@@ -231,12 +232,12 @@ pub fn settle(
     settled(rt, told, &labels, &ranks, &supports)
 }
 
-fn standing(rt: &impl Print, s: Standing) -> io::Result<()> {
+fn standing(rt: &impl Print, s: Result<Standing, Refusal>) -> io::Result<()> {
     match s {
-        Standing::Conflict => text(rt, b" conflict"),
-        Standing::Stands => text(rt, b" stands"),
-        Standing::RuledOut => text(rt, b" out"),
-        Standing::Open => text(rt, b" open"),
+        Ok(Standing::Conflict) => text(rt, b" conflict"),
+        Ok(Standing::Stands) => text(rt, b" stands"),
+        Ok(Standing::RuledOut) => text(rt, b" out"),
+        Ok(Standing::Open) => text(rt, b" open"),
         Err(why) => printing::refused(rt, why),
     }
 }

@@ -11,7 +11,6 @@ ghost use Rattle.dimacs.specs.Gathering.{clauses_from, rows_kept};
 
 use crate::gathering::{Kept, gather};
 use crate::words::next_word;
-use board::Outcome;
 use implicates::one_row::append_row;
 
 // Appends the row of a clause of which this is kept, at `row`, if it has one, with its rule's number. Returns the next free row.

@@ -2,7 +2,7 @@
 
 ghost use Rattle.std.specs.Prelude.{◌≤◌, length};
 
-use board::{Board, Outcome};
+use board::Board;
 use dimacs::reading::Reading;
 use dimacs::writing::Writing;
 use report::comparing::{BYTE, changed, same_board, written};

@@ -2,7 +2,7 @@
 
 ghost use Rattle.std.specs.Prelude.{◌≤◌, length};
 
-use board::{Board, Outcome};
+use board::Board;
 use least::Withdrawal;
 use report::comparing::{WORD, written};
 use report::printing;

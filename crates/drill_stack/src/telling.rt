@@ -3,7 +3,6 @@
 use crate::comparing::same_stacks;
 use crate::desks::Desk;
 use crate::printed;
-use board::Outcome;
 use report::comparing::same_board;
 use report::printing::{counted, text};
 use report::{boards, printing};

@@ -2,7 +2,7 @@
 
 ghost use Rattle.std.specs.Prelude.{◌≤◌, length};
 
-use board::{Board, Outcome};
+use board::Board;
 use report::comparing::{changed, written};
 use report::printing;
 use report::printing::counted;

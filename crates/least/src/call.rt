@@ -14,7 +14,7 @@ use crate::effects::effect_of;
 use crate::search::search;
 use crate::{NO_SET, Withdrawal};
 use board::testing::{good, is_furnace};
-use board::{Board, Outcome};
+use board::Board;
 use candidates::MOST_CANDIDATES;
 use candidates::given::{all_literals, repeated, write_places};
 use candidates::sets::power;

@@ -8,7 +8,7 @@ ghost use Rattle.lines.specs.Commands.{reason_text, refused, refused_at, rows_te
 use crate::commands::{Command, body_length, formula_length, literal_in};
 use board::asking::Standing;
 use board::rules::Addition;
-use board::{Board, Change, Outcome, asking, changes};
+use board::{Board, Change, asking, changes};
 use literals::refusal::Refusal;
 use spelling::{put_literals, put_named, put_natural, put_word};
 

@@ -29,7 +29,6 @@ use crate::crossing::{
     spelling_out, withdrawal_out, writing_out,
 };
 use crate::steps::{open_step, pop_step, push_step, withdraw_step};
-use board::Outcome;
 use literals::WIDTH;
 use stack::Stacks;
 

@@ -5,7 +5,7 @@ ghost use Rattle.std.specs.Prelude.{◌≡◌, true, ◌+◌, ◌*◌, ◌≤◌
 ghost use Rattle.meaning.specs.Tests.{all};
 ghost use Rattle.literals.specs.Row.{width, most_rules};
 
-use implicates::Appended;
+use literals::refusal::Refusal;
 use literals::{MOST_LITERALS, WIDTH};
 use std::io;
 
@@ -63,7 +63,7 @@ fn show(
             print_rows(rt, &table, used, n)
         }
         Err(Refusal::NoAssignment) => rt.write_all(b"no assignment\n"),
-        Err(Refusal::TableFull) => rt.write_all(b"no room\n"),
+        Err(_) => rt.write_all(b"no room\n"),
     }
 }
 

@@ -12,7 +12,7 @@ use crate::Listing;
 use crate::search::{Note, note_sets};
 use crate::writing::{count_listed, write_listed};
 use board::testing::good;
-use board::{Board, Outcome};
+use board::Board;
 use candidates::MOST_CANDIDATES;
 use candidates::given::{all_literals, repeated, write_places};
 use candidates::sets::power;

@@ -8,11 +8,9 @@ ghost use Rattle.spell.specs.Shown.{too_many_open};
 
 use crate::sentences::{say, say_refusal};
 use crate::showing::{show_bytes, show_caret, show_line, show_place, show_rows};
-use board::Outcome;
 use board::rules::Addition;
 use chains::emitting::emit;
 use chains::reading::{MOST_OPEN, chain, read_text};
-use formula::reading::Answer;
 use literals::refusal::Refusal;
 use std::io;
 
@@ -94,7 +92,7 @@ fn too_many_open(line: &[u8], place: usize) -> bool
 {
     match chain(line, MOST_OPEN + 1) {
         Ok(count) => place < count,
-        Err(Break { why: _, place: other }) => place < other,
+        Err(other) => place < other.place,
     }
 }
 
@@ -125,6 +123,6 @@ pub fn answer(
 {
     match read_text(line) {
         Ok(_) => answer_formula(rt, line, table, bytes, page),
-        Err(Break { why: _, place: place }) => answer_broken(rt, line, place, page),
+        Err(at) => answer_broken(rt, line, at.place, page),
     }
 }

@@ -7,7 +7,7 @@ use crate::record::{empty_stacks, less_top, on_top, stack_of, top_of};
 use crate::testing::{good_stacks, is_stacked};
 use crate::{Stacks, Step};
 use board::testing::{good, is_furnace};
-use board::{Board, Change, Outcome};
+use board::{Board, Change};
 use literals::refusal::Refusal;
 
 fn refused(board: Board, stacks: Stacks, why: Refusal) -> Step

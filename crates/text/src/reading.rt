@@ -8,7 +8,7 @@ ghost use Rattle.text.specs.Reading.{read_in, read_text_answer, read_text_bytes}
 use crate::{Spelling, refused};
 use board::rules::NO_PLACE;
 use board::testing::good;
-use board::{Board, Outcome};
+use board::Board;
 use chains::emitting::emit;
 use chains::reading::read_text;
 use formula::reading::{Break, read_whole};

@@ -10,7 +10,7 @@ ghost use Rattle.text.specs.Writing.{text_in, room_faults, spelled_answer, write
 use crate::{Spelling, refused};
 use board::rules::NO_PLACE;
 use board::testing::good;
-use board::{Board, Outcome};
+use board::Board;
 use chains::wording::spell;
 use formula::reading::read_whole;
 use literals::refusal::Refusal;
