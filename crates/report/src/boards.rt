@@ -41,25 +41,24 @@ pub fn table(front: &[i16]) -> [i16; 45]
     requires { length front.now ≤ 45 }
 {
     let mut t = [GUARD; 45];
-    let mut k = 0;
-    while k < front.len() {
-        t[k] = front[k];
-        k += 1;
-    }
+    t[..front.len()].copy_from_slice(front);
+    t
+}
+
+// The table with another row r.
+pub fn with_row(table: [i16; 45], r: usize, row: [i16; 9]) -> [i16; 45]
+    requires { r ≤ 4 }
+{
+    let mut t = table;
+    t[9 * r..9 * r + 9].copy_from_slice(&row);
     t
 }
 
 // A table that begins with these three rows.
 pub fn three_rows(first: [i16; 9], second: [i16; 9], third: [i16; 9]) -> [i16; 45] {
-    let mut t = [GUARD; 45];
-    let mut k = 0;
-    while k < 9 {
-        t[k] = first[k];
-        t[9 + k] = second[k];
-        t[18 + k] = third[k];
-        k += 1;
-    }
-    t
+    let one = with_row([GUARD; 45], 0, first);
+    let two = with_row(one, 1, second);
+    with_row(two, 2, third)
 }
 
 // The two rows of document 01's journal, 1 implies 2, and 2 and 3 imply 4, as of the rules with these numbers.

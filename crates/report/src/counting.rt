@@ -4,34 +4,11 @@ ghost use Rattle.std.specs.Prelude.{◌≤◌, length};
 
 use findings::NONE;
 
-// How many of the bytes are this one.
-pub fn bytes(list: &[u8], byte: u8) -> usize
+// How many of the items are this one.
+pub fn how_many<T: PartialEq + Copy>(list: &[T], item: T) -> usize
     ensures { result ≤ length list.now }
 {
-    let mut n: usize = 0;
-    let mut k = 0;
-    while k < list.len() {
-        if list[k] == byte {
-            n += 1;
-        }
-        k += 1;
-    }
-    n
-}
-
-// How many of the numbers are this one.
-pub fn words(list: &[u16], word: u16) -> usize
-    ensures { result ≤ length list.now }
-{
-    let mut n: usize = 0;
-    let mut k = 0;
-    while k < list.len() {
-        if list[k] == word {
-            n += 1;
-        }
-        k += 1;
-    }
-    n
+    list.iter().filter(|x| **x == item).count()
 }
 
 fn wide(x: u16) -> usize
@@ -44,14 +21,9 @@ fn wide(x: u16) -> usize
 pub fn sum(list: &[u16], n: usize) -> usize
     requires { n ≤ 410 }
 {
-    let mut total: usize = 0;
-    let mut k = 0;
-    while k < list.len() {
-        if n <= k {
-            return total;
-        }
-        total += wide(list[k]);
-        k += 1;
+    let mut total = 0;
+    for x in &list[..n.min(list.len())] {
+        total += wide(*x);
     }
     total
 }

@@ -6,5 +6,6 @@
 pub mod boards;
 pub mod comparing;
 pub mod counting;
+pub mod pieces;
 pub mod printing;
 pub mod quoting;

@@ -1,7 +1,5 @@
 // Printing the parts of a line.
 
-ghost use Rattle.std.specs.Prelude.{◌<◌};
-
 use board::rules::NO_PLACE;
 use board::{Board, Outcome};
 use findings::NONE;
@@ -17,8 +15,7 @@ pub fn end(rt: &impl Print) -> io::Result<()> {
 }
 
 pub fn number(rt: &impl Print, n: usize) -> io::Result<()> {
-    text(rt, b" ")?;
-    rt.print(n)
+    print!(rt; " {n}")
 }
 
 pub fn counted(rt: &impl Print, label: &[u8], n: usize) -> io::Result<()> {
@@ -26,55 +23,32 @@ pub fn counted(rt: &impl Print, label: &[u8], n: usize) -> io::Result<()> {
     number(rt, n)
 }
 
-fn byte(rt: &impl Print, b: u8) -> io::Result<()> {
-    number(rt, b as usize)
-}
-
 // A rank or a row number, or a dash where there is none.
 fn word(rt: &impl Print, n: u16) -> io::Result<()> {
     if n == NONE {
         text(rt, b" -")
     } else {
-        number(rt, n as usize)
+        print!(rt; " {n}")
     }
-}
-
-fn signed(rt: &impl Print, negative: bool, n: usize) -> io::Result<()> {
-    if negative {
-        text(rt, b" -")?;
-    } else {
-        text(rt, b" ")?;
-    }
-    rt.print(n)
 }
 
 pub fn literal(rt: &impl Print, l: i16) -> io::Result<()> {
-    signed(rt, l < 0, literals::symbol(l))
+    print!(rt; " {l}")
 }
 
 // The numbers of a row, or of a part of one.
 pub fn numbers(rt: &impl Print, row: &[i16]) -> io::Result<()> {
     text(rt, b" [")?;
-    let mut k = 0;
-    while k < row.len() {
-        literal(rt, row[k])?;
-        k += 1;
+    for l in row {
+        literal(rt, *l)?;
     }
     text(rt, b" ]")
 }
 
 // The rows of a table from row `from` on, `count` of them.
 pub fn rows(rt: &impl Print, table: &[i16], from: usize, count: usize) -> io::Result<()> {
-    let mut row = 0;
-    let mut at = 0;
-    while table.len() - at >= 9 {
-        if row >= from {
-            if row - from < count {
-                numbers(rt, &table[at..at + 9])?;
-            }
-        }
-        row += 1;
-        at += 9;
+    for row in table.chunks_exact(9).skip(from).take(count) {
+        numbers(rt, row)?;
     }
     Ok(())
 }
@@ -86,61 +60,34 @@ pub fn appended(rt: &impl Print, table: &[i16], from: usize, count: usize) -> io
     rows(rt, table, from, count)
 }
 
-fn digit(n: u8) -> u8
-    requires { n < 16 }
-{
-    if n < 10 { b'0' + n } else { b'a' + (n - 10) }
-}
-
 // A byte as two hex digits, behind a mark.
-pub fn hex(rt: &impl Print, mark: u8, b: u8) -> io::Result<()> {
-    let digits = [mark, digit(b / 16), digit(b % 16)];
-    text(rt, &digits)
+pub fn hex(rt: &impl Print, mark: char, b: u8) -> io::Result<()> {
+    print!(rt; "{mark}{b:02x}")
 }
 
 // The bytes of a formula.
 pub fn formula(rt: &impl Print, bytes: &[u8]) -> io::Result<()> {
-    let mut k = 0;
-    while k < bytes.len() {
-        hex(rt, b' ', bytes[k])?;
-        k += 1;
-    }
-    Ok(())
+    bytes.iter().try_for_each(|b| hex(rt, ' ', *b))
 }
 
 // The first n bytes of a list.
 pub fn bytes(rt: &impl Print, list: &[u8], n: usize) -> io::Result<()> {
-    let mut k = 0;
-    while k < list.len() {
-        if k < n {
-            byte(rt, list[k])?;
-        }
-        k += 1;
-    }
-    Ok(())
+    list.iter().take(n).try_for_each(|b| print!(rt; " {b}"))
 }
 
 // The first n ranks or row numbers of a list.
 pub fn words(rt: &impl Print, list: &[u16], n: usize) -> io::Result<()> {
-    let mut k = 0;
-    while k < list.len() {
-        if k < n {
-            word(rt, list[k])?;
-        }
-        k += 1;
-    }
-    Ok(())
+    list.iter().take(n).try_for_each(|w| word(rt, *w))
 }
 
 // The premises of a furnace, in the order of their places.
 fn premises(rt: &impl Print, held: &[bool]) -> io::Result<()> {
     text(rt, b" [")?;
-    let mut k = 0;
-    while k < held.len() {
-        if held[k] {
-            signed(rt, k % 2 == 1, k / 2 + 1)?;
+    for (place, is_held) in held.iter().enumerate() {
+        if *is_held {
+            let sign = if place % 2 == 1 { "-" } else { "" };
+            print!(rt; " {sign}{}", place / 2 + 1)?;
         }
-        k += 1;
     }
     text(rt, b" ]")
 }

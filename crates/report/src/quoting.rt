@@ -10,7 +10,7 @@ fn shown(rt: &impl Print, b: u8) -> io::Result<()> {
         return text(rt, b"/");
     }
     if b < 32 || 126 < b {
-        return printing::hex(rt, b'\\', b);
+        return printing::hex(rt, '\\', b);
     }
     let one = [b];
     text(rt, &one)
@@ -19,12 +19,6 @@ fn shown(rt: &impl Print, b: u8) -> io::Result<()> {
 // The first n bytes of a text, in quotes.
 pub fn quoted(rt: &impl Print, list: &[u8], n: usize) -> io::Result<()> {
     text(rt, b" \"")?;
-    let mut k = 0;
-    while k < list.len() {
-        if k < n {
-            shown(rt, list[k])?;
-        }
-        k += 1;
-    }
+    list.iter().take(n).try_for_each(|b| shown(rt, *b))?;
     text(rt, b"\"")
 }

@@ -1,9 +1,0 @@
--- `three_rows` is safe and ends: it writes the nine numbers of each row.
-use Rattle.meaning.proofs.Kit.{◌≡◌, ◌≤◌, ◌-◌, length}
-use Rattle.report.proofs.boards.three_rows.Given as goal
-
-abbrev pub invariant-loop-k : goal.invariant-loop-k
-invariant-loop-k l = (l.k ≤ 9) × (length l.t ≡ 45)
-
-abbrev pub decreases-loop-k : goal.decreases-loop-k
-decreases-loop-k l = 9 - l.k
