@@ -8,9 +8,10 @@ ghost use Rattle.std.specs.Prelude.{◌≤◌, length};
 use board::asking::{Reason, Standing};
 use board::rules::Addition;
 use board::{Board, Change, Outcome};
-use report::comparing::{BYTE, WORD, changed, same_board, written_bytes, written_words};
+use report::comparing::{BYTE, WORD, changed, same_board, written};
+use report::counting::{how_many, sum};
+use report::printing;
 use report::printing::{counted, number, text};
-use report::{counting, printing};
 use std::io;
 
 // The name of a call and the literal that it is given.
@@ -119,36 +120,34 @@ pub fn withdraw(
 // What settle wrote at the front of each table, in full.
 fn tables(rt: &impl Print, labels: &[u8], ranks: &[u16], supports: &[u16]) -> io::Result<()> {
     text(rt, b" labels")?;
-    printing::bytes(rt, labels, written_bytes(labels))?;
+    printing::bytes(rt, labels, written(labels, BYTE))?;
     text(rt, b" ranks")?;
-    printing::words(rt, ranks, written_words(ranks))?;
+    printing::words(rt, ranks, written(ranks, WORD))?;
     text(rt, b" supports")?;
-    printing::words(rt, supports, written_words(supports))
+    printing::words(rt, supports, written(supports, WORD))
 }
 
 // How many literals have each rank, up to the last rank that any has.
 fn by_rank(rt: &impl Print, ranks: &[u16]) -> io::Result<()> {
     text(rt, b" by rank")?;
-    let mut k: u16 = 0;
-    while k < 400 {
-        let n = counting::words(ranks, k);
+    for rank in 0..400 {
+        let n = how_many(ranks, rank);
         if n == 0 {
-            return Ok(());
+            break;
         }
         number(rt, n)?;
-        k += 1;
     }
     Ok(())
 }
 
 // The same in short: how many symbols have each label, the sums of the ranks and of the supports, how many literals have each rank.
 fn summary(rt: &impl Print, labels: &[u8], ranks: &[u16], supports: &[u16]) -> io::Result<()> {
-    counted(rt, b" labels", counting::bytes(labels, 0))?;
-    number(rt, counting::bytes(labels, 1))?;
-    number(rt, counting::bytes(labels, 2))?;
-    number(rt, counting::bytes(labels, 3))?;
-    counted(rt, b" sums", counting::sum(ranks, 400))?;
-    number(rt, counting::sum(supports, 400))?;
+    counted(rt, b" labels", how_many(labels, 0))?;
+    number(rt, how_many(labels, 1))?;
+    number(rt, how_many(labels, 2))?;
+    number(rt, how_many(labels, 3))?;
+    counted(rt, b" sums", sum(ranks, 400))?;
+    number(rt, sum(supports, 400))?;
     by_rank(rt, ranks)
 }
 
@@ -159,7 +158,7 @@ fn settled(
     ranks: &[u16],
     supports: &[u16],
 ) -> io::Result<()> {
-    let n = written_bytes(labels);
+    let n = written(labels, BYTE);
     match told {
         Outcome::Done => {
             if n < 200 {
@@ -169,8 +168,8 @@ fn settled(
             }
         }
         Outcome::Refused(why) => {
-            let m = written_words(ranks);
-            printing::refused_with(rt, why, n == 0 && m == 0 && written_words(supports) == 0)
+            let m = written(ranks, WORD);
+            printing::refused_with(rt, why, n == 0 && m == 0 && written(supports, WORD) == 0)
         }
     }
 }
@@ -278,13 +277,13 @@ pub fn explain(
 
 // What ground or blame wrote at the front of the table: the marks, or of many how many are set.
 fn marked(rt: &impl Print, told: Outcome, marks: &[u8]) -> io::Result<()> {
-    let n = written_bytes(marks);
+    let n = written(marks, BYTE);
     match told {
         Outcome::Done => {
             if n < 400 {
                 printing::bytes(rt, marks, n)
             } else {
-                counted(rt, b" marked", counting::bytes(marks, 1))
+                counted(rt, b" marked", how_many(marks, 1))
             }
         }
         Outcome::Refused(why) => printing::refused_with(rt, why, n == 0),
