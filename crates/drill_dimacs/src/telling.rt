@@ -5,22 +5,16 @@ ghost use Rattle.std.specs.Prelude.{◌≤◌, length};
 use board::{Board, Outcome};
 use dimacs::reading::Reading;
 use dimacs::writing::Writing;
-use report::comparing::{BYTE, changed, same_board, written_bytes};
+use report::comparing::{BYTE, changed, same_board, written};
+use report::counting::how_many;
+use report::printing;
 use report::printing::{counted, text};
 use report::quoting::quoted;
-use report::{counting, printing};
 use std::io;
 
 // Whether a refused reading left everything as it was.
 fn as_given(before: Board, told: Reading, places: usize) -> bool {
-    if places != 0 {
-        return false;
-    }
-    if told.added != 0 {
-        return false;
-    }
-    let next = told.board;
-    same_board(before, next)
+    places == 0 && told.added == 0 && same_board(before, told.board)
 }
 
 // What reading a text came to: the rows in use before it, those that it added, its clauses, and at how many places the table changed.
@@ -87,12 +81,12 @@ fn wrote(rt: &impl Print, told: Writing, out: &[u8]) -> io::Result<()> {
         Outcome::Refused(why) => printing::refused_with(
             rt,
             why,
-            told.bytes == 0 && written_bytes(out) == 0,
+            told.bytes == 0 && written(out, BYTE) == 0,
         ),
         Outcome::Done => {
             counted(rt, b" wrote", told.bytes)?;
             quoted(rt, out, told.bytes)?;
-            counted(rt, b", unwritten", counting::bytes(out, BYTE))
+            counted(rt, b", unwritten", how_many(out, BYTE))
         }
     }
 }

@@ -6,7 +6,7 @@ use crate::telling;
 use board::Board;
 use report::boards::{GUARD, blank};
 use report::comparing::BYTE;
-use report::{boards, printing};
+use report::{boards, pieces, printing};
 use std::io;
 
 fn show(rt: &impl Print, b: Board, lent: usize, text: &[u8]) -> io::Result<()>
@@ -17,20 +17,11 @@ fn show(rt: &impl Print, b: Board, lent: usize, text: &[u8]) -> io::Result<()>
     printing::end(rt)
 }
 
-// Reads each text of a list, each by itself. A byte `/`, which no text has, stands after each.
+// Reads each text of a list, each by itself. A byte `/`, which no text has, stands between two.
 fn each(rt: &impl Print, b: Board, lent: usize, list: &[u8]) -> io::Result<()>
     requires { lent ≤ 45 }
 {
-    let mut start = 0;
-    let mut k = 0;
-    while k < list.len() {
-        if list[k] == b'/' {
-            show(rt, b, lent, &list[start..k])?;
-            start = k + 1;
-        }
-        k += 1;
-    }
-    Ok(())
+    pieces::each(list, |text| show(rt, b, lent, text))
 }
 
 // Onto a board of 4 symbols and two rows, with three free rows, and with none; and onto one of 200 symbols, with three, and with none.
@@ -87,7 +78,7 @@ fn broken(rt: &impl Print) -> io::Result<()> {
           p cnf 32767 1\n-18446744073709551617 0\n/\
           p cnf 4 1\n1 -0 0\n/\
           p cnf 4 1\n1-2 0\n/\
-          p cnf 4 1\r\n1 0\r\n/",
+          p cnf 4 1\r\n1 0\r\n",
     )
 }
 
@@ -103,20 +94,20 @@ fn taken(rt: &impl Print) -> io::Result<()> {
           p cnf 2 1\n-2 0\n/\
           p cnf 32767 1\n4 0\n/\
           p cnf 4 1\n4 -3 4 -2 -3 0\n/\
-          p cnf 0 0/",
+          p cnf 0 0",
     )
 }
 
 // The rows of three clauses fill the table; those of two fill a shorter one, whose last eight numbers are no row. An always true clause has no
 // row: it is taken behind them, and where no row is free. A reading keeps the premises of both furnaces.
 fn rows(rt: &impl Print) -> io::Result<()> {
-    read(rt, b"p cnf 4 3\n1 0\n2 4 0\n-3 0\n/")?;
+    read(rt, b"p cnf 4 3\n1 0\n2 4 0\n-3 0\n")?;
     show(rt, boards::both(), 44, b"p cnf 4 2\n1 0\n2 4 0\n")?;
-    read(rt, b"p cnf 4 4\n1 0\n2 4 0\n-3 0\n1 -2 -1 0\n/")?;
+    read(rt, b"p cnf 4 4\n1 0\n2 4 0\n-3 0\n1 -2 -1 0\n")?;
     read_full(
         rt,
         b"p cnf 4 1\n1 -2 -1 0\n/\
-          p cnf 4 0\n/",
+          p cnf 4 0\n",
     )?;
     show(
         rt,
@@ -129,7 +120,7 @@ fn rows(rt: &impl Print) -> io::Result<()> {
 // Each clause is one rule more, an always true one between two others too. The last two rules that have a number, one of them with no row; and 9 in
 // the middle of a text by a third, with a row and with none.
 fn rules(rt: &impl Print) -> io::Result<()> {
-    read(rt, b"p cnf 4 3\n1 0\n2 -2 0\n-3 0\n/")?;
+    read(rt, b"p cnf 4 3\n1 0\n2 -2 0\n-3 0\n")?;
     each(
         rt,
         blank(4, 2, 32765),
@@ -137,7 +128,7 @@ fn rules(rt: &impl Print) -> io::Result<()> {
         b"p cnf 4 2\n1 0\n2 -2 0\n/\
           p cnf 4 2\n2 -2 0\n1 0\n/\
           p cnf 4 4\n1 0\n2 -2 0\n3 0\n4 0\n/\
-          p cnf 4 4\n1 0\n2 0\n3 -3 0\n4 0\n/",
+          p cnf 4 4\n1 0\n2 0\n3 -3 0\n4 0\n",
     )
 }
 
@@ -153,7 +144,7 @@ fn no_number_left(rt: &impl Print) -> io::Result<()> {
           p cnf 201 1\n201 0\n/\
           p cnf 9 1\n1 2 3 4 5 6 7 8 9 0\n/\
           p cnf 4 1\n0\n/\
-          p cnf 4 0\n/",
+          p cnf 4 0\n",
     )
 }
 
@@ -164,7 +155,7 @@ fn symbols(rt: &impl Print) -> io::Result<()> {
         b"p cnf 200 1\n200 -199 198 197 196 195 194 -193 0\n/\
           p cnf 8 1\n1 2 3 4 5 6 7 8 8 0\n/\
           p cnf 9 1\n1 2 3 4 5 6 7 8 9 0\n/\
-          p cnf 9 2\n1 0\n1 2 3 4 5 6 7 8 9 -9 0\n/",
+          p cnf 9 2\n1 0\n1 2 3 4 5 6 7 8 9 -9 0\n",
     )
 }
 
@@ -174,58 +165,58 @@ fn at_fault(rt: &impl Print) -> io::Result<()> {
     read(
         rt,
         b"p cnf 5 2\n1 0\n2 -5 0\n/\
-          p cnf 32767 1\n-32767 0\n/",
+          p cnf 32767 1\n-32767 0\n",
     )?;
-    read_wide(rt, b"p cnf 201 1\n201 0\n/")?;
+    read_wide(rt, b"p cnf 201 1\n201 0\n")?;
     read(
         rt,
         b"p cnf 4 1\n0\n/\
-          p cnf 4 3\n1 0\n0\n2 0\n/",
+          p cnf 4 3\n1 0\n0\n2 0\n",
     )?;
-    read_full(rt, b"p cnf 4 1\n1 0\n/")?;
+    read_full(rt, b"p cnf 4 1\n1 0\n")?;
     read(
         rt,
         b"p cnf 4 4\n1 0\n2 0\n3 0\n4 0\n/\
-          p cnf 4 5\n1 0\n2 0\n3 -3 0\n3 0\n4 0\n/",
+          p cnf 4 5\n1 0\n2 0\n3 -3 0\n3 0\n4 0\n",
     )?;
     show(rt, boards::both(), 44, b"p cnf 4 3\n1 0\n2 0\n3 0\n")
 }
 
 // 15 at the end of a text is ahead of 2, 7, 8 and 9 in its first clause.
 fn form_first(rt: &impl Print) -> io::Result<()> {
-    read(rt, b"p cnf 5 2\n5 0\nx 0\n/")?;
-    read_wide(rt, b"p cnf 9 2\n1 2 3 4 5 6 7 8 9 0\n/")?;
-    read(rt, b"p cnf 4 2\n0\n1/")?;
-    read_full(rt, b"p cnf 4 2\n1 0\n5 0\n/")
+    read(rt, b"p cnf 5 2\n5 0\nx 0\n")?;
+    read_wide(rt, b"p cnf 9 2\n1 2 3 4 5 6 7 8 9 0\n")?;
+    read(rt, b"p cnf 4 2\n0\n1")?;
+    read_full(rt, b"p cnf 4 2\n1 0\n5 0\n")
 }
 
 // "for the first clause at fault": 7, 8 and 9 each ahead of 2 in the next clause, 9 ahead of 8, and 2 ahead of 8.
 fn first_clause(rt: &impl Print) -> io::Result<()> {
-    read_wide(rt, b"p cnf 201 2\n1 2 3 4 5 6 7 8 9 0\n201 0\n/")?;
-    read(rt, b"p cnf 5 3\n1 0\n0\n5 0\n/")?;
+    read_wide(rt, b"p cnf 201 2\n1 2 3 4 5 6 7 8 9 0\n201 0\n")?;
+    read(rt, b"p cnf 5 3\n1 0\n0\n5 0\n")?;
     read_full(
         rt,
         b"p cnf 5 2\n1 0\n5 0\n/\
           p cnf 4 2\n1 0\n0\n/\
-          p cnf 5 3\n3 -3 0\n-5 0\n0\n/",
+          p cnf 5 3\n3 -3 0\n-5 0\n0\n",
     )
 }
 
 // In one clause 2 is ahead of 7 and of 9, 7 of 9, and 8 of 9; an always true one gives 2 and 7 too. One that gives 8 has no literal for 2 or 7.
 fn one_clause(rt: &impl Print) -> io::Result<()> {
-    read_wide(rt, b"p cnf 201 1\n1 2 3 4 5 6 7 8 9 201 0\n/")?;
-    read_wide_full(rt, b"p cnf 201 1\n201 1 2 3 4 5 6 7 8 0\n/")?;
+    read_wide(rt, b"p cnf 201 1\n1 2 3 4 5 6 7 8 9 201 0\n")?;
+    read_wide_full(rt, b"p cnf 201 1\n201 1 2 3 4 5 6 7 8 0\n")?;
     read_full(
         rt,
         b"p cnf 5 1\n5 0\n/\
-          p cnf 5 1\n5 -5 0\n/",
+          p cnf 5 1\n5 -5 0\n",
     )?;
     read_wide_full(
         rt,
         b"p cnf 9 1\n1 2 3 4 5 6 7 8 9 0\n/\
-          p cnf 9 1\n1 2 3 4 5 6 7 8 9 -9 0\n/",
+          p cnf 9 1\n1 2 3 4 5 6 7 8 9 -9 0\n",
     )?;
-    read_full(rt, b"p cnf 4 1\n0\n/")
+    read_full(rt, b"p cnf 4 1\n0\n")
 }
 
 fn write(rt: &impl Print, b: Board, room: usize) -> io::Result<()>
