@@ -3,10 +3,10 @@
 ghost use Rattle.std.specs.Prelude.{◌≤◌, length};
 
 use board::{Board, Outcome};
-use report::comparing::changed;
+use report::comparing::{changed, written};
+use report::printing;
 use report::printing::counted;
 use report::quoting::quoted;
-use report::{counting, printing};
 use std::io;
 use text::Spelling;
 
@@ -45,19 +45,14 @@ pub fn add(
 
 // The first n bytes of a list, in hex.
 fn hexed(rt: &impl Print, list: &[u8], n: usize) -> io::Result<()> {
-    let mut k = 0;
-    while k < list.len() {
-        if k < n {
-            printing::hex(rt, b' ', list[k])?;
-        }
-        k += 1;
-    }
-    Ok(())
+    list.iter()
+        .take(n)
+        .try_for_each(|b| printing::hex(rt, ' ', *b))
 }
 
 // What was written into the bytes lent: how many bytes are told, these in quotes or in hex, and how many of all that are lent changed.
 fn came_to(rt: &impl Print, told: Spelling, out: &[u8], quotes: bool) -> io::Result<()> {
-    let places = out.len() - counting::bytes(out, FREE);
+    let places = written(out, FREE);
     let outcome = told.outcome;
     match outcome {
         Outcome::Refused(why) => {

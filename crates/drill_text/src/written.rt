@@ -6,7 +6,7 @@ use crate::telling::FREE;
 use crate::{telling, texts};
 use board::Board;
 use report::boards::blank;
-use report::{boards, printing};
+use report::{boards, pieces, printing};
 use std::io;
 
 fn show(rt: &impl Print, b: Board, room: usize, bytes: &[u8]) -> io::Result<()>
@@ -17,37 +17,23 @@ fn show(rt: &impl Print, b: Board, room: usize, bytes: &[u8]) -> io::Result<()>
     printing::end(rt)
 }
 
-// The text of each formula of a list, each by itself. A byte `/` stands after each.
+// The text of each formula of a list, each by itself. A byte `/` stands between two.
 fn each(rt: &impl Print, b: Board, room: usize, list: &[u8]) -> io::Result<()>
     requires { room ≤ 100 }
 {
-    let mut start = 0;
-    let mut k = 0;
-    while k < list.len() {
-        if list[k] == b'/' {
-            show(rt, b, room, &list[start..k])?;
-            start = k + 1;
-        }
-        k += 1;
-    }
-    Ok(())
+    pieces::each(list, |bytes| show(rt, b, room, bytes))
 }
 
 // 1: S of 0 and 201, a premise of symbol 5 of 4, held by furnace 1, and by furnace 2, more rules counted than there are numbers, a row of rule 2
 // where one rule is counted, a row whose literals are not sound. And 1 is ahead of 3, 4 and 13.
 fn spoilt(rt: &impl Print) -> io::Result<()> {
-    each(rt, blank(0, 2, 2), 100, b"\x10\x01/")?;
-    each(rt, blank(201, 2, 2), 100, b"\x10\x01/")?;
-    each(rt, boards::with(boards::both(), 8), 100, b"\x10\x01/")?;
-    each(
-        rt,
-        boards::with_second(boards::both(), 8),
-        100,
-        b"\x10\x01/",
-    )?;
-    each(rt, blank(4, 2, 32768), 100, b"\x10\x01/")?;
-    each(rt, blank(4, 2, 1), 100, b"\x10\x01/")?;
-    each(rt, blank(4, 3, 3), 0, b"\x10\x01//\x16/")
+    each(rt, blank(0, 2, 2), 100, b"\x10\x01")?;
+    each(rt, blank(201, 2, 2), 100, b"\x10\x01")?;
+    each(rt, boards::with(boards::both(), 8), 100, b"\x10\x01")?;
+    each(rt, boards::with_second(boards::both(), 8), 100, b"\x10\x01")?;
+    each(rt, blank(4, 2, 32768), 100, b"\x10\x01")?;
+    each(rt, blank(4, 2, 1), 100, b"\x10\x01")?;
+    each(rt, blank(4, 3, 3), 0, b"\x10\x01//\x16")
 }
 
 // 3 by no byte, a symbol with no number, one operand of two, and a second one with no number; 2 by symbols 0, 201 and 255 of 200; 4 by kinds 0f and
@@ -60,7 +46,7 @@ fn faults(rt: &impl Print) -> io::Result<()> {
         b"/\x10/\x14\x10\x01/\x14\x10\x01\x10/\x10\x00/\x10\xc9/\x10\xff/\x0f\x01/\x16\x01/\x14\x10\x01\x16/\
           \x11\x11\x11\x11\x11\x11\x11\x11\x11\x11\x11\x11\x11\x11\x11\x11/\x10\x01\x10/\x10\x00\x10/\
           \x12\x10\x01\x11\x10\x01/\
-          \x13\x10\x01\x13\x10\x02\x13\x10\x03\x13\x10\x04\x13\x10\x05\x13\x10\x06\x13\x10\x07\x13\x10\x08\x10\x09/",
+          \x13\x10\x01\x13\x10\x02\x13\x10\x03\x13\x10\x04\x13\x10\x05\x13\x10\x06\x13\x10\x07\x13\x10\x08\x10\x09",
     )
 }
 
@@ -73,7 +59,7 @@ fn spelling(rt: &impl Print) -> io::Result<()> {
         b"\x10\x01/\x10\x0a/\x10\xc8/\x11\x11\x10\x01/\x12\x10\x01\x10\x02/\x13\x10\x01\x10\x02/\
           \x14\x10\x01\x10\x02/\x15\x10\x01\x10\x02/\x11\x15\x10\x01\x10\x02/\
           \x14\x12\x10\x01\x11\x10\x02\x10\x03/\x12\x10\x01\x12\x10\x02\x10\x03/\
-          \x11\x11\x11\x11\x11\x11\x11\x11\x11\x11\x11\x11\x11\x11\x11\x10\x04/",
+          \x11\x11\x11\x11\x11\x11\x11\x11\x11\x11\x11\x11\x11\x11\x11\x10\x04",
     )
 }
 
@@ -83,13 +69,13 @@ fn room(rt: &impl Print) -> io::Result<()> {
         rt,
         boards::both(),
         0,
-        b"\x10\x01/\x10\x05/\x10/\x16/\x11\x11\x11\x11\x11\x11\x11\x11\x11\x11\x11\x11\x11\x11\x11\x11/\x10\x01\x10/",
+        b"\x10\x01/\x10\x05/\x10/\x16/\x11\x11\x11\x11\x11\x11\x11\x11\x11\x11\x11\x11\x11\x11\x11\x11/\x10\x01\x10",
     )?;
     each(
         rt,
         boards::both(),
         3,
-        b"\x14\x10\x01\x10\x02/\x12\x10\x01\x11\x10\x02/",
+        b"\x14\x10\x01\x10\x02/\x12\x10\x01\x11\x10\x02",
     )
 }
 
