@@ -42,19 +42,6 @@ pub fn pairs(rt: &impl Print, candidates: &[i16], l: i16, room: usize) -> io::Re
     show(rt, blank(5, 2, 2), table, 45, candidates, l, room)
 }
 
-// The table with another row r.
-pub fn with_row(table: [i16; 45], r: usize, row: [i16; 9]) -> [i16; 45]
-    requires { r ≤ 4 }
-{
-    let mut t = table;
-    let mut k = 0;
-    while k < 9 {
-        t[9 * r + k] = row[k];
-        k += 1;
-    }
-    t
-}
-
 // 7 by 1 or by 2, 8 by 3 or by 4, and 9 by 7 and 8.
 pub fn many(rt: &impl Print, candidates: &[i16], l: i16, room: usize) -> io::Result<()>
     requires { room ≤ 20 }
@@ -64,8 +51,8 @@ pub fn many(rt: &impl Print, candidates: &[i16], l: i16, room: usize) -> io::Res
         [-2, 7, 0, 0, 0, 0, 0, 0, 2],
         [-3, 8, 0, 0, 0, 0, 0, 0, 3],
     );
-    let four = with_row(three, 3, [-4, 8, 0, 0, 0, 0, 0, 0, 4]);
-    let five = with_row(four, 4, [-7, -8, 9, 0, 0, 0, 0, 0, 5]);
+    let four = boards::with_row(three, 3, [-4, 8, 0, 0, 0, 0, 0, 0, 4]);
+    let five = boards::with_row(four, 4, [-7, -8, 9, 0, 0, 0, 0, 0, 5]);
     show(rt, blank(9, 5, 5), five, 45, candidates, l, room)
 }
 

@@ -4,7 +4,7 @@ ghost use Rattle.std.specs.Prelude.{◌≤◌, length};
 
 use board::{Board, Outcome};
 use least::Withdrawal;
-use report::comparing::{WORD, written_words};
+use report::comparing::{WORD, written};
 use report::printing;
 use report::printing::{counted, text};
 use smallest::Listing;
@@ -12,7 +12,7 @@ use std::io;
 
 // What listing came to: how many sets, these, and at how many places the table of sets changed. No set looks like a place that is not written.
 fn came_to(rt: &impl Print, told: Listing, sets: &[u16]) -> io::Result<()> {
-    let places = written_words(sets);
+    let places = written(sets, WORD);
     let outcome = told.outcome;
     match outcome {
         Outcome::Refused(why) => printing::refused_with(rt, why, told.count == 0 && places == 0),

@@ -37,7 +37,7 @@ fn equal_size(rt: &impl Print) -> io::Result<()> {
         [-1, -3, 0, 0, 0, 0, 0, 0, 2],
         [-2, -4, 0, 0, 0, 0, 0, 0, 3],
     );
-    let four = crate::tables::with_row(three, 3, [-3, -4, 0, 0, 0, 0, 0, 0, 4]);
+    let four = boards::with_row(three, 3, [-3, -4, 0, 0, 0, 0, 0, 0, 4]);
     let b = with(with(with(with(blank(4, 4, 4), 0), 2), 4), 6);
     show_least(rt, b, four, 45, 1, &[1, 2, 3, 4])?;
     show_least(rt, b, four, 45, 1, &[2, 1, 4, 3])?;
