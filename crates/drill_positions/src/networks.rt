@@ -15,12 +15,9 @@ fn ask_each(
     furnace: u8,
     asked: &[i16],
 ) -> io::Result<()> {
-    let mut k = 0;
-    while k < asked.len() {
-        calls::ask(rt, b, table, furnace, asked[k])?;
-        k += 1;
-    }
-    Ok(())
+    asked
+        .iter()
+        .try_for_each(|l| calls::ask(rt, b, table, furnace, *l))
 }
 
 // A line: a board, and the answers.

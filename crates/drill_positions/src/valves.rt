@@ -16,14 +16,11 @@ const CROSSED: usize = 0b0000001_0000010;
 fn valves(table: &mut [i16], symbols: usize, positions: usize) -> Board
     requires { (symbols ≤ 200) × (1 ≤ positions) × (positions ≤ 7) }
 {
-    let mut b = blank(symbols, 0, 0);
-    let mut first = 1;
-    while first < symbols {
+    let firsts = (1..symbols).step_by(positions);
+    firsts.fold(blank(symbols, 0, 0), |b, first| {
         let told = add_positions(b, table, first, positions);
-        b = told.board;
-        first += positions;
-    }
-    b
+        told.board
+    })
 }
 
 // A pair table between two valves of so many positions.
