@@ -17,16 +17,9 @@ pub struct Desk {
 pub fn counting(count: u16, front: &[i16]) -> Stack
     requires { length front.now ≤ 400 }
 {
-    let mut places = [0; 400];
-    let mut k = 0;
-    while k < front.len() {
-        places[k] = front[k];
-        k += 1;
-    }
-    Stack {
-        count,
-        literals: places,
-    }
+    let mut literals = [0; 400];
+    literals[..front.len()].copy_from_slice(front);
+    Stack { count, literals }
 }
 
 pub fn empty() -> Stack {

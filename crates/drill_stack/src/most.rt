@@ -22,13 +22,11 @@ fn filled(furnace: u8) -> Desk {
     let mut board = blank(200, 0, 0);
     let start = bare(board);
     let mut stacks = start.stacks;
-    let mut p: u16 = 0;
-    while p < 400 {
+    for p in 0..400 {
         let told = stack::steps::push(board, &table, stacks, furnace, literal_at(p));
         let change = told.change;
         board = change.board;
         stacks = told.stacks;
-        p += 1;
     }
     Desk { board, stacks }
 }
@@ -38,13 +36,11 @@ fn emptied(d: Desk, furnace: u8) -> Desk {
     let table = boards::rows();
     let mut board = d.board;
     let mut stacks = d.stacks;
-    let mut p: u16 = 0;
-    while p < 400 {
+    for _ in 0..400 {
         let told = stack::steps::pop(board, &table, stacks, furnace);
         let change = told.change;
         board = change.board;
         stacks = told.stacks;
-        p += 1;
     }
     Desk { board, stacks }
 }

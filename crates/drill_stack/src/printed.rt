@@ -4,6 +4,7 @@ ghost use Rattle.std.specs.Prelude.{◌≤◌, length};
 
 use crate::desks::Desk;
 use board::Board;
+use report::counting::how_many;
 use report::printing;
 use report::printing::{counted, literal, number, text};
 use stack::{Stack, Stacks};
@@ -16,15 +17,10 @@ const MANY: usize = 12;
 fn used(places: &[i16]) -> usize
     ensures { result ≤ length places.now }
 {
-    let mut n = 0;
-    let mut k = 0;
-    while k < places.len() {
-        if places[k] != 0 {
-            n = k + 1;
-        }
-        k += 1;
+    match places.iter().rposition(|place| *place != 0) {
+        Some(last) => last + 1,
+        None => 0,
     }
-    n
 }
 
 // The places of a stack up to the last that is not 0, so that what stands beyond its literals is told too; of many how many, the first and the last.
@@ -56,22 +52,10 @@ pub fn stacks(rt: &impl Print, s: Stacks) -> io::Result<()> {
     one(rt, s.second)
 }
 
-fn how_many(flags: &[bool]) -> usize {
-    let mut n: usize = 0;
-    let mut k = 0;
-    while k < flags.len() {
-        if flags[k] {
-            n += 1;
-        }
-        k += 1;
-    }
-    n
-}
-
 // A board; of many premises how many.
 pub fn board(rt: &impl Print, b: Board) -> io::Result<()> {
-    let first = how_many(&b.first);
-    let second = how_many(&b.second);
+    let first = how_many(&b.first, true);
+    let second = how_many(&b.second, true);
     if first <= MANY && second <= MANY {
         return printing::board(rt, b);
     }

@@ -1,9 +1,0 @@
--- `emptied` is safe and ends: it pops 400 times.
-use Rattle.meaning.proofs.Kit.{◌≤◌, ◌-◌}
-use Rattle.drill_stack.proofs.most.emptied.Given as goal
-
-abbrev pub invariant-loop-p : goal.invariant-loop-p
-invariant-loop-p l = l.p ≤ 400
-
-abbrev pub decreases-loop-p : goal.decreases-loop-p
-decreases-loop-p l = 400 - l.p
