@@ -1,7 +1,7 @@
 // Runs the calls of `board` over a chain of 200 symbols and over full boards of 2,048 rows, and prints what each call answers.
 #![tactic(auto)]
 
-ghost use Rattle.std.specs.Prelude.{◌+◌, ◌≤◌, length};
+ghost use Rattle.std.specs.Prelude.{◌≤◌, length};
 
 use board::Board;
 use report::{boards, printing};
@@ -10,12 +10,10 @@ use std::io;
 // Adds the rules that each symbol but the last implies the next.
 fn chain(table: &mut [i16]) -> Board {
     let mut b = boards::blank(200, 0, 0);
-    let mut i: u8 = 1;
-    while i < 200 {
-        let bytes = [0x14, 0x10, i, 0x10, i + 1];
+    for i in 1..200 {
+        let bytes: [u8; 5] = [0x14, 0x10, i, 0x10, i + 1];
         let told = board::rules::add_rule(b, table, &bytes);
         b = told.board;
-        i += 1;
     }
     b
 }
@@ -37,24 +35,12 @@ fn signed(symbol: usize, positive: bool) -> i16
     if positive { l } else { -l }
 }
 
-// Writes a row.
-fn put(table: &mut [i16], at: usize, row: [i16; 9])
-    requires { at + 9 ≤ length table.old }
-{
-    let mut k = 0;
-    while k < 9 {
-        table[at + k] = row[k];
-        k += 1;
-    }
-}
-
 // Row r is -a, b, c with a = 1 + 11r mod 186, b = a + 1 + r mod 11 and c = b + 1 + r mod 3, but -b stands for b in each third row
 // and -c for c in each fifth. Each row is from a rule of its own, row r from rule r + 1.
 fn fill(table: &mut [i16])
     requires { 18432 ≤ length table.old }
 {
-    let mut r = 0;
-    while r < 2048 {
+    for r in 0..2048 {
         let a = 1 + r * 11 % 186;
         let b = a + 1 + r % 11;
         let c = b + 1 + r % 3;
@@ -62,8 +48,7 @@ fn fill(table: &mut [i16])
         let second = signed(b, r % 3 != 0);
         let third = signed(c, r % 5 != 0);
         let rule = (r + 1) as i16;
-        put(table, 9 * r, [first, second, third, 0, 0, 0, 0, 0, rule]);
-        r += 1;
+        table[9 * r..9 * r + 9].copy_from_slice(&[first, second, third, 0, 0, 0, 0, 0, rule]);
     }
 }
 
