@@ -10,47 +10,35 @@ use literals::{MOST_LITERALS, WIDTH};
 use std::io;
 
 fn print_count(rt: &impl Print, n: usize) -> io::Result<()> {
-    rt.print(n)?;
-    rt.write_all(b" rows\n")
+    println!(rt; "{n} rows")
 }
 
 // Prints a literal with its sign.
 fn print_literal(rt: &impl Print, l: i16) -> io::Result<()> {
-    if l < 0 {
-        rt.write_all(b" -")?;
-    } else {
-        rt.write_all(b" +")?;
-    }
-    rt.print(literals::symbol(l))
+    print!(rt; " {l:+}")
 }
 
 // Prints the literals of a row and its rule's number on a line.
 fn print_row(rt: &impl Print, table: &[i16], row: usize) -> io::Result<()>
     requires { width * row + width ≤ length table.now }
 {
-    let mut k = 0;
-    while k < MOST_LITERALS {
-        let l = table[WIDTH * row + k];
-        if l != 0 {
-            print_literal(rt, l)?;
+    let at = WIDTH * row;
+    for l in &table[at..at + MOST_LITERALS] {
+        if *l != 0 {
+            print_literal(rt, *l)?;
         }
-        k += 1;
     }
-    rt.write_all(b" of rule ")?;
-    rt.print(literals::rule_at(table, row))?;
-    rt.write_all(b"\n")
+    println!(rt; " of rule {}", literals::rule_at(table, row))
 }
 
 // Prints the first four and the last four of n rows from row `used` on.
 fn print_rows(rt: &impl Print, table: &[i16], used: usize, n: usize) -> io::Result<()>
     requires { width * (used + n) ≤ length table.now }
 {
-    let mut i = 0;
-    while i < n {
+    for i in 0..n {
         if i < 4 || n - i <= 4 {
             print_row(rt, table, used + i)?;
         }
-        i += 1;
     }
     Ok(())
 }
@@ -85,10 +73,8 @@ fn spelt(text: &[u8]) -> [bool; 256]
     ensures { length result ≡ 256 }
 {
     let mut truth = [false; 256];
-    let mut i = 0;
-    while i < text.len() {
-        truth[i] = text[i] == b'1';
-        i += 1;
+    for (value, digit) in truth.iter_mut().zip(text) {
+        *value = *digit == b'1';
     }
     truth
 }
@@ -114,10 +100,8 @@ fn parity() -> [bool; 256]
     ensures { length result ≡ 256 }
 {
     let mut truth = [false; 256];
-    let mut i = 1;
-    while i < 256 {
-        truth[i] = truth[i / 2] ^ (i % 2 == 1);
-        i += 1;
+    for (i, value) in truth.iter_mut().enumerate() {
+        *value = i.count_ones() % 2 == 1;
     }
     truth
 }
