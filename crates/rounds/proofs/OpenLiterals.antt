@@ -1,15 +1,14 @@
 -- Laws of the open literals of a row: which literals the row gives, and how a scan finds them.
 use Rattle.meaning.proofs.Kit.{◌≡◌, ◌∙◌, sym, ap, refl, subst, ⊎_elim, inl, inr, ◌⊎◌, ◌≢◌, true, false, Bool, cond, ◌&&◌, ◌||◌, and-true, List, []}
-use Rattle.meaning.proofs.Kit.{◌∷◌, In, here, there, in_nil, in_cons, ◌≤◌, ℕ, arith, eqb, ℤ, nat_abs, w16, SFits, to_z, of_z, to_z-of_z, ne_eqb}
+use Rattle.meaning.proofs.Kit.{◌∷◌, In, here, there, in_nil, in_cons, ◌≤◌, ℕ, arith, eqb, ℤ, pos, nat_abs, w16, SFits, to_z, of_z, to_z-of_z, ne_eqb}
 use Rattle.meaning.proofs.Kit.{eq-eqb, eqb-true, eqb-false}
-use Rattle.std.specs.Prelude.{Option, Some, None}
 use Rattle.meaning.specs.Tests.{member}
 use Rattle.meaning.specs.Literals.{opp, has}
 use Rattle.meaning.specs.Rounds.{gives}
 use Rattle.meaning.proofs.Tests.{true_or_false, or_right, false_of, clash, same_test, all_of}
 use Rattle.meaning.proofs.Gives.{gives_words, gives_of}
 use Rattle.literals.specs.Literal.{place_of, literal_at}
-use Rattle.literals.proofs.Signed.{back, small_abs}
+use Rattle.literals.proofs.Signed.{small_abs, zero_bits, bits_zero}
 use Rattle.literals.proofs.Places.{literal_at_place}
 use Rattle.rounds.specs.Ranks.{open_after, open_in}
 use Rattle.rounds.specs.declared.marks.Open.{Open}
@@ -100,69 +99,80 @@ two p q (One r) d = go (eqb q r)
     go false = refl
 two p q More d = refl
 
--- a literal that was found, with those of what is left
-abbrev with_one : Option ℤ → Open → Open
-with_one None o = o
-with_one (Some z) o = open_after (place_of z) o
+-- the open literals of the row are those of what is left of it, with the literal z that was found: `one` is its 16 bits, 0 for none
+pub record Found (known : List Bool) (row left : List ℕ) (one : ℕ) : Type 0 where
+  z : ℤ
+  bits : one ≡ of_z w16 z
+  small : nat_abs z ≤ 200
+  is : open_in known row ≡ cond (eqb (nat_abs z) 0) (open_in known left) (open_after (place_of z) (open_in known left))
 
--- the open literals of the row are those of what is left of it, with the one that was found
-pub record Found (known : List Bool) (row left : List ℕ) (one : Option ℤ) : Type 0 where
-  allowed : (z : ℤ) → one ≡ Some z → (1 ≤ nat_abs z) × (nat_abs z ≤ 200)
-  is : open_in known row ≡ with_one one (open_in known left)
+pub found_none : {known : List Bool} {row : List ℕ} → Found known row row 0
+found_none = record { z = pos 0; bits = refl; small = omega arith; is = refl }
 
-pub found_none : {known : List Bool} {row : List ℕ} → Found known row row None
-found_none = record { allowed = λ z e. absurd (cc); is = refl }
+module _ {known : List Bool} {row left : List ℕ} {one : ℕ} (w : Found known row left one) where
+  fits : SFits w16 w.z
+  fits = small_abs w.z (omega (arith, w.small))
 
-module _ {known : List Bool} {row left : List ℕ} {one : Option ℤ} (w : Found known row left one) {z : ℤ} (e : one ≡ Some z) where
-  fits : SFits w16 z
-  fits = small_abs z (omega (arith, w.allowed z e))
+  back_one : to_z w16 one ≡ w.z
+  back_one = ap (to_z w16) w.bits ∙ to_z-of_z fits
+
+  one_none : one ≡ 0 → nat_abs w.z ≡ 0
+  one_none e = zero_bits fits (sym w.bits ∙ e)
+
+  one_some : (one ≡ 0 → ⊥) → nat_abs w.z ≡ 0 → ⊥
+  one_some n e = n (w.bits ∙ bits_zero w.z e)
 
   -- what was found can be placed
-  pub one_allowed : (1 ≤ nat_abs (back z)) × (nat_abs (back z) ≤ 200)
-  one_allowed = rw (to_z-of_z fits) (w.allowed z e)
+  pub one_allowed : (one ≡ 0 → ⊥) → (1 ≤ nat_abs (to_z w16 one)) × (nat_abs (to_z w16 one) ≤ 200)
+  one_allowed n = let some = one_some n in rw back_one (omega arith, w.small)
 
-module _ {known : List Bool} {row left : List ℕ} {q : ℕ} {one : Option ℤ} (w : Found known row (q ∷ left) one) where
+module _ {known : List Bool} {row left : List ℕ} {q one : ℕ} (w : Found known row (q ∷ left) one) where
   pub found_known : has known (opp q) ≡ true → Found known row left one
   unfolding open_in
-  found_known h = record { allowed = w.allowed; is = rw h at w.is }
+  found_known h = record { z = w.z; bits = w.bits; small = w.small; is = rw h at w.is }
 
   -- the literal at the front of what is left is open
   module _ {places : ℕ} {table : List ℤ} {r j : ℕ} (l : Literal places table r j q) (h : has known (opp q) ≡ false) where
-    -- it is the first,
-    pub found_first : {x : ℤ} → x ≡ number_at table r j → one ≡ None → Found known row left (Some x)
+    -- it is the first, or the one that was found again
+    pub found_one : (one ≡ 0) ⊎ (one ≡ of_z w16 (number_at table r j)) → Found known row left (of_z w16 (number_at table r j))
     unfolding open_in
-    found_first at-x e =
-        record { allowed = λ z d. (let same : number_at table r j ≡ z = cc in rw (← same) (l.some, l.few)); is = rw (at-x, ← l.is_place) (rw (e, h) at w.is) }
+    found_one f =
+        record {
+          z = number_at table r j;
+          bits = refl;
+          small = l.few;
+          is = rw (ne_eqb (nat_abs (number_at table r j)) 0 (λ e. omega (arith, e, l.some)), ← l.is_place)
+              ((rw h at w.is) ∙ go (eqb (nat_abs w.z) 0) (⊎_elim (λ e. inl (eq-eqb _ 0 (one_none w e))) (λ e. inr (same e)) f));
+        }
+      where
+        same : one ≡ of_z w16 (number_at table r j) → place_of w.z ≡ q
+        same e = ap place_of (sym (back_one w) ∙ ap (to_z w16) e ∙ to_z-of_z l.fits) ∙ sym l.is_place
 
-    module _ {z : ℤ} (e : one ≡ Some z) where
-      -- or the one that was found again,
-      pub found_again : {x : ℤ} → x ≡ number_at table r j → of_z w16 z ≡ of_z w16 (number_at table r j) → Found known row left (Some x)
-      unfolding open_in
-      found_again at-x bits =
-          let same : place_of z ≡ q =
-          ap place_of (sym (to_z-of_z (fits w e)) ∙ ap (to_z w16) bits ∙ to_z-of_z l.fits) ∙ sym l.is_place in
-          record {
-            allowed = λ y d. (let is : number_at table r j ≡ y = cc in rw (← is) (l.some, l.few));
-            is = rw (at-x, ← l.is_place) ((rw (e, h, same) at w.is) ∙ again q (open_in known left));
-          }
+        go : (t : Bool) → (t ≡ true) ⊎ (place_of w.z ≡ q)
+            → cond t (open_after q (open_in known left)) (open_after (place_of w.z) (open_after q (open_in known left)))
+            ≡ open_after q (open_in known left)
+        go true f = refl
+        go false (inl f) = clash f refl
+        go false (inr f) = rw f (again q (open_in known left))
 
-      -- or another one
-      pub found_two : (of_z w16 z ≡ of_z w16 (number_at table r j) → ⊥) → More ≡ open_in known row
-      unfolding open_in
-      found_two differ = sym ((rw (e, h) at w.is) ∙ two (place_of z) q (open_in known left) apart)
-        where
-          -- places tell literals apart
-          apart : place_of z ≢ q
-          apart d =
-              differ
-              (ap (of_z w16) (sym (literal_at_place z (w.allowed z e).0) ∙ ap literal_at (d ∙ l.is_place) ∙ literal_at_place (number_at table r j) l.some))
+    pub found_two : (one ≡ 0 → ⊥) → (one ≡ of_z w16 (number_at table r j) → ⊥) → More ≡ open_in known row
+    unfolding open_in
+    found_two n d = sym ((rw (h, ne_eqb (nat_abs w.z) 0 (one_some w n)) at w.is) ∙ two (place_of w.z) q (open_in known left) apart)
+      where
+        -- places tell literals apart
+        apart : place_of w.z ≢ q
+        apart e =
+            let nonzero = one_some w n in
+            let same = sym (literal_at_place w.z (omega arith)) ∙ ap literal_at (e ∙ l.is_place)
+            ∙ literal_at_place (number_at table r j) l.some in
+            d (w.bits ∙ ap (of_z w16) same)
 
 -- nothing is left
-module _ {known : List Bool} {row : List ℕ} {one : Option ℤ} (w : Found known row [] one) where
-  pub found_some : {z : ℤ} → one ≡ Some z → {p : ℕ} → p ≡ place_of (back z) → One p ≡ open_in known row
+module _ {known : List Bool} {row : List ℕ} {one : ℕ} (w : Found known row [] one) where
+  pub found_some : (one ≡ 0 → ⊥) → {p : ℕ} → p ≡ place_of (to_z w16 one) → One p ≡ open_in known row
   unfolding open_in
-  found_some {z} e place = ap One (place ∙ ap place_of (to_z-of_z (fits w e))) ∙ sym (rw e at w.is)
+  found_some n e = ap One (e ∙ ap place_of (back_one w)) ∙ sym (rw (ne_eqb (nat_abs w.z) 0 (one_some w n)) at w.is)
 
-  pub found_nothing : one ≡ None → Nothing ≡ open_in known row
+  pub found_nothing : one ≡ 0 → Nothing ≡ open_in known row
   unfolding open_in
-  found_nothing e = sym (rw e at w.is)
+  found_nothing e = sym (rw (eq-eqb (nat_abs w.z) 0 (one_none w e)) at w.is)

@@ -20,29 +20,30 @@ pub enum Open {
     More,
 }
 
-// The open literals of a row in round k. A row with two gives nothing, and is left at the second. `one` is the first, and is placed only where
-// it stays alone.
+// The open literals of a row in round k. A row with two gives nothing, and is left at the second. `one` is the first, or 0, which is no literal, and
+// is placed only where it stays alone.
 fn open_in(table: &[i16], row: usize, ranks: &[u16], k: u16) -> Open
     requires { Fit (length ranks.now) (row + 1) table.now }
     ensures { result ≡ open_in (below k ranks.now) (decode (numbers_at table.now row)) }
 {
     let base = WIDTH * row;
-    let mut one = None;
+    // No Option: with one a call that propagates takes some 4 in 100 longer on a full board.
+    let mut one: i16 = 0;
     for &l in &table[base..base + MOST_LITERALS] {
         if l == 0 {
             break;
         }
         if ranks[literals::place(literals::opposite(l))] >= k {
-            match one {
-                Some(first) if first != l => return Open::More,
-                _ => one = Some(l),
+            if one != 0 && one != l {
+                return Open::More;
             }
+            one = l;
         }
     }
-    match one {
-        None => Open::Nothing,
-        Some(l) => Open::One(literals::place(l)),
+    if one == 0 {
+        return Open::Nothing;
     }
+    Open::One(literals::place(one))
 }
 
 // Writes rank k at place p and puts p at the end of the queue, if it has no rank. Gives the queue's end.
