@@ -11,5 +11,6 @@ returns-clause-line_after c =
     let part = c.copy_from_slice.new.self in
     let is : part ≡ take n c.args.bytes.now = c.copy_from_slice.ensures.after in
     let long : length part ≡ n = rw is (length-take-le n c.args.bytes.now (omega (arith, c.min-n.ensures))) in
-    let e = take-put_mid c.args.filled _ line part (c.args.filled + n) (omega (arith, long)) (omega arith) ∙ ap (λ (l : List ℕ). take c.args.filled line ++ l) is in
+    let behind = take-put_mid c.args.filled _ line part (c.args.filled + n) (omega (arith, long)) (omega arith) in
+    let e = behind ∙ ap (λ (l : List ℕ). take c.args.filled line ++ l) is in
     gathered_all line c.args.bytes.now c.args.filled _ n c.requires.0 c.requires.1 c.min-n.ensures e
