@@ -156,18 +156,14 @@ fn say_done(
 fn sole_literal(names: &[u8], line: &[u8]) -> Result<i16, Fault>
     requires { length names.now ≡ table_length }
 {
-    match literal_in(names, word(line, 1)) {
-        Err(slip) => Err(Fault { slip, word: 1 }),
-        Ok(l) => {
-            if !ends_at(line, 2) {
-                return Err(Fault {
-                    slip: Slip::WordTooMany,
-                    word: 2,
-                });
-            }
-            Ok(l)
-        }
+    let l = literal_in(names, word(line, 1)).map_err(|slip| Fault { slip, word: 1 })?;
+    if !ends_at(line, 2) {
+        return Err(Fault {
+            slip: Slip::WordTooMany,
+            word: 2,
+        });
     }
+    Ok(l)
 }
 
 // A line that asks of one literal.

@@ -27,20 +27,11 @@ fn gather(names: &[u8], line: &[u8], from: usize, given: &mut [i16]) -> Result<u
     ensures { IfOk result (λ n. n ≤ 400) }
 {
     for (k, place) in given.iter_mut().enumerate() {
-        if ends_at(line, from + k) {
+        let at = from + k;
+        if ends_at(line, at) {
             return Ok(k);
         }
-        match literal_in(names, word(line, from + k)) {
-            Err(slip) => {
-                return Err(Fault {
-                    slip,
-                    word: from + k,
-                });
-            }
-            Ok(l) => {
-                *place = l;
-            }
-        }
+        *place = literal_in(names, word(line, at)).map_err(|slip| Fault { slip, word: at })?;
     }
     Ok(given.len())
 }

@@ -5,7 +5,7 @@ ghost use Rattle.names.specs.Names.{table_length};
 ghost use Rattle.saying.specs.Limits.{kept_length};
 
 use crate::asking::{opposite_place, say_derived};
-use board::testing::Placed;
+use board::testing::place_on;
 use literals::refusal::Refusal;
 use orders::Desk;
 use orders::order::Order;
@@ -165,7 +165,7 @@ pub fn why(
     requires { (length names.now ≡ table_length) × (length texts.now ≡ kept_length) }
 {
     let board = desk.board;
-    match board::testing::place_on(board, table, desk.furnace, l) {
+    match place_on(board, table, desk.furnace, l) {
         Err(why) => refuse(rt, Order::Why, why),
         Ok(p) => say_why(rt, desk, table, names, texts, p),
     }

@@ -1,6 +1,6 @@
 -- `good_board`, a test at a time, and what a good board is known to be.
-use Rattle.meaning.proofs.Kit.{◌≡◌, ◌∙◌, ap, refl, ap₂, true, false, Bool, cond, ◌&&◌, not, ◌||◌, List, [], ◌∷◌, ◌≤◌, ℕ, ◌<◌, ◌+◌, suc, ◌*◌, zero}
-use Rattle.meaning.proofs.Kit.{zero-le, add-one, arith, eqb, leb, ℤ, length, get_or, drop, replicate, set, drop-cons, drop-set-lt, le-leb, eqb-true}
+use Rattle.meaning.proofs.Kit.{◌≡◌, ◌∙◌, ap, refl, ap₂, true, false, Bool, cond, ◌&&◌, not, List, [], ◌∷◌, ◌≤◌, ℕ, ◌<◌, suc, ◌*◌, zero}
+use Rattle.meaning.proofs.Kit.{zero-le, arith, eqb, leb, ℤ, length, drop, replicate, set, drop-set-lt, le-leb, eqb-true}
 use Rattle.meaning.proofs.Kit.{leb-true, lt-leb}
 use Rattle.meaning.specs.Tests.{any}
 use Rattle.meaning.proofs.Tests.{both_true}
@@ -17,9 +17,6 @@ use Rattle.board.specs.declared.Board.{Board}
 -- some flag from place k on is set
 abbrev pub flag_from : List Bool → ℕ → Bool
 flag_from flags k = any (λ h. h) (drop k flags)
-
-pub flag_next : (flags : List Bool) (k : ℕ) → k < length flags → flag_from flags k ≡ (get_or flags k false || flag_from flags (k + 1))
-flag_next flags k h = rw (drop-cons flags k false, add-one)
 
 pub flag_nowhere : (flags : List Bool) (k : ℕ) → length flags ≤ k → flag_from flags k ≡ false
 flag_nowhere [] zero h = refl

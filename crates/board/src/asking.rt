@@ -24,7 +24,7 @@ pub enum Standing {
 }
 
 // Why a literal stands: its rank and its supporting row, both 65535 where explain is refused, and the number of the rule that the row is from, 0
-// where it is refused.
+// where it is refused: `RefusedHandsBack` in `promises` says it of these numbers, so they stand beside the outcome.
 #[derive(Clone, Copy)]
 pub struct Reason {
     pub outcome: Outcome,

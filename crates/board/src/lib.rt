@@ -27,7 +27,8 @@ pub struct Board {
 // What a call comes to: it is done, or refused, and why.
 pub type Outcome = Result<(), Refusal>;
 
-// What open, hold and withdraw answer.
+// What open, hold and withdraw answer. The board stands beside the outcome, not in its place: a refused call hands it back too, and a refused open
+// one of no symbols (`RefusedUntouched` in `promises`).
 #[derive(Clone, Copy)]
 pub struct Change {
     pub outcome: Outcome,

@@ -17,7 +17,8 @@ use literals::refusal::Refusal;
 pub const NO_PLACE: usize = 0xffff_ffff_ffff_ffff;
 
 // What adding rules answers, by bytes, by text or by an entry: for refusals 2 to 6 the place in the formula's bytes, for 15 that in the text,
-// NO_PLACE otherwise; and how many rows were appended, 0 where it was refused.
+// NO_PLACE otherwise; and how many rows were appended, 0 where it was refused. `NoPlaceElse` and `RefusedHandsBack` in `promises` speak of NO_PLACE,
+// of 0 and of the board that a refused call hands back, so they stand beside the outcome.
 #[derive(Clone, Copy)]
 pub struct Addition {
     pub outcome: Outcome,

@@ -1,8 +1,8 @@
 -- The places of candidates that are literals of a board, and of those that a set has.
-use Rattle.meaning.proofs.Kit.{◌≡◌, ◌∙◌, true, List, In, ◌≤◌, ℕ, ◌<◌, ◌*◌, arith, ltb, ℤ, length, get_or, ltb-true, lt-ltb}
+use Rattle.meaning.proofs.Kit.{◌≡◌, ◌∙◌, true, List, In, ◌≤◌, ℕ, ◌<◌, ◌*◌, arith, ltb, ℤ, ltb-true, lt-ltb}
 use Rattle.meaning.specs.Tests.{all}
 use Rattle.candidates.specs.Sets.{chosen}
-use Rattle.meaning.proofs.Tests.{all_at, all_map, all_imp, in_at}
+use Rattle.meaning.proofs.Tests.{all_at, all_map, all_imp}
 use Rattle.candidates.proofs.ChosenSets.{chosen_in}
 use Rattle.literals.specs.Literal.{in_range, place_of}
 use Rattle.literals.proofs.Arguments.{range_more, place_fits}
@@ -17,10 +17,6 @@ places_low S cands e =
 -- and of a larger table's,
 pub low_more : (n k : ℕ) (places : List ℕ) → n ≤ k → all (λ p. ltb p n) places ≡ true → all (λ p. ltb p k) places ≡ true
 low_more n k places le e = all_imp (λ p. ltb p n) (λ p. ltb p k) places (λ p m h. lt-ltb p k (omega (arith, ltb-true p n h))) e
-
--- the one at i too,
-pub low_at : (n : ℕ) (places : List ℕ) (i : ℕ) → all (λ p. ltb p n) places ≡ true → i < length places → get_or places i 0 < n
-low_at n places i e l = ltb-true (get_or places i 0) n (all_at (λ p. ltb p n) e (in_at places i 0 l))
 
 -- and each literal one of a larger board's
 pub in_range_more : (S T : ℕ) (cands : List ℤ) → S ≤ T → all (in_range S) cands ≡ true → all (in_range T) cands ≡ true

@@ -1,5 +1,5 @@
 -- One turn of a loop over the candidates or over a list, and the size of a set as a count of digits.
-use Rattle.meaning.proofs.Kit.{◌≡◌, ◌∙◌, sym, ap, inl, inr, ◌⊎◌, ◌≢◌, true, false, Bool, ◌&&◌, List, [], ◌∷◌, ◌≤◌, ℕ, ◌<◌}
+use Rattle.meaning.proofs.Kit.{◌≡◌, ◌∙◌, sym, ap, inl, inr, ◌⊎◌, ◌≢◌, true, false, Bool, ◌&&◌, List, ◌∷◌, ◌≤◌, ℕ, ◌<◌}
 use Rattle.meaning.proofs.Kit.{◌+◌, suc, ◌*◌, ◌/◌, ◌%◌, ◌^◌, zero, add-one, arith, length, get_or, set, ne_eqb, eq-eqb, drop, drop_of_length-le, drop-cons}
 use lib.Count.{ones, ones-ones, ones_step}
 use lib.Arith.{mod-mul}

@@ -17,7 +17,7 @@ use board::{Board, Outcome};
 use literals::refusal::Refusal;
 
 // What reading a text answers: how many clauses come before the first at fault, which are all of them where the reading is done; and how many
-// rows were appended.
+// rows were appended, 0 where it was refused. `ReadStops` and `RefusedHandsBack` in `promises` speak of both, and of the board, where it is refused.
 #[derive(Clone, Copy)]
 pub struct Reading {
     pub outcome: Outcome,

@@ -11,7 +11,7 @@ use literals::WIDTH;
 use literals::refusal::Refusal;
 use spelling::{put_literal, put_natural, put_word};
 
-// What writing answers: how many bytes were written, 0 where it was refused.
+// What writing answers: how many bytes were written, 0 where it was refused: `RefusedHandsBack` in `promises` says it of this number.
 #[derive(Clone, Copy)]
 pub struct Writing {
     pub outcome: Outcome,

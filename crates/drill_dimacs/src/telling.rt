@@ -78,11 +78,7 @@ pub fn read(
 fn wrote(rt: &impl Print, told: Writing, out: &[u8]) -> io::Result<()> {
     let outcome = told.outcome;
     match outcome {
-        Err(why) => printing::refused_with(
-            rt,
-            why,
-            told.bytes == 0 && written(out, BYTE) == 0,
-        ),
+        Err(why) => printing::refused_with(rt, why, told.bytes == 0 && written(out, BYTE) == 0),
         Ok(()) => {
             counted(rt, b" wrote", told.bytes)?;
             quoted(rt, out, told.bytes)?;

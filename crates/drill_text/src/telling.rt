@@ -55,9 +55,7 @@ fn came_to(rt: &impl Print, told: Spelling, out: &[u8], quotes: bool) -> io::Res
     let places = written(out, FREE);
     let outcome = told.outcome;
     match outcome {
-        Err(why) => {
-            printing::rule_refused(rt, why, told.place, told.bytes == 0 && places == 0)
-        }
+        Err(why) => { printing::rule_refused(rt, why, told.place, told.bytes == 0 && places == 0) }
         Ok(()) => {
             counted(rt, b" wrote", told.bytes)?;
             if quotes {

@@ -15,6 +15,7 @@ pub fn read_full<R: Read>(from: &mut R, buf: &mut [u8]) -> io::Result<usize>
     ensures end { IfOk result (λ n. n < length buf.new → IsAtEnd (R.remaining from.new)) }
 {
     let mut done = 0;
+    // A while: each read gives as many bytes as it likes, and the library's `read_exact` takes a short input for a failure.
     while done < buf.len() {
         let n = from.read(&mut buf[done..])?;
         if n == 0 {

@@ -46,16 +46,6 @@ bit_of false = record { is = refl; small = omega arith }
 
 -- ---- the search
 
--- no set is looked at
-pub none_searched : (ends : ℕ → Bool) (n : ℕ) (cores : List ℕ) → Searched ends n 0 0 0 cores
-none_searched ends n cores =
-    record {
-      smaller = λ a l h. absurd (omega arith);
-      lower = λ a h e. absurd (omega arith);
-      room = omega arith;
-      missed = λ core a h z. absurd (in_nil h);
-    }
-
 -- one core more, and those before it; where there is no room, those before it
 kept_more : (cores : List ℕ) (k core c : ℕ) → k ≤ length cores
     → In c (take (cond (ltb k (length cores)) (k + 1) k) (set cores k core)) → In c (take k cores) ⊎ (c ≡ core)

@@ -7,8 +7,8 @@ ghost use Rattle.board.specs.Faults.{good_board};
 ghost use Rattle.candidates.specs.Given.{most_candidates};
 ghost use Rattle.least.specs.Effects.{struck_on, marked_set, effect_of};
 
-use board::grounds::blame;
 use board::Board;
+use board::grounds::blame;
 use candidates::sets::set_flags;
 
 // The board with a set of candidates struck off a furnace's premises.

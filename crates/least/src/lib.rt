@@ -10,7 +10,7 @@ use board::Outcome;
 // No set: what is answered where the call is refused.
 pub const NO_SET: u16 = 65535;
 
-// What the call answers: the set of candidates to withdraw, none where it was refused.
+// What the call answers: the set of candidates to withdraw, none where it was refused: `RefusedHandsBack` in `promises` says it of this number.
 #[derive(Clone, Copy)]
 pub struct Withdrawal {
     pub outcome: Outcome,

@@ -113,7 +113,12 @@ fn say_change(change: Change, used: usize, out: &mut [u8], at: usize) -> Progres
 }
 
 // Ask.
-fn say_standing(board: Board, standing: Result<Standing, Refusal>, out: &mut [u8], at: usize) -> Progress
+fn say_standing(
+    board: Board,
+    standing: Result<Standing, Refusal>,
+    out: &mut [u8],
+    at: usize,
+) -> Progress
     requires { at + 128 ≤ length out.old }
     ensures did { Did (ask_said board standing) result out.old out.new at }
     ensures written_bound { result.written ≤ at + 128 }

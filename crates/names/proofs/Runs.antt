@@ -21,6 +21,7 @@ place_or_end test text = by (ltb k (length text)) refl
   where
     k : ℕ
     k = position_or_len test text
+
     by : (b : Bool) → ltb k (length text) ≡ b → unwrap_or (cond b (Some k) None) (length text) ≡ k
     by true e = refl
     by false e = omega (arith, prefix_len-le-length (λ b. not (test b)) text, ltb-false _ _ e)

@@ -4,8 +4,8 @@ ghost use Rattle.std.specs.Prelude.{◌≡◌, ◌+◌, ◌≤◌, Ok};
 ghost use Rattle.literals.specs.Row.{most_rules};
 ghost use Rattle.board.specs.Rules.{no_place, with_rules};
 
-use board::rules::{Addition, NO_PLACE};
 use board::Board;
+use board::rules::{Addition, NO_PLACE};
 
 pub fn done(board: Board, added: usize, rules: usize) -> Addition
     requires { (board.rows + added ≤ 2048) × (board.rules + rules ≤ most_rules) }

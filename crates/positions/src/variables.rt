@@ -50,7 +50,13 @@ fn list_symbols(names: &mut [u8], first: usize)
 }
 
 // Appends the prime implicates of a variable's rule.
-fn append(table: &mut [i16], rows: usize, rules: usize, first: usize, count: usize) -> Result<usize, Refusal>
+fn append(
+    table: &mut [i16],
+    rows: usize,
+    rules: usize,
+    first: usize,
+    count: usize,
+) -> Result<usize, Refusal>
     requires { (1 ≤ first) × (first + count ≤ 201) × (count ≤ 7) × (rows ≤ rows_lent table.old) × (rules ≤ most_rules) }
     ensures value { result ≡ answer_of (rule_by (from first count) (only_one count)) rows rules (rows_lent table.old) }
     ensures table_after { table.new ≡ table_of (rule_by (from first count) (only_one count)) rows rules (rows_lent table.old)

@@ -4,6 +4,7 @@ ghost use Rattle.std.specs.Prelude.{◌≡◌, ◌≤◌, length};
 ghost use Rattle.names.specs.Names.{table_length};
 
 use names::naming::{SYMBOLS, WIDTH};
+use spelling::put_shown;
 use std::io;
 
 pub fn say(rt: &impl Print, words: &[u8]) -> io::Result<()> {
@@ -73,24 +74,12 @@ pub fn say_comma(rt: &impl Print, count: usize) -> io::Result<()> {
     Ok(())
 }
 
-// A byte as it is, or `?` where it does not print.
-fn shown(byte: u8) -> u8 {
-    if byte < 32 {
-        return b'?';
-    }
-    if 126 < byte {
-        return b'?';
-    }
-    byte
-}
-
 // A line again, as much of it as a line may have.
 pub fn say_line(rt: &impl Print, line: &[u8]) -> io::Result<()> {
     let mut room = [0u8; 500];
-    for (place, byte) in room.iter_mut().zip(line) {
-        *place = shown(*byte);
-    }
-    say(rt, &room[..line.len().min(500)])?;
+    let n = line.len().min(500);
+    put_shown(&mut room, 0, &line[..n]);
+    say(rt, &room[..n])?;
     say(rt, b"\n")
 }
 

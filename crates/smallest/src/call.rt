@@ -11,8 +11,8 @@ ghost use Rattle.smallest.specs.Search.{placed_answer, placed_sets, given_answer
 use crate::Listing;
 use crate::search::{Note, note_sets};
 use crate::writing::{count_listed, write_listed};
-use board::testing::good;
 use board::Board;
+use board::testing::good;
 use candidates::MOST_CANDIDATES;
 use candidates::given::{all_literals, repeated, write_places};
 use candidates::sets::power;

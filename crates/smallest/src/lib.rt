@@ -8,7 +8,7 @@ mod writing;
 
 use board::Outcome;
 
-// What listing the smallest sets answers: how many sets were written, 0 where it was refused.
+// What listing the smallest sets answers: how many sets were written, 0 where it was refused: `RefusedHandsBack` in `promises` says it of this number.
 #[derive(Clone, Copy)]
 pub struct Listing {
     pub outcome: Outcome,

@@ -24,7 +24,8 @@ pub struct Stacks {
     pub second: Stack,
 }
 
-// What a call that is lent the record answers: what it does to the board, and the record after it.
+// What a call that is lent the record answers: what it does to the board, and the record after it, which a refused call hands back too
+// (`RefusedUntouched` in `promises`).
 #[derive(Clone, Copy)]
 pub struct Step {
     pub change: Change,

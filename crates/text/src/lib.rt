@@ -12,7 +12,8 @@ use board::Outcome;
 use literals::refusal::Refusal;
 
 // What reading a text to bytes and writing text answer: for refusal 15 the place in the text, for 2 to 6 the place in the formula's bytes,
-// `board::rules::NO_PLACE` otherwise; and how many bytes were written, 0 where it was refused.
+// `board::rules::NO_PLACE` otherwise; and how many bytes were written, 0 where it was refused. `RefusedHandsBack` and `TextPlaced` in `promises` speak
+// of these numbers where it is refused, so they stand beside the outcome.
 #[derive(Clone, Copy)]
 pub struct Spelling {
     pub outcome: Outcome,

@@ -6,9 +6,9 @@ ghost use Rattle.chains.specs.Form.{whole_text};
 ghost use Rattle.text.specs.Reading.{read_in, read_text_answer, read_text_bytes};
 
 use crate::{Spelling, refused};
+use board::Board;
 use board::rules::NO_PLACE;
 use board::testing::good;
-use board::Board;
 use chains::emitting::emit;
 use chains::reading::read_text;
 use formula::reading::{Break, read_whole};

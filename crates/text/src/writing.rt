@@ -8,9 +8,9 @@ ghost use Rattle.board.specs.Settling.{over};
 ghost use Rattle.text.specs.Writing.{text_in, room_faults, spelled_answer, write_text_answer, write_text_bytes};
 
 use crate::{Spelling, refused};
+use board::Board;
 use board::rules::NO_PLACE;
 use board::testing::good;
-use board::Board;
 use chains::wording::spell;
 use formula::reading::read_whole;
 use literals::refusal::Refusal;

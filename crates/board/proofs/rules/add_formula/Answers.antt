@@ -78,16 +78,16 @@ returns-in-Err c =
     let few = (list_of b.symbols bytes well c.in-Some.ensures).few in
     let left = c.append.ensures.table_after in
     let all =
-        ⊎_elim
-        {C = (record { outcome = Err c.in-Err.why; place = no_place; added = 0; board = b } ≡ ruled table b bytes)
-          × (c.append.new.table ≡ ruled_table table b bytes)}
-        (λ u.
-          let told = rule_refused table b bytes NoAssignment (rw (c.requires.board_value, well, few, u.1)) refl in
-          (rw u.0 told.0, left ∙ sym (told_unsatisfiable rule b.rows b.rules lent table u.1).1 ∙ told.1))
-        (λ f.
-          let told = rule_refused table b bytes TableFull (rw (c.requires.board_value, well, few, f.1, f.2)) refl in
-          (rw f.0 told.0, left ∙ sym (told_full rule b.rows b.rules lent table f.1 f.2).1 ∙ told.1))
-        (because rule b.rows b.rules lent (sym c.in-Err.ensures.value)) in
+    ⊎_elim
+    {C = (record { outcome = Err c.in-Err.why; place = no_place; added = 0; board = b } ≡ ruled table b bytes)
+    × (c.append.new.table ≡ ruled_table table b bytes)}
+    (λ u.
+    let told = rule_refused table b bytes NoAssignment (rw (c.requires.board_value, well, few, u.1)) refl in
+    (rw u.0 told.0, left ∙ sym (told_unsatisfiable rule b.rows b.rules lent table u.1).1 ∙ told.1))
+    (λ f.
+    let told = rule_refused table b bytes TableFull (rw (c.requires.board_value, well, few, f.1, f.2)) refl in
+    (rw f.0 told.0, left ∙ sym (told_full rule b.rows b.rules lent table f.1 f.2).1 ∙ told.1))
+    (because rule b.rows b.rules lent (sym c.in-Err.ensures.value)) in
     record { value = c.refused-in-Err.ensures ∙ all.0; table_after = all.1 }
 
 pub returns-in-Ok : goal.returns-in-Ok

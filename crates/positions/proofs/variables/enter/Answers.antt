@@ -45,8 +45,8 @@ module _ (table : List ℤ) (b : Board) (x : Variable) (board_good : good_board 
     refuses e =
         ⊎_elim (λ u. clash (variable_satisfiable b.symbols x suited) u.1)
         (λ f.
-          let all = told_full table b (positions x) board_good suited (one_rule_fits b.symbols b.rows b.rules lent x good.few ∙ f.2) in
-          (rw f.0 all.answer_is, left ∙ sym (table_full rule b.rows b.rules lent table f.1 f.2).1 ∙ all.table_is))
+        let all = told_full table b (positions x) board_good suited (one_rule_fits b.symbols b.rows b.rules lent x good.few ∙ f.2) in
+        (rw f.0 all.answer_is, left ∙ sym (table_full rule b.rows b.rules lent table f.1 f.2).1 ∙ all.table_is))
         (because rule b.rows b.rules lent (told ∙ e))
 
     adds : {n : ℕ} → answer ≡ Ok n
@@ -59,9 +59,9 @@ module _ (table : List ℤ) (b : Board) (x : Variable) (board_good : good_board 
         let all = told_done table b (positions x) board_good suited room in (
           rw (r.2 ∙ sym (ap length rows)) all.answer_is,
           left
-          ∙ sym (told_rows rule b.rows b.rules lent table r.0 r.1).1
-          ∙ ap (appended table b.rows) (sym (of_one_rule (suc b.rules) rule))
-          ∙ all.table_is,
+              ∙ sym (told_rows rule b.rows b.rules lent table r.0 r.1).1
+              ∙ ap (appended table b.rows) (sym (of_one_rule (suc b.rules) rule))
+              ∙ all.table_is,
         )
 
 pub append-requires : goal.append-requires
