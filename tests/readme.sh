@@ -75,15 +75,15 @@ for call in $(grep -o '\btup_[a-z_]*(' include/tupahineka.h | tr -d '(' | sort -
     }
 done
 
-# what the documents name: a word of the crates, of the header or of a file's name, and files of the crates. (LANDINGS.md and PORT.md tell of names
+# what the documents name: a word of the crates, of the header or of a file's name, and files of the crates. (LANDINGS.md, PORT.md and DESIGN-PASS.md tell of names
 # and files as they stood when a landing or the port moved them, so they may be other ones now)
-for word in $(grep -oh --exclude={LANDINGS,PORT}.md '`[A-Za-z][A-Za-z0-9_-]*`' README.md docs/*.md | tr -d '`' | sort -u); do
+for word in $(grep -oh --exclude={LANDINGS,PORT,DESIGN-PASS}.md '`[A-Za-z][A-Za-z0-9_-]*`' README.md docs/*.md | tr -d '`' | sort -u); do
     grep -rqw -- "$word" crates crates.txt include Makefile || [ -n "$(find crates -name "$word.*")" ] || {
         echo "the documents name '$word', and nothing here has that name"
         exit 1
     }
 done
-for path in $(grep -oh --exclude={LANDINGS,PORT}.md '`[a-z_]*/\(src\|specs\|proofs\)/[A-Za-z_.]*`' README.md docs/*.md | tr -d '`' | sort -u); do
+for path in $(grep -oh --exclude={LANDINGS,PORT,DESIGN-PASS}.md '`[a-z_]*/\(src\|specs\|proofs\)/[A-Za-z_.]*`' README.md docs/*.md | tr -d '`' | sort -u); do
     [ -e "crates/$path" ] || [ -e "crates/$path.antt" ] || {
         echo "the documents name crates/$path, and there is no such file"
         exit 1
