@@ -90,6 +90,21 @@ fn change(rt: &impl Print, before: Board, told: Change) -> io::Result<()> {
     }
 }
 
+// What holding or withdrawing told, with the line's word in front.
+fn premise(
+    rt: &impl Print,
+    before: Board,
+    told: Change,
+    word: &[u8],
+    furnace: u8,
+    l: i16,
+) -> io::Result<Board> {
+    named(rt, word, l)?;
+    for_furnace(rt, furnace)?;
+    change(rt, before, told)?;
+    Ok(told.board)
+}
+
 pub fn hold(
     rt: &impl Print,
     before: Board,
@@ -98,10 +113,7 @@ pub fn hold(
     l: i16,
 ) -> io::Result<Board> {
     let told = board::changes::hold(before, table, furnace, l);
-    named(rt, b"; hold", l)?;
-    for_furnace(rt, furnace)?;
-    change(rt, before, told)?;
-    Ok(told.board)
+    premise(rt, before, told, b"; hold", furnace, l)
 }
 
 pub fn withdraw(
@@ -112,10 +124,7 @@ pub fn withdraw(
     l: i16,
 ) -> io::Result<Board> {
     let told = board::changes::withdraw(before, table, furnace, l);
-    named(rt, b"; drop", l)?;
-    for_furnace(rt, furnace)?;
-    change(rt, before, told)?;
-    Ok(told.board)
+    premise(rt, before, told, b"; drop", furnace, l)
 }
 
 // What settle wrote at the front of each table, in full.

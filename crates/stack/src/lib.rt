@@ -1,4 +1,5 @@
 // Try a reading and take it back: a stack of premises for each furnace, both in one record that a step is lent and changes.
+// No heap, and a record of fixed size: the count stands beside the places.
 #![tactic(auto)]
 
 mod record;
