@@ -9,7 +9,7 @@ use board::asking::{Reason, Standing};
 use board::rules::Addition;
 use board::{Board, Change, Outcome};
 use literals::refusal::Refusal;
-use report::comparing::{BYTE, WORD, changed, same_board, written};
+use report::comparing::{BYTE, WORD, changed, written};
 use report::counting::{how_many, sum};
 use report::printing;
 use report::printing::{counted, number, text};
@@ -38,7 +38,7 @@ pub fn added(
     let next = told.board;
     match outcome {
         Err(why) => {
-            printing::rule_refused(rt, why, told.place, places == 0 && same_board(before, next))
+            printing::rule_refused(rt, why, told.place, places == 0 && before == next)
         }
         Ok(()) => {
             printing::appended(rt, table, before.rows, told.added)?;
@@ -85,7 +85,7 @@ fn change(rt: &impl Print, before: Board, told: Change) -> io::Result<()> {
     let outcome = told.outcome;
     let next = told.board;
     match outcome {
-        Err(why) => printing::refused_with(rt, why, same_board(before, next)),
+        Err(why) => printing::refused_with(rt, why, before == next),
         Ok(()) => printing::board(rt, next),
     }
 }
