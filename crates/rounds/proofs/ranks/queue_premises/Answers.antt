@@ -1,5 +1,4 @@
-use Rattle.meaning.proofs.Kit.{◌≡◌, subst, ◌<◌, arith, length}
-use Rattle.rounds.specs.Queue.{Premises}
+use Rattle.meaning.proofs.Kit.{◌<◌, arith, length}
 use Rattle.rounds.proofs.Frontiers.{premises_none, premises_few, premises_held, premises_not, premises_past}
 use Rattle.rounds.proofs.ranks.queue_premises.Goals as goal
 use Rattle.rounds.proofs.ranks.queue_premises.Goals.{then-held-p, else-held-p}
@@ -35,8 +34,3 @@ loop-p-preserved c =
         | else-held-p y ↦ rw (y.queue-is, y.end-is) (premises_not w y.if-held-p.false)
       ];
     }
-
-pub returns : goal.returns
-returns c =
-    let done : c.loop-p.p ≡ c.args.places = omega arith in
-    subst (λ n. Premises n c.args.held.now c.loop-p.queue c.loop-p.end) done c.loop-p.invariant.premises

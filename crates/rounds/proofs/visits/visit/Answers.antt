@@ -1,7 +1,7 @@
 use Rattle.meaning.proofs.Kit.{◌∙◌, arith}
 use Rattle.index.proofs.Following.{heads_long}
 use Rattle.findings.proofs.Queueing.{queued_none, queued_more}
-use Rattle.rounds.proofs.Striking.{visited_linked, visited_none, visited_rises, visited_more, visited_looked, visited_struck}
+use Rattle.rounds.proofs.Striking.{visited_linked, visited_none, visited_rises, visited_more}
 use Rattle.rounds.proofs.visits.visit.Goals as goal
 
 pub bounds-heads-p : goal.bounds-heads-p
@@ -32,9 +32,3 @@ loop-cell-preserved c =
           e.ranks_after;
       queued = queued_more c.loop-cell.auto.ranks i.queued e.queued;
     }
-
-pub returns-clause-looked : goal.returns-clause-looked
-returns-clause-looked c = visited_looked c.requires.fit c.requires.index c.loop-cell.invariant.visited c.loop-cell-test.false
-
-pub returns-clause-struck : goal.returns-clause-struck
-returns-clause-struck c = visited_struck c.requires.fit c.requires.index c.loop-cell.invariant.visited c.loop-cell-test.false
