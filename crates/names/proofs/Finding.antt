@@ -1,6 +1,6 @@
 -- The first slot that has a word, and the slot of a name that is known.
-use Rattle.meaning.proofs.Kit.{◌≡◌, ◌∙◌, refl, ap, ap₂, true, false, false≢true, Bool, cond, List, ◌≤◌, ℕ, ◌<◌, ◌-◌, ◌+◌, ◌*◌, arith, get_or, drop, take}
-use Rattle.meaning.proofs.Kit.{lt-ltb, le-ltb}
+use Rattle.meaning.proofs.Kit.{◌≡◌, ◌∙◌, refl, ap, ap₂, true, false, false≢true, Bool, cond, List, ◌≤◌, ℕ, ◌<◌, ◌-◌, ◌+◌, ◌*◌, arith, get_or}
+use Rattle.meaning.proofs.Kit.{drop, take, lt-ltb, le-ltb}
 use Rattle.std.specs.Option.{is_some, unwrap_or}
 use Rattle.std.specs.List.{position_or_len}
 use Rattle.std.proofs.Common.{Option, Some, None}
@@ -31,11 +31,11 @@ module _ (width count : ℕ) (slots word : List ℕ) where
 
   pub found_here : (k : ℕ) → k < count → test k ≡ true → ((i : ℕ) → i < k → test i ≡ false) → Some k ≡ slot_of width count slots word
   unfolding slot_of
-  found_here k h e before = rw (place_is k (omega arith) before (λ l. e), length_from 0 count, lt-ltb k count h) refl
+  found_here k h e before = rw (place_is k (omega arith) before (λ l. e), length_from 0 count, lt-ltb k count h)
 
   pub found_nowhere : ((i : ℕ) → i < count → test i ≡ false) → None ≡ slot_of width count slots word
   unfolding slot_of
-  found_nowhere before = rw (place_is count (omega arith) before (λ l. absurd (omega arith)), length_from 0 count, le-ltb count count (omega arith)) refl
+  found_nowhere before = rw (place_is count (omega arith) before (λ l. absurd (omega arith)), length_from 0 count, le-ltb count count (omega arith))
 
   slot_below : (k : ℕ) → slot_of width count slots word ≡ Some k → k < count
   unfolding slot_of

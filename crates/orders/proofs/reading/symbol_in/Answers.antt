@@ -18,7 +18,8 @@ overflow_add-result c = omega (arith, slot_few c.args.names.now c.args.word.now 
 pub returns-in-Some : goal.returns-in-Some
 unfolding symbol_in
 returns-in-Some c =
-    rw (← c.is_number.ensures, c.if-is_number.false, ← c.is_name.ensures, c.if-not-is_name.false, ← c.in-Some.ensures) (ap Ok (add-one c.in-Some.slot))
+    rw (← c.is_number.ensures, c.if-is_number.false, ← c.is_name.ensures, c.if-not-is_name.false, ← c.in-Some.ensures)
+    (ap Ok (add-one c.in-Some.slot))
 
 pub returns-in-None : goal.returns-in-None
 unfolding symbol_in

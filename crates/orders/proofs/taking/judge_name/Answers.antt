@@ -47,7 +47,7 @@ pub returns-in-Some : goal.returns-in-Some
 returns-in-Some c =
     let a = c.args in
     let other = ne_eqb (suc c.in-Some.slot) a.symbol (λ e. c.if-slot-symbol.true (omega (arith, e))) in
-    let is = judged a.symbols a.symbol a.names.now a.given.now _ c.in-Some.ensures c.if-symbols-eq0.false (omega arith) (omega arith) (omega arith) in
+    let is = judged a.symbols a.symbol _ _ _ c.in-Some.ensures c.if-symbols-eq0.false (omega arith) (omega arith) (omega arith) in
     c.told-in-Some.ensures ∙ rw (is, other)
 
 pub returns-in_default : goal.returns-in_default
@@ -56,9 +56,9 @@ returns-in_default c =
     elim c.in_default.branch [
       | in_default-via-in-Some+else-slot-symbol w ↦
           let same = eq-eqb (suc w.in-Some.slot) a.symbol (omega (arith, w.if-slot-symbol.false)) in
-          let is = judged a.symbols a.symbol a.names.now a.given.now _ w.in-Some.ensures c.if-symbols-eq0.false (omega arith) (omega arith) (omega arith) in
+          let is = judged a.symbols a.symbol _ _ _ w.in-Some.ensures c.if-symbols-eq0.false (omega arith) (omega arith) (omega arith) in
           c.told-in_default.ensures ∙ rw (is, same)
       | in_default-via-in_default w ↦
           c.told-in_default.ensures
-          ∙ rw (judged a.symbols a.symbol a.names.now a.given.now _ w.in_default.ensures c.if-symbols-eq0.false (omega arith) (omega arith) (omega arith))
+          ∙ rw (judged a.symbols a.symbol _ _ _ w.in_default.ensures c.if-symbols-eq0.false (omega arith) (omega arith) (omega arith))
     ]
