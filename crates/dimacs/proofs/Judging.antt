@@ -1,6 +1,5 @@
--- What a clause comes to: where it is not at fault, and what is kept of it tells.
-use Rattle.meaning.proofs.Kit.{◌≡◌, refl, ◌≢◌, true, false, List, [], ◌∷◌, ◌≤◌, ℕ, ◌+◌, arith, eqb, leb, ℤ}
-use Rattle.meaning.proofs.Kit.{length, leb-true}
+-- A clause that is not at fault.
+use Rattle.meaning.proofs.Kit.{◌≡◌, refl, ◌≢◌, true, false, List, [], ◌∷◌, ◌≤◌, ℕ, ◌+◌, arith, eqb, leb, ℤ, length, leb-true}
 use Rattle.meaning.specs.Tests.{all}
 use Rattle.meaning.proofs.Tests.{clash}
 use Rattle.literals.specs.Literal.{in_range}
@@ -11,8 +10,6 @@ use Rattle.std.specs.Prelude.{Ok}
 use Rattle.board.proofs.Answered.{refused_not_done}
 use Rattle.dimacs.specs.Gathering.{gathered_rows, found_fault, gathered}
 use Rattle.dimacs.proofs.Tested.{by_test}
-
--- ---- a clause that is not at fault
 
 some_literal : (c : List ℤ) → eqb (length (gathered [] c)) 0 ≡ false → 1 ≤ length c
 unfolding gathered

@@ -34,7 +34,8 @@ append-requires c =
     let a = c.args in
     let fine = good_is _ _ c.requires.board_value.0 in
     let found = by_survey a.table.now a.board (clauses_from a.variables a.at a.text.now) a.clauses c.rows_lent-lent.ensures c.survey_clauses-found.ensures in
-    let whole = as_many a.table.now a.board (clauses_from a.variables a.at a.text.now) a.clauses c.rows_lent-lent.ensures c.survey_clauses-found.ensures c.in-Ok.is in
+    let whole = as_many a.table.now a.board (clauses_from a.variables a.at a.text.now) a.clauses c.rows_lent-lent.ensures c.survey_clauses-found.ensures
+    c.in-Ok.is in
     record {
       at_in_bounds = (c.requires.board_value.1, fine.some, fine.sound.symbols, fine.lent, fine.few);
       text_value = rw whole at (found.outcome ∙ c.in-Ok.is);
@@ -62,7 +63,8 @@ returns-in-Ok c =
     let b = c.args.board in
     let r = c.requires in
     let found = by_survey a.table.now a.board (clauses_from a.variables a.at a.text.now) a.clauses c.rows_lent-lent.ensures c.survey_clauses-found.ensures in
-    let whole = as_many a.table.now a.board (clauses_from a.variables a.at a.text.now) a.clauses c.rows_lent-lent.ensures c.survey_clauses-found.ensures c.in-Ok.is in
+    let whole = as_many a.table.now a.board (clauses_from a.variables a.at a.text.now) a.clauses c.rows_lent-lent.ensures c.survey_clauses-found.ensures
+    c.in-Ok.is in
     let none = found.outcome ∙ c.in-Ok.is in
     let all = read_done a.table.now b a.text.now r.board_value.0 r.text_value none (found.all_clauses none) (found.added none) in
     let rows = ap (λ (p : Parsed). appended a.table.now b.rows (numbered_rows b.symbols b.rules p)) (sym whole) in
