@@ -37,9 +37,7 @@ pub fn added(
     let outcome = told.outcome;
     let next = told.board;
     match outcome {
-        Err(why) => {
-            printing::rule_refused(rt, why, told.place, places == 0 && before == next)
-        }
+        Err(why) => { printing::rule_refused(rt, why, told.place, places == 0 && before == next) }
         Ok(()) => {
             printing::appended(rt, table, before.rows, told.added)?;
             counted(rt, b", changed", places)?;
