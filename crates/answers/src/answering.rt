@@ -8,8 +8,7 @@ ghost use Rattle.saying.specs.Limits.{kept_length};
 use crate::choosing::{Fault, least_line, sets_line};
 use crate::{asking, table, tree};
 use literals::refusal::Refusal;
-use names::naming::{run, slot_of};
-use names::slots::find;
+use names::naming::slot_of;
 use orders::order::Order;
 use orders::reading::literal_in;
 use orders::taking::MOST_BYTES;
@@ -75,11 +74,10 @@ fn say_named(rt: &impl Print, names: &[u8], line: &[u8]) -> io::Result<()>
     requires { length names.now ≡ table_length }
 {
     let given = word(line, 2);
-    let slot = slot_of(names, given);
     say(rt, b"  ")?;
     say(rt, given)?;
     say(rt, b" is symbol ")?;
-    if slot < names::naming::SYMBOLS {
+    if let Some(slot) = slot_of(names, given) {
         say_number(rt, slot + 1)?;
     }
     say(rt, b"\n")
@@ -216,8 +214,8 @@ fn answer_word(
 // Whether lines are printed ahead of their answers from here on.
 fn answer_echo(rt: &impl Print, line: &[u8], echo: bool) -> io::Result<bool> {
     let given = word(line, 1);
-    let choice = find(b"on\0off", 3, 2, given);
-    if 1 < choice || run(given) != given.len() {
+    let on = given == b"on".as_slice();
+    if !on && given != b"off".as_slice() {
         point_at(rt, line, echo, word_place(line, 1))?;
         say(rt, b"not taken: on or off is due here\n")?;
         return Ok(echo);
@@ -229,7 +227,7 @@ fn answer_echo(rt: &impl Print, line: &[u8], echo: bool) -> io::Result<bool> {
     say(rt, b"  echo ")?;
     say(rt, given)?;
     say(rt, b"\n")?;
-    Ok(choice == 0)
+    Ok(on)
 }
 
 // A line that asks. Tells whether lines are printed from here on.

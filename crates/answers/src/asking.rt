@@ -11,7 +11,7 @@ use saying::premises::{is_held, is_tried, literal_of};
 use saying::showing::refuse;
 use std::io;
 
-// What settle leaves in the place of a literal that is not derived.
+// What settle leaves in the place of a literal that is not derived: the table of ranks holds this number.
 const NO_RANK: u16 = 65535;
 
 // How a literal stands.

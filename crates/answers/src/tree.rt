@@ -1,4 +1,5 @@
 // Why a literal stands: its rule, and under it what that rule went by, down to premises.
+// No heap: what waits lies in an array, and how many wait is told.
 
 ghost use Rattle.std.specs.Prelude.{◌≡◌, ◌<◌, ◌≤◌, length};
 ghost use Rattle.names.specs.Names.{table_length};

@@ -5,7 +5,7 @@ use Rattle.meaning.specs.Tests.{none, tabulate}
 use Rattle.meaning.specs.Rounds.{rank_of, ranks_of, support_of, supports_of}
 use Rattle.meaning.proofs.Tables.{length_tabulate, tabulate_same}
 use Rattle.literals.specs.Row.{Fit}
-use Rattle.board.specs.Furnaces.{held_by}
+use Rattle.board.specs.Furnaces.{set_of, held_by}
 use Rattle.board.specs.Ranking.{rows_on}
 use Rattle.board.specs.declared.Board.{Board}
 use Rattle.board.proofs.Goodness.{Good}
@@ -21,14 +21,16 @@ module _ (table : List ℤ) (b : Board) (big : List ℕ) (room : 2 * b.symbols �
   rows_fit g = (b.symbols, part_long, g.sound)
 
   -- and so filled, by what `premises` handed over
-  module _ (furnace : ℕ) {held : List Bool} (same : held ≡ held_by b furnace) where
+  module _ (furnace : ℕ) {held : List Bool} (same : held ≡ set_of furnace b.first b.second) where
     pub filled_is : {filled : List ℕ} → filled ≡ ranks_of (length (take (2 * b.symbols) big)) (rows_on table b) held
         → filled ≡ ranks_of (2 * b.symbols) (rows_on table b) (held_by b furnace)
+    unfolding held_by
     filled_is e = e ∙ ap₂ (λ n h. ranks_of n (rows_on table b) h) part_long same
 
     pub supports_are : (count from : ℕ) {filled : List ℕ}
         → filled ≡ tabulate count (λ i. support_of (length (take (2 * b.symbols) big)) (rows_on table b) held (from + i))
         → filled ≡ tabulate count (λ i. support_of (2 * b.symbols) (rows_on table b) (held_by b furnace) (from + i))
+    unfolding held_by
     supports_are count from e = e ∙ ap₂ (λ n h. tabulate count (λ i. support_of n (rows_on table b) h (from + i))) part_long same
 
 module _ (places : ℕ) (rows : List (List ℕ)) (held : List Bool) where
@@ -78,15 +80,31 @@ module _ (table : List ℤ) (b : Board) (furnace : ℕ) where
 -- ---- an array of as many ranks as a board can have, its front lent
 
 module _ (table : List ℤ) (b : Board) (g : Good table b) where
+  pub places_few : 2 * b.symbols < none
+  places_few = omega (arith, g.sound.symbols)
+
   pub ranks_room : 2 * b.symbols ≤ length (replicate 400 none)
   ranks_room = rw length-replicate (omega (arith, g.sound.symbols))
 
   pub ranks_long : length (take (2 * b.symbols) (replicate 400 none)) ≡ 2 * b.symbols
   ranks_long = part_long table b (replicate 400 none) ranks_room
 
-  pub ranks_back : (furnace : ℕ) {held : List Bool} {ranks : List ℕ} → held ≡ held_by b furnace
+  -- all that `propagate` requires of it
+  pub can_propagate : (held : List Bool) → 400 ≡ length held
+      → Fit (length (take (2 * b.symbols) (replicate 400 none))) b.rows table × (length (take (2 * b.symbols) (replicate 400 none)) ≤ length held)
+  can_propagate held all = (rows_fit table b (replicate 400 none) ranks_room g, omega (arith, ranks_long, all, g.sound.symbols))
+
+  pub ranks_back : (furnace : ℕ) {held : List Bool} {ranks : List ℕ} → held ≡ set_of furnace b.first b.second
       → ranks ≡ ranks_of (length (take (2 * b.symbols) (replicate 400 none))) (rows_on table b) held
       → RanksIn table b furnace (ranks ++ drop (2 * b.symbols) (replicate 400 none))
   ranks_back furnace same are =
       rw (filled_is table b (replicate 400 none) ranks_room furnace same are)
       (front_of (2 * b.symbols) _ _ (length_ranks_of (2 * b.symbols) (rows_on table b) (held_by b furnace)))
+
+  -- and the support of one place, in an array of its own
+  pub support_back : (furnace : ℕ) {held : List Bool} → held ≡ set_of furnace b.first b.second → (p : ℕ) {supports : List ℕ}
+      → supports ≡ tabulate 1 (λ i. support_of (length (take (2 * b.symbols) (replicate 400 none))) (rows_on table b) held (p + i))
+      → get_or supports 0 0 ≡ support_of (2 * b.symbols) (rows_on table b) (held_by b furnace) p
+  support_back furnace same p are =
+      one_support (2 * b.symbols) (rows_on table b) (held_by b furnace) p
+      (supports_are table b (replicate 400 none) ranks_room furnace same 1 p are)

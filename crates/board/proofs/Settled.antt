@@ -24,14 +24,15 @@ module _ (table : List ℤ) (b : Board) (furnace : ℕ) (labels ranks supports :
   abbrev pub Settled : Outcome → (labels ranks supports : List ℕ) → Type 0
   Settled o l r s =
       (o ≡ settle_outcome table b furnace labels ranks supports)
-      × ((l ≡ settled_labels table b furnace labels ranks supports)
-      × ((r ≡ settled_ranks table b furnace labels ranks supports)
-      × ((s ≡ settled_supports table b furnace labels ranks supports) × (o ≡ Ok tt → RanksBounded b.symbols r))))
+      × (l ≡ settled_labels table b furnace labels ranks supports)
+      × (r ≡ settled_ranks table b furnace labels ranks supports)
+      × (s ≡ settled_supports table b furnace labels ranks supports)
+      × (o ≡ Ok tt → RanksBounded b.symbols r)
 
   pub settle_refused : (why : Refusal) → settle_outcome table b furnace labels ranks supports ≡ Err why
       → Settled (Err why) labels ranks supports
   unfolding settled_labels settled_ranks settled_supports
-  settle_refused why e = (sym e, (rw e, (rw e, (rw e, λ done. refused_not_done done))))
+  settle_refused why e = (sym e, rw e, rw e, rw e, λ done. refused_not_done done)
 
   abbrev rows : List (List ℕ)
   rows = rows_on table b
@@ -63,8 +64,8 @@ module _ (table : List ℤ) (b : Board) (furnace : ℕ) (labels ranks supports :
       let are : r ++ drop (2 * b.symbols) ranks ≡ settled_ranks table b furnace labels ranks supports =
       rw (e, er, length_ranks_of (2 * b.symbols) rows (held_by b furnace)) in (
         sym e,
-        (
-          rw (e, el ∙ labels_from_is b.symbols rows (held_by b furnace) small, length_labels),
-          (are, (rw (e, es, length_supports_of (2 * b.symbols) rows (held_by b furnace)), λ _. rw are (ranks_bounded e))),
-        ),
+        rw (e, el ∙ labels_from_is b.symbols rows (held_by b furnace) small, length_labels),
+        are,
+        rw (e, es, length_supports_of (2 * b.symbols) rows (held_by b furnace)),
+        λ _. rw are (ranks_bounded e),
       )

@@ -6,11 +6,11 @@ use Rattle.meaning.specs.Rounds.{ranks_of}
 use Rattle.literals.specs.Row.{Fit}
 use Rattle.findings.specs.Reach.{reached_asked}
 use Rattle.findings.proofs.Filling.{part_same}
-use Rattle.board.specs.Furnaces.{held_by}
+use Rattle.board.specs.Furnaces.{set_of, held_by}
 use Rattle.board.specs.Ranking.{rows_on}
 use Rattle.board.specs.declared.Board.{Board}
 use Rattle.board.proofs.Goodness.{Good}
-use Rattle.board.proofs.Lending.{rows_fit, Front, front_of, RanksIn, ranks_room, ranks_long, ranks_back}
+use Rattle.board.proofs.Lending.{Front, front_of, RanksIn, ranks_long, can_propagate, ranks_back}
 
 -- what comes back: the ranks, and the premises reached from p
 pub record Traced (table : List ℤ) (b : Board) (furnace : ℕ) (p : ℕ) (list : List ℕ) (reached : List Bool) : Type 0 where
@@ -33,22 +33,18 @@ module _ (table : List ℤ) (b : Board) (g : Good table b) where
       × (length (take (2 * b.symbols) (replicate 400 false)) ≡ length (take (2 * b.symbols) (replicate 400 none))))
       × (take (2 * b.symbols) (replicate 400 false) ≡ replicate (length (take (2 * b.symbols) (replicate 400 none))) false))
   can_trace held all =
-      let few = g.sound.symbols in
-      let unset = part_same (2 * b.symbols) 400 false (omega (arith, few)) in (
-        rows_fit table b (replicate 400 none) (ranks_room table b g) g,
-        (
-          (omega (arith, ranks_long table b g, all, few), marks_long ∙ sym (ranks_long table b g)),
-          unset ∙ ap (λ n. replicate n false) (sym (ranks_long table b g)),
-        ),
-      )
+      let can = can_propagate table b g held all in
+      let unset = part_same (2 * b.symbols) 400 false (omega (arith, g.sound.symbols)) in
+      (can.0, ((can.1, marks_long ∙ sym (ranks_long table b g)), unset ∙ ap (λ n. replicate n false) (sym (ranks_long table b g))))
 
   -- ---- as they come back
 
-  pub come_back : (furnace p : ℕ) {held : List Bool} {ranks : List ℕ} {marks : List Bool} → held ≡ held_by b furnace
+  pub come_back : (furnace p : ℕ) {held : List Bool} {ranks : List ℕ} {marks : List Bool} → held ≡ set_of furnace b.first b.second
       → ranks ≡ ranks_of (length (take (2 * b.symbols) (replicate 400 none))) (rows_on table b) held
       → marks ≡ reached_asked (length (take (2 * b.symbols) (replicate 400 none))) (rows_on table b) held p
       → length marks ≡ length (take (2 * b.symbols) (replicate 400 false))
       → Traced table b furnace p (ranks ++ drop (2 * b.symbols) (replicate 400 none)) (marks ++ drop (2 * b.symbols) (replicate 400 false))
+  unfolding held_by
   come_back furnace p {ranks = ranks} {marks} same are reached long =
       let front = front_of (2 * b.symbols) marks (drop (2 * b.symbols) (replicate 400 false)) (long ∙ marks_long) in
       record {

@@ -1,12 +1,12 @@
 -- The furnaces' numbers, and whose premises are whose.
 use Rattle.meaning.proofs.Kit.{◌≡◌, ◌∙◌, sym, refl, ◌≢◌, true, false, Bool, cond, ◌||◌, false≢true, List, [], ℕ, eqb, length, ne_eqb, eqb-true}
-use Rattle.board.specs.Furnaces.{is_furnace, held_by, with_held}
+use Rattle.board.specs.Furnaces.{is_furnace, set_of, held_by, with_held}
 use Rattle.board.specs.declared.Board.{Board}
 
 -- what `premises` hands over is as long as an array of flags
 pub held_long : (b : Board) (furnace n : ℕ) {held : List Bool} → is_furnace furnace ≡ true → n ≡ length b.first → n ≡ length b.second
-    → held ≡ held_by b furnace → n ≡ length held
-unfolding is_furnace held_by
+    → held ≡ set_of furnace b.first b.second → n ≡ length held
+unfolding is_furnace
 held_long b furnace n {held} e long long' same = go (eqb furnace 1) (eqb furnace 2) e same
   where
     go : (one two : Bool) → one || two ≡ true → held ≡ cond one b.first (cond two b.second []) → n ≡ length held

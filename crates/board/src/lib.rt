@@ -15,7 +15,7 @@ use literals::refusal::Refusal;
 // S symbols, the rows of the caller's table in use, the rules accepted since the board was opened, and the premises, a flag for each literal's place:
 // those of furnace 1 first, then those of furnace 2. Each field may hold anything: the calls test it.
 #[repr(C)]
-#[derive(Clone, Copy)]
+#[derive(Clone, Copy, PartialEq)]
 pub struct Board {
     pub symbols: usize,
     pub rows: usize,

@@ -13,7 +13,8 @@ use crate::testing::good;
 use crate::{Board, Outcome};
 use literals::refusal::Refusal;
 
-// What stands for a place where none is told: no bytes lent are so many that one of them has it.
+// What stands for a place where none is told: no bytes lent are so many that one of them has it. No Option, since `NoPlaceElse` in `promises` names the
+// number.
 pub const NO_PLACE: usize = 0xffff_ffff_ffff_ffff;
 
 // What adding rules answers, by bytes, by text or by an entry: for refusals 2 to 6 the place in the formula's bytes, for 15 that in the text,

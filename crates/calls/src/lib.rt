@@ -9,7 +9,7 @@ use board::asking::{Reason, Standing};
 use board::rules::Addition;
 use board::{Board, Change, Outcome};
 use literals::refusal::Refusal;
-use report::comparing::{BYTE, WORD, changed, same_board, written};
+use report::comparing::{BYTE, WORD, changed, written};
 use report::counting::{how_many, sum};
 use report::printing;
 use report::printing::{counted, number, text};
@@ -37,9 +37,7 @@ pub fn added(
     let outcome = told.outcome;
     let next = told.board;
     match outcome {
-        Err(why) => {
-            printing::rule_refused(rt, why, told.place, places == 0 && same_board(before, next))
-        }
+        Err(why) => { printing::rule_refused(rt, why, told.place, places == 0 && before == next) }
         Ok(()) => {
             printing::appended(rt, table, before.rows, told.added)?;
             counted(rt, b", changed", places)?;
@@ -85,9 +83,24 @@ fn change(rt: &impl Print, before: Board, told: Change) -> io::Result<()> {
     let outcome = told.outcome;
     let next = told.board;
     match outcome {
-        Err(why) => printing::refused_with(rt, why, same_board(before, next)),
+        Err(why) => printing::refused_with(rt, why, before == next),
         Ok(()) => printing::board(rt, next),
     }
+}
+
+// What holding or withdrawing told, with the line's word in front.
+fn premise(
+    rt: &impl Print,
+    before: Board,
+    told: Change,
+    word: &[u8],
+    furnace: u8,
+    l: i16,
+) -> io::Result<Board> {
+    named(rt, word, l)?;
+    for_furnace(rt, furnace)?;
+    change(rt, before, told)?;
+    Ok(told.board)
 }
 
 pub fn hold(
@@ -98,10 +111,7 @@ pub fn hold(
     l: i16,
 ) -> io::Result<Board> {
     let told = board::changes::hold(before, table, furnace, l);
-    named(rt, b"; hold", l)?;
-    for_furnace(rt, furnace)?;
-    change(rt, before, told)?;
-    Ok(told.board)
+    premise(rt, before, told, b"; hold", furnace, l)
 }
 
 pub fn withdraw(
@@ -112,10 +122,7 @@ pub fn withdraw(
     l: i16,
 ) -> io::Result<Board> {
     let told = board::changes::withdraw(before, table, furnace, l);
-    named(rt, b"; drop", l)?;
-    for_furnace(rt, furnace)?;
-    change(rt, before, told)?;
-    Ok(told.board)
+    premise(rt, before, told, b"; drop", furnace, l)
 }
 
 // What settle wrote at the front of each table, in full.

@@ -3,6 +3,7 @@
 // A chain that is grouped from the left starts with one kind byte for each join, so the joins are counted first, by the reader, and
 // then the units are written in their order. A byte past the buffer's end is left out, and counted all the same: with an empty
 // buffer the writer says how many bytes there are.
+// No heap: what is written goes into what is lent, and the place after it is told.
 
 ghost use Rattle.std.specs.Prelude.{◌≡◌, true, ◌+◌, ◌*◌, ◌-◌, ◌≤◌, length, replicate};
 ghost use Rattle.std.proofs.lemmas.List.Edits.{sets};

@@ -1,4 +1,5 @@
 // A byte stored into a buffer that is lent.
+// No heap: what is written goes into what is lent, and the place after it is told.
 
 ghost use Rattle.std.specs.Prelude.{◌≡◌, set};
 

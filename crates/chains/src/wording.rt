@@ -1,6 +1,7 @@
 // The text of a formula, from its prefix bytes, in a buffer that is lent: brackets round each two-operand form but the whole formula.
 //
 // A byte past the buffer's end is left out, and counted all the same: with an empty buffer the writer says how many bytes there are.
+// No heap: what is written goes into what is lent, and the place after it is told.
 
 ghost use Rattle.std.specs.Prelude.{◌≡◌, true, ◌+◌, ◌≤◌, length, get_or};
 ghost use Rattle.formula.specs.Answers.{is_good, formula_of, used_of};

@@ -1,4 +1,5 @@
 // The clauses of a text that was surveyed, written as rows into the caller's table.
+// No heap: what is written goes into what is lent, and the place after it is told.
 
 ghost use Rattle.std.specs.Prelude.{◌≡◌, true, suc, ◌+◌, ◌*◌, ◌≤◌, ltb, length, take, Ok};
 ghost use Rattle.meaning.specs.Tests.{all};

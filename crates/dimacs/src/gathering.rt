@@ -1,4 +1,5 @@
 // One clause of a text, as a row of places in a lent buffer.
+// No heap: what is written goes into what is lent, and the place after it is told.
 
 ghost use Rattle.std.specs.Prelude.{◌≡◌, not, ◌≤◌, length};
 ghost use Rattle.meaning.specs.Literals.{place};
@@ -19,7 +20,8 @@ pub struct Kept {
     pub beyond: bool,
 }
 
-// A clause, the place after its 0, and whether it keeps the form: none of its literals is beyond the header's variables, and it has its 0.
+// A clause, the place after its 0, and whether it keeps the form: none of its literals is beyond the header's variables, and it has its 0. No Option:
+// where the text was surveyed the clause is taken without asking.
 #[derive(Clone, Copy)]
 pub struct Clause {
     pub kept: Kept,

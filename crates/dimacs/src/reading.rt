@@ -26,6 +26,7 @@ pub struct Reading {
     pub board: Board,
 }
 
+// No twin of `board::rules::refused`: the structs differ in what they tell.
 fn refused(board: Board, why: Refusal, clauses: usize) -> Reading
     ensures { result ≡ record { outcome = Err why; clauses = clauses; added = 0; board = board } }
 {

@@ -13,7 +13,8 @@ use board::Outcome;
 use literals::MOST_RULES;
 use literals::refusal::Refusal;
 
-// What the clauses come to, how many come before the first at fault, and how many rows they have, 0 where they are refused.
+// What the clauses come to, how many come before the first at fault, and how many rows they have, 0 where they are refused: `Reading` takes over all
+// three, where they are refused too (`ReadStops` in `promises`).
 #[derive(Clone, Copy)]
 pub struct Survey {
     pub outcome: Outcome,

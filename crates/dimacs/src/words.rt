@@ -19,7 +19,8 @@ pub struct Signed {
     pub end: usize,
 }
 
-// What breaks the form counts as this number, which no header reaches.
+// What breaks the form counts as this number, which no header reaches. No Option: `number_of` in `dimacs/specs/Words` gives the number, and a literal
+// beyond the header breaks the form in the same way.
 pub const BEYOND: usize = 32768;
 
 fn is_gap(byte: u8) -> bool

@@ -1,4 +1,5 @@
 // The rows in use as DIMACS text, in a buffer that is lent: first how long each piece is, then the pieces.
+// No heap: what is written goes into what is lent, and the place after it is told.
 
 ghost use Rattle.std.specs.Prelude.{◌≡◌, leb, ◌+◌, ◌*◌, ◌<◌, ◌≤◌, length, Err};
 ghost use Rattle.literals.specs.Row.{width};

@@ -5,7 +5,7 @@ ghost use Rattle.std.specs.Prelude.{◌≤◌, length};
 use board::Board;
 use dimacs::reading::Reading;
 use dimacs::writing::Writing;
-use report::comparing::{BYTE, changed, same_board, written};
+use report::comparing::{BYTE, changed, written};
 use report::counting::how_many;
 use report::printing;
 use report::printing::{counted, text};
@@ -14,7 +14,7 @@ use std::io;
 
 // Whether a refused reading left everything as it was.
 fn as_given(before: Board, told: Reading, places: usize) -> bool {
-    places == 0 && told.added == 0 && same_board(before, told.board)
+    places == 0 && told.added == 0 && before == told.board
 }
 
 // What reading a text came to: the rows in use before it, those that it added, its clauses, and at how many places the table changed.

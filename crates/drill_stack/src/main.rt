@@ -4,7 +4,6 @@
 
 mod beyond;
 mod circle;
-mod comparing;
 mod desks;
 mod full;
 mod given;

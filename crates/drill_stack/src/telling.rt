@@ -1,9 +1,7 @@
 // The calls of `stack`, with what they answer printed after a semicolon. Each is given a desk and hands back the one that it leaves.
 
-use crate::comparing::same_stacks;
 use crate::desks::Desk;
 use crate::printed;
-use report::comparing::same_board;
 use report::printing::{counted, text};
 use report::{boards, printing};
 use stack::{Stacks, Step};
@@ -17,7 +15,7 @@ fn step(rt: &impl Print, before: Desk, told: Step) -> io::Result<Desk> {
     let stacks = told.stacks;
     match outcome {
         Err(why) => {
-            let same = same_board(before.board, board) && same_stacks(before.stacks, stacks);
+            let same = before.board == board && before.stacks == stacks;
             printing::refused_with(rt, why, same)?;
         }
         Ok(()) => {

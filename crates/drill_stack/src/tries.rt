@@ -15,26 +15,27 @@ pub fn labels(rt: &impl Print, d: Desk, table: &[i16], furnace: u8) -> io::Resul
     Ok(())
 }
 
-pub fn push(rt: &impl Print, d: Desk, table: &[i16], furnace: u8, l: i16) -> io::Result<Desk> {
-    printed::on(rt, d, 45)?;
-    let next = telling::push(rt, d, table, furnace, l)?;
+// What stands after a step: the labels, and the end of the line.
+fn after(rt: &impl Print, next: Desk, table: &[i16], furnace: u8) -> io::Result<Desk> {
     labels(rt, next, table, furnace)?;
     printing::end(rt)?;
     Ok(next)
+}
+
+pub fn push(rt: &impl Print, d: Desk, table: &[i16], furnace: u8, l: i16) -> io::Result<Desk> {
+    printed::on(rt, d, 45)?;
+    let next = telling::push(rt, d, table, furnace, l)?;
+    after(rt, next, table, furnace)
 }
 
 pub fn pop(rt: &impl Print, d: Desk, table: &[i16], furnace: u8) -> io::Result<Desk> {
     printed::on(rt, d, 45)?;
     let next = telling::pop(rt, d, table, furnace)?;
-    labels(rt, next, table, furnace)?;
-    printing::end(rt)?;
-    Ok(next)
+    after(rt, next, table, furnace)
 }
 
 pub fn withdraw(rt: &impl Print, d: Desk, table: &[i16], furnace: u8, l: i16) -> io::Result<Desk> {
     printed::on(rt, d, 45)?;
     let next = telling::withdraw(rt, d, table, furnace, l)?;
-    labels(rt, next, table, furnace)?;
-    printing::end(rt)?;
-    Ok(next)
+    after(rt, next, table, furnace)
 }

@@ -1,7 +1,7 @@
 -- Following the marked literals of a queue to what they lead to, and what is then marked: the premises that the first ones reach.
 use Rattle.meaning.proofs.Kit.{◌≡◌, ◌∙◌, sym, ap, refl, subst, ⊎_elim, inl, inr, ◌⊎◌, true, false, Bool, cond, ◌&&◌, not, ◌||◌, List, [], ◌∷◌, ◌++◌}
 use Rattle.meaning.proofs.Kit.{In, in_nil, in_cons, ◌≤◌, ℕ, ◌<◌, ◌+◌, suc, ◌*◌, zero, ◌/◌, not-suc-le-zero, arith, eqb, length, get_or, take, replicate}
-use Rattle.meaning.proofs.Kit.{set, length-append, length-replicate, list_get_or_eq_default, get_or-replicate, length-take-le, get_or-set_other, take_at}
+use Rattle.meaning.proofs.Kit.{set, length-replicate, list_get_or_eq_default, get_or-replicate, length-take-le, get_or-set_other, take_at}
 use Rattle.meaning.proofs.Kit.{get_or-take, ne_eqb, eq-eqb, not-true, eqb-true, ltb-true, lt-ltb, le-ltb, eqb-false}
 use Rattle.meaning.specs.Tests.{none}
 use Rattle.meaning.specs.Literals.{opp, has}
@@ -137,10 +137,7 @@ module _ {n : ℕ} {marks : List Bool} {queue : List ℕ} {end : ℕ} (w : Begun
         queued = record { count = whole.count; more = whole.more; kept = λ i h. refl; put = whole.put; inside = whole.inside };
       }
 
-  -- the array that the queue is a part of, and the queue lent again
-  pub begun_fits : (rest : List ℕ) → n ≤ length (queue ++ rest)
-  begun_fits rest = omega (arith, length-append queue rest, w.same)
-
+  -- the queue, a part of an array, is lent again
   pub begun_again : (rest : List ℕ) → Begun n marks (take n (queue ++ rest)) end
   begun_again rest = subst (λ l. Begun n marks l end) (sym (take_at queue rest n w.same)) w
 

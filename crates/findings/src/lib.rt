@@ -7,7 +7,7 @@ pub mod labels;
 pub mod reach;
 pub mod supports;
 
-// No rank, no support.
+// No rank, no support: the tables that C lends hold this number.
 pub const NONE: u16 = 65535;
 
 // The most places that a board has.

@@ -1,4 +1,5 @@
 // What literals reach through their supports.
+// No heap: the queue lies in what is lent, and its end is told.
 
 ghost use Rattle.std.specs.Prelude.{◌≡◌, ◌+◌, ◌<◌, ◌≤◌, eqb, length, replicate, false};
 ghost use Rattle.meaning.specs.Rounds.{ranks_of};

@@ -1,4 +1,5 @@
 // The support of a literal: the lowest-numbered row that gave it its rank.
+// No heap: the queue lies in what is lent, and its end is told.
 
 ghost use Rattle.std.specs.Prelude.{◌≡◌, ◌+◌, ◌<◌, ◌≤◌, length};
 ghost use Rattle.meaning.specs.Tests.{tabulate, none};

@@ -10,6 +10,9 @@ one_symbols_of κs a x y = (cc, refl)
 one_kind_of : One contract'.reading.kind_of.ended formula.reading.kind_of.Reads.Post
 one_kind_of κs a x y = (cc, refl)
 
+one_breaks : One contract'.reading.breaks.ended formula.reading.breaks.Reads.Post
+one_breaks κs a x y = (cc, refl)
+
 one_past_by : One contract'.reading.past_by.ended formula.reading.past_by.Reads.Post
 one_past_by κs a x y = (cc, refl)
 

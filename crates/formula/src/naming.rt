@@ -1,4 +1,5 @@
 // The different symbols of a formula, rising.
+// No heap: the names lie in an array of eight, and how many there are stands beside it.
 
 ghost use Rattle.std.specs.Prelude.{◌≡◌, ◌+◌, ◌≤◌, true, false, get_or};
 ghost use Rattle.meaning.specs.Tests.{any, keep, from};

@@ -18,7 +18,7 @@ const MOST_INPUT: usize = 32768;
 const LINE: usize = 256;
 
 // How far the journal is: the board, the place of the next command and its ordinal, whether the program stops, and how many bytes
-// of the buffer are filled.
+// of the buffer are filled. No Option: all of it holds where the program stops, too.
 #[derive(Clone, Copy)]
 struct Run {
     board: Board,

@@ -29,21 +29,6 @@ module _ (table : List ℤ) (b : Board) (furnace : ℕ) (places : List ℕ) wher
       → record { outcome = Ok tt; set = set } ≡ stay_answer table b furnace places
   ended e {set} is = rw (e, is)
 
--- ---- 17, 11, or those
-
-module _ (table : List ℤ) (b : Board) (furnace : ℕ) (cands : List ℤ) where
-  pub repeated_told : repeats (places_of cands) ≡ true → record { outcome = Err BadCandidates; set = none } ≡ given_answer table b furnace cands
-  repeated_told e = rw e
-
-  module _ (different : repeats (places_of cands) ≡ false) where
-    pub not_held_told : all (has (held_by b furnace)) (places_of cands) ≡ false
-        → record { outcome = Err NotHeld; set = none } ≡ given_answer table b furnace cands
-    not_held_told e = rw (different, e)
-
-    pub held_told : all (has (held_by b furnace)) (places_of cands) ≡ true
-        → stay_answer table b furnace (places_of cands) ≡ given_answer table b furnace cands
-    held_told e = rw (different, e)
-
 -- ---- 1, 16, 2, 17 of too many, or those
 
 module _ (table : List ℤ) (b : Board) (furnace : ℕ) (cands : List ℤ) where

@@ -1,4 +1,5 @@
 // The sets of candidates, searched by size, then by number, for the first that ends the conflict.
+// No heap: the cores lie in what is lent, and how many there are is told.
 
 ghost use Rattle.std.specs.Prelude.{◌≡◌, true, cond, suc, ◌+◌, ◌*◌, ◌^◌, ◌<◌, ◌≤◌, ltb, length, set};
 ghost use Rattle.std.specs.Option.{unwrap_or};

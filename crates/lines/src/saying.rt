@@ -1,4 +1,5 @@
 // What a command says: the call that it makes, and its line.
+// No heap: what is written goes into what is lent, and the place after it is told.
 
 ghost use Rattle.std.specs.Prelude.{◌≡◌, ◌+◌, ◌≤◌, length};
 ghost use Rattle.spelling.specs.Text.{Put};
@@ -13,7 +14,7 @@ use literals::refusal::Refusal;
 use spelling::{put_literals, put_named, put_natural, put_word};
 
 // What a command comes to: the board after it, how many bytes of the input it took, the place after its text, and whether the
-// program stops.
+// program stops. No Option: all of it holds where the program stops, too.
 #[derive(Clone, Copy)]
 pub struct Progress {
     pub board: Board,

@@ -1,6 +1,7 @@
 -- Worked cases, one computed statement each: a table of two names, words sought in it, and texts with its names replaced.
 use Rattle.meaning.proofs.Kit.{◌≡◌, refl, List, [], ◌∷◌, ◌++◌, map, ℕ}
 use Prim.Native.String.{String}
+use Rattle.std.proofs.Common.{Option, Some, None}
 use Rattle.spelling.proofs.Ascii.{ascii}
 use Rattle.names.specs.Slots.{fits, is_over, padded, slot_of}
 use Rattle.names.specs.Names.{is_name, name_slot, run}
@@ -10,20 +11,20 @@ use Rattle.names.specs.Replacing.{numeral, renamed, replaced, replaced_from}
 table : List ℕ
 table = padded 24 (ascii "tc3_high") ++ (padded 24 [] ++ padded 24 (ascii "abc"))
 
--- a word, and its slot
+-- a word, and its slot, if it has one
 record Sought : Type 0 where
   pub word : String
-  pub slot : ℕ
+  pub slot : Option ℕ
 
 words : List Sought
 words =
-    record { word = "tc3_high"; slot = 0 }
-    ∷ record { word = "abc"; slot = 2 }
-    ∷ record { word = "ab"; slot = 65535 }
-    ∷ record { word = "tc3"; slot = 65535 }
-    ∷ record { word = "3abc"; slot = 65535 }
-    ∷ record { word = "_abc"; slot = 65535 }
-    ∷ record { word = "abcd"; slot = 65535 }
+    record { word = "tc3_high"; slot = Some 0 }
+    ∷ record { word = "abc"; slot = Some 2 }
+    ∷ record { word = "ab"; slot = None }
+    ∷ record { word = "tc3"; slot = None }
+    ∷ record { word = "3abc"; slot = None }
+    ∷ record { word = "_abc"; slot = None }
+    ∷ record { word = "abcd"; slot = None }
     ∷ []
 
 words_slots : map (λ w. name_slot table (ascii w.word)) words ≡ map (λ w. w.slot) words

@@ -1,7 +1,7 @@
 -- The desk's request: "Names: three characters or more, letters, digits and `_`, beginning with a letter." At most 24, and one for each of 200
 -- symbols.
-use Rattle.std.specs.Prelude.{ℕ, suc, Bool, cond, ◌&&◌, ◌||◌, List, [], ◌∷◌, eqb, leb, ltb, length, get_or}
-use Rattle.meaning.specs.Tests.{none}
+use Rattle.std.specs.Prelude.{ℕ, suc, Bool, cond, ◌&&◌, ◌||◌, List, [], ◌∷◌, eqb, leb, length, get_or, Option, None}
+use Rattle.std.specs.Option.{is_some, unwrap_or}
 use Rattle.spelling.specs.Text.{is_digit}
 use Rattle.names.specs.Slots.{slot_of}
 
@@ -27,13 +27,13 @@ most_named = 200
 abbrev pub table_length : ℕ
 table_length = 4800
 
--- the slot of a word, from 0; none, where it is no symbol's name
-unfoldable pub name_slot : (names word : List ℕ) → ℕ
-name_slot names word = cond (is_name word) (slot_of 24 most_named names word) none
+-- the slot of a word, from 0, if it is a symbol's name
+unfoldable pub name_slot : (names word : List ℕ) → Option ℕ
+name_slot names word = cond (is_name word) (slot_of 24 most_named names word) None
 
 abbrev pub is_known : (names word : List ℕ) → Bool
-is_known names word = ltb (name_slot names word) most_named
+is_known names word = is_some (name_slot names word)
 
 -- the symbol whose name it is (asked only of a name that is known)
 abbrev pub symbol_named : (names word : List ℕ) → ℕ
-symbol_named names word = suc (name_slot names word)
+symbol_named names word = suc (unwrap_or (name_slot names word) 0)

@@ -1,6 +1,7 @@
 -- A table of words in slots of equal width: a word's bytes, and zeros after them.
-use Rattle.std.specs.Prelude.{ℕ, zero, suc, ◌*◌, Bool, true, false, ◌&&◌, List, [], ◌∷◌, eqb, take, drop}
-use Rattle.meaning.specs.Tests.{first}
+use Rattle.std.specs.Prelude.{ℕ, zero, suc, ◌*◌, Bool, true, false, ◌&&◌, List, [], ◌∷◌, eqb, take, drop, Option}
+use Rattle.std.specs.List.{position}
+use Rattle.meaning.specs.Tests.{from}
 
 -- nothing, or a zero first
 unfoldable pub is_over : List ℕ → Bool
@@ -16,9 +17,9 @@ fits (b ∷ slot) (c ∷ word) = eqb b c && fits slot word
 abbrev pub slot_at : (width k : ℕ) → (slots : List ℕ) → List ℕ
 slot_at width k slots = take width (drop (width * k) slots)
 
--- the number of the first of `count` slots that has the word, from 0, else none
-unfoldable pub slot_of : (width count : ℕ) → (slots word : List ℕ) → ℕ
-slot_of width count slots word = first (λ k. fits (slot_at width k slots) word) count
+-- the number of the first of `count` slots that has the word, from 0, if any has it
+unfoldable pub slot_of : (width count : ℕ) → (slots word : List ℕ) → Option ℕ
+slot_of width count slots word = position (λ k. fits (slot_at width k slots) word) (from 0 count)
 
 -- what stands in a slot of so many bytes that a word was put into
 unfoldable pub padded : (width : ℕ) → (word : List ℕ) → List ℕ

@@ -3,7 +3,7 @@
 ghost use Rattle.std.specs.Prelude.{◌≡◌, ◌≤◌, length};
 ghost use Rattle.names.specs.Names.{in_name, is_letter, is_name, name_slot, run as Names·run, table_length};
 
-use crate::slots::{NONE, find};
+use crate::slots::find;
 
 // The most symbols that have a name, and the most bytes of one.
 pub const SYMBOLS: usize = 200;
@@ -68,13 +68,13 @@ pub fn is_name(word: &[u8]) -> bool
     run(word) == word.len()
 }
 
-// The slot of a word in the table of names, which is that of a symbol's number less one; none where it is no symbol's name.
-pub fn slot_of(names: &[u8], word: &[u8]) -> usize
+// The slot of a word in the table of names, which is that of a symbol's number less one, if it is a symbol's name.
+pub fn slot_of(names: &[u8], word: &[u8]) -> Option<usize>
     requires { table_length ≤ length names.now }
     ensures { result ≡ name_slot names.now word.now }
 {
     if !is_name(word) {
-        return NONE;
+        return None;
     }
     find(names, WIDTH, SYMBOLS, word)
 }

@@ -4,7 +4,7 @@ ghost use Rattle.std.specs.Prelude.{◌≡◌, ◌≤◌, length};
 ghost use Rattle.names.specs.Names.{table_length};
 ghost use Rattle.names.specs.Replacing.{numeral, renamed, replaced};
 
-use crate::naming::{SYMBOLS, run, slot_of};
+use crate::naming::{run, slot_of};
 
 // Fills a part of a text with the last digits of a number, zeros before them.
 fn fill_numeral(part: &mut [u8], number: usize)
@@ -22,8 +22,7 @@ fn rename(part: &mut [u8], names: &[u8])
     requires { table_length ≤ length names.now }
     ensures { part.new ≡ renamed names.now part.old }
 {
-    let slot = slot_of(names, part);
-    if slot < SYMBOLS {
+    if let Some(slot) = slot_of(names, part) {
         fill_numeral(part, slot + 1);
     }
 }

@@ -1,11 +1,7 @@
 // A table of words in slots of equal width: the bytes of a word and, where it is shorter, a zero after it.
 
 ghost use Rattle.std.specs.Prelude.{◌≡◌, ◌*◌, ◌≤◌, length};
-ghost use Rattle.meaning.specs.Tests.{none};
 ghost use Rattle.names.specs.Slots.{fits as Slots·fits, padded, slot_of};
-
-// The answer where no slot has the word.
-pub const NONE: usize = 65535;
 
 // Whether a slot has a word.
 fn fits(slot: &[u8], word: &[u8]) -> bool
@@ -14,18 +10,18 @@ fn fits(slot: &[u8], word: &[u8]) -> bool
     slot.starts_with(word) && (slot.len() == word.len() || slot[word.len()] == 0)
 }
 
-// The number of the first slot that has a word, from 0, among `count` of them.
-pub fn find(slots: &[u8], width: usize, count: usize, word: &[u8]) -> usize
-    requires { (width * count ≤ length slots.now) × (count ≤ none) }
+// The number of the first slot that has a word, from 0, among `count` of them, if any has it.
+pub fn find(slots: &[u8], width: usize, count: usize, word: &[u8]) -> Option<usize>
+    requires { width * count ≤ length slots.now }
     ensures { result ≡ slot_of width count slots.now word.now }
 {
     for k in 0..count {
         let at = width * k;
         if fits(&slots[at..at + width], word) {
-            return k;
+            return Some(k);
         }
     }
-    NONE
+    None
 }
 
 // Puts a word into a slot, with zeros after it.

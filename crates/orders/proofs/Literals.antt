@@ -1,8 +1,9 @@
 -- The literal of a symbol's number: it fits 16 bits, and so does its opposite. A word's first byte tells which of them it is.
 use Rattle.meaning.proofs.Kit.{◌≡◌, ◌∙◌, sym, ap, refl, subst, ⊎_elim, List, [], ◌∷◌, ◌≤◌, ℕ, ◌<◌, ◌-◌, suc, zero, arith, eqb, pos, ◌-ℤ◌, length}
-use Rattle.meaning.proofs.Kit.{get_or, drop, w16, SFits, to_z, of_z, to_z-of_z, to_z_pos, ne_eqb, eq-eqb, ltb-true, lt-ltb}
+use Rattle.meaning.proofs.Kit.{get_or, drop, w16, SFits, to_z, of_z, to_z-of_z, to_z_pos, ne_eqb, eq-eqb, lt-ltb}
 use Rattle.meaning.proofs.Tests.{true_or_false}
-use Rattle.names.specs.Names.{is_known, is_name, most_named, name_slot}
+use Rattle.names.specs.Names.{is_known, is_name}
+use Rattle.names.proofs.Finding.{symbol_few}
 use Rattle.orders.specs.Reading.{Narrow, affirmed, denied, is_number, literal_in, most, named_in, opposite, symbol_in, value_of}
 use Rattle.std.specs.Prelude.{ℤ, Result, Ok, Err}
 use Rattle.orders.specs.declared.Slip.{Slip}
@@ -50,7 +51,7 @@ value_narrow word = omega arith
 
 named_narrow : (names word : List ℕ) → Narrow (named_in names word)
 named_narrow names word =
-    ⊎_elim (λ e. rw e (omega (arith, ltb-true (name_slot names word) most_named e))) (λ e. rw e tt) (true_or_false (is_known names word))
+    ⊎_elim (λ e. rw e (omega (arith, symbol_few names word e))) (λ e. rw e tt) (true_or_false (is_known names word))
 
 pub symbol_narrow : (names word : List ℕ) → Narrow (symbol_in names word)
 unfolding symbol_in

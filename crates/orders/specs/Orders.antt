@@ -1,6 +1,6 @@
 -- The desk's request: "Lines for every call: open, name, rule .., hold, drop, ask, why .., ground, marks .., blame, least .., sets .., push, pop,
 -- valve and pairs .., furnace 1 or 2, rows, cnf .., help. Blank lines and lines that begin with `#` are taken."
-use Rattle.std.specs.Prelude.{ℕ, cond, List, [], ◌∷◌, eqb, length}
+use Rattle.std.specs.Prelude.{ℕ, cond, List, [], ◌∷◌, eqb, length, Option, Some, None}
 use Rattle.names.specs.Slots.{slot_of}
 use Rattle.names.specs.Names.{run}
 use Rattle.orders.specs.declared.order.Order.{Order}
@@ -33,11 +33,12 @@ first_words =
     104 ∷ 101 ∷ 108 ∷ 112 ∷ 0 ∷ 0 ∷ 0 ∷ 0 ∷ {- help -}
     []
 
-unfoldable pub slot_of_order : List ℕ → ℕ
+unfoldable pub slot_of_order : List ℕ → Option ℕ
 slot_of_order word = slot_of 8 21 first_words word
 
-abbrev pub order_at : (slot : ℕ) → Order
-order_at slot =
+abbrev pub order_at : (slot : Option ℕ) → Order
+order_at None = Unknown
+order_at (Some slot) =
     cond (eqb slot 0) Open
     (cond (eqb slot 1) Name
     (cond (eqb slot 2) Rule

@@ -44,7 +44,7 @@ pub enum Reply {
 }
 
 // The same with what goes with it: for a slip the number of the word at fault; for a rule's refusal the place that the call tells; and how many rows
-// were added.
+// were added. The place is the call's own, NO_PLACE where it tells none.
 #[derive(Clone, Copy)]
 pub struct Told {
     pub reply: Reply,

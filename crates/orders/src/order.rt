@@ -33,8 +33,8 @@ pub enum Order {
     Nothing,
 }
 
-// The slot of a word in the table of first words: eight bytes each.
-fn slot_of_order(word: &[u8]) -> usize
+// The slot of a word in the table of first words, eight bytes each, if it is one of them.
+fn slot_of_order(word: &[u8]) -> Option<usize>
     ensures { result ≡ slot_of_order word.now }
 {
     find(
@@ -48,31 +48,31 @@ fn slot_of_order(word: &[u8]) -> usize
 }
 
 // The order of a slot.
-fn order_at(slot: usize) -> Order
+fn order_at(slot: Option<usize>) -> Order
     ensures { result ≡ order_at slot }
 {
     match slot {
-        0 => Order::Open,
-        1 => Order::Name,
-        2 => Order::Rule,
-        3 => Order::Hold,
-        4 => Order::Drop,
-        5 => Order::Push,
-        6 => Order::Pop,
-        7 => Order::Valve,
-        8 => Order::Pairs,
-        9 => Order::Furnace,
-        10 => Order::Ask,
-        11 => Order::Why,
-        12 => Order::Ground,
-        13 => Order::Marks,
-        14 => Order::Blame,
-        15 => Order::Least,
-        16 => Order::Sets,
-        17 => Order::Rows,
-        18 => Order::Cnf,
-        19 => Order::Echo,
-        20 => Order::Help,
+        Some(0) => Order::Open,
+        Some(1) => Order::Name,
+        Some(2) => Order::Rule,
+        Some(3) => Order::Hold,
+        Some(4) => Order::Drop,
+        Some(5) => Order::Push,
+        Some(6) => Order::Pop,
+        Some(7) => Order::Valve,
+        Some(8) => Order::Pairs,
+        Some(9) => Order::Furnace,
+        Some(10) => Order::Ask,
+        Some(11) => Order::Why,
+        Some(12) => Order::Ground,
+        Some(13) => Order::Marks,
+        Some(14) => Order::Blame,
+        Some(15) => Order::Least,
+        Some(16) => Order::Sets,
+        Some(17) => Order::Rows,
+        Some(18) => Order::Cnf,
+        Some(19) => Order::Echo,
+        Some(20) => Order::Help,
         _ => Order::Unknown,
     }
 }

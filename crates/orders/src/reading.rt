@@ -6,7 +6,7 @@ ghost use Rattle.orders.specs.Reading.{is_number, value_of, number_in, symbol_in
 
 use crate::Slip;
 use crate::words::is_between;
-use names::naming::{SYMBOLS, is_name, slot_of};
+use names::naming::{is_name, slot_of};
 
 // Whatever is above this counts as this, which is no symbol of any board.
 const MOST: usize = 32767;
@@ -51,11 +51,10 @@ pub fn symbol_in(names: &[u8], word: &[u8]) -> Result<usize, Slip>
     if !is_name(word) {
         return Err(Slip::SymbolDue);
     }
-    let slot = slot_of(names, word);
-    if slot < SYMBOLS {
-        return Ok(slot + 1);
+    match slot_of(names, word) {
+        Some(slot) => Ok(slot + 1),
+        None => Err(Slip::UnknownName),
     }
-    Err(Slip::UnknownName)
 }
 
 pub fn literal_in(names: &[u8], word: &[u8]) -> Result<i16, Slip>

@@ -178,14 +178,10 @@ fn judge_name(symbols: usize, names: &[u8], symbol: usize, given: &[u8]) -> Told
     if SYMBOLS < symbol {
         return told(Reply::Refused(Refusal::BadLiteral), NO_PLACE);
     }
-    let slot = slot_of(names, given);
-    if SYMBOLS <= slot {
-        return told(Reply::Done, NO_PLACE);
+    match slot_of(names, given) {
+        Some(slot) if slot + 1 != symbol => told(Reply::Not(Slip::NameTaken), 2),
+        _ => told(Reply::Done, NO_PLACE),
     }
-    if slot + 1 == symbol {
-        return told(Reply::Done, NO_PLACE);
-    }
-    told(Reply::Not(Slip::NameTaken), 2)
 }
 
 // Gives a symbol a name.

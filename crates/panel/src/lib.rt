@@ -32,6 +32,8 @@ use crate::steps::{open_step, pop_step, push_step, withdraw_step};
 use literals::WIDTH;
 use stack::Stacks;
 
+// The structs of the header stand as C reads them: numbers of fixed width, a refusal's beside what is told.
+
 // A board as C has it: any byte other than 0 is a premise held. `first` and `second`, the premises of furnaces 1 and 2, are the header's `held`.
 #[repr(C)]
 #[derive(Clone, Copy)]

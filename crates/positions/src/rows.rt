@@ -1,4 +1,5 @@
 // The rows of a pair table: a clause for each position, that it is false or some allowed position of the other variable is true.
+// No heap: what is written goes into what is lent, and the place after it is told.
 
 ghost use Rattle.std.specs.Prelude.{◌≡◌, [], ◌∷◌, ◌++◌, map, true, false, suc, ◌+◌, ◌*◌, ◌<◌, ◌≤◌, length, take};
 ghost use Rattle.meaning.specs.Tests.{any, from};

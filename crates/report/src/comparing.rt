@@ -1,7 +1,5 @@
 // Comparing what a call was given with what it left.
 
-use board::Board;
-
 // What stands in a lent table of bytes, and of 16-bit numbers, before a call.
 pub const BYTE: u8 = 7;
 
@@ -15,12 +13,4 @@ pub fn changed(a: &[i16], b: &[i16]) -> usize {
 // How many places of a lent table were written, where this stood in each before.
 pub fn written<T: PartialEq + Copy>(t: &[T], before: T) -> usize {
     t.iter().filter(|x| **x != before).count()
-}
-
-pub fn same_board(a: Board, b: Board) -> bool {
-    a.symbols == b.symbols
-        && a.rows == b.rows
-        && a.rules == b.rules
-        && a.first == b.first
-        && a.second == b.second
 }

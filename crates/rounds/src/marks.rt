@@ -1,4 +1,5 @@
 // Writing the rank of what a row gives.
+// No heap: the queue lies in what is lent, and its end is told.
 
 ghost use Rattle.std.specs.Prelude.{◌≡◌, ◌+◌, ◌<◌, eqb, length};
 ghost use Rattle.meaning.specs.Tests.{member, none};
@@ -12,7 +13,7 @@ ghost use Rattle.rounds.specs.Ranks.{open_in, mark};
 use findings::NONE;
 use literals::{MOST_LITERALS, WIDTH};
 
-// Which literals of a row have an opposite without a rank below some k.
+// Which literals of a row have an opposite without a rank below some k. No Option: of the three answers two tell no literal, each for its own reason.
 #[derive(Clone, Copy)]
 pub enum Open {
     Nothing,

@@ -158,7 +158,7 @@ pub fn propagate(
 
 // The ranks of the literals, and the premises that the literal at p reaches; where p is no place, those that either literal of the
 // symbol that blame takes reaches, or none where there is no such symbol. `board` has tested the rows, and lends a mark for each place, none of them
-// set.
+// set. No Option: any number that is no place asks for that symbol, so a caller owes no bound on p.
 pub fn trace(
     table: &[i16],
     rows: usize,

@@ -1,4 +1,5 @@
 // Visiting the rows that contain a literal that was ruled out.
+// No heap: the queue lies in what is lent, and its end is told.
 
 ghost use Rattle.std.specs.Prelude.{◌≡◌, cond, map, ◌⊎◌, ℕ, ◌+◌, ◌<◌, ◌≤◌, ltb, length, get_or, set};
 ghost use Rattle.meaning.specs.Tests.{none};

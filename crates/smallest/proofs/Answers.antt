@@ -4,14 +4,14 @@ use Rattle.meaning.proofs.Kit.{lt-leb}
 use Rattle.meaning.specs.Tests.{all, keep, from}
 use Rattle.literals.specs.Literal.{in_range, place_of}
 use Rattle.literals.specs.declared.refusal.Refusal.{Refusal}
-use Rattle.literals.specs.declared.refusal.Refusal.TheVariants.{BadBoard, BadLiteral, BadCandidates, TableTooShort}
+use Rattle.literals.specs.declared.refusal.Refusal.TheVariants.{BadBoard, BadLiteral, TableTooShort}
 use Rattle.board.specs.Faults.{first_fault, good_board}
 use Rattle.board.specs.Settling.{over}
 use Rattle.board.specs.Ranking.{rows_on}
 use Rattle.board.specs.declared.Board.{Board}
 use Rattle.board.specs.Faults.{Outcome}
 use Rattle.std.specs.Prelude.{Ok, Err}
-use Rattle.candidates.specs.Given.{most_candidates, too_many, places_of, repeats}
+use Rattle.candidates.specs.Given.{too_many}
 use Rattle.smallest.specs.Listing.{smallest_at, smallest_on, room_faults, candidate_faults, listed, smallest_faults, smallest_outcome, smallest_answer}
 use Rattle.smallest.specs.Listing.{smallest_sets}
 use Rattle.smallest.specs.declared.search.Note.{Note}
@@ -62,23 +62,6 @@ module _ (table : List ℤ) (b : Board) (places : List ℕ) (l : ℤ) {notes : L
   unfolding smallest_at
   the_list =
       ap (λ (ns : List Note). listed_below ns (length places) (suc (length places))) e ∙ listed_are (2 * b.symbols) (rows_on table b) places (place_of l)
-
--- ---- 17, or the candidates' places
-
-module _ (table : List ℤ) (b : Board) (cands : List ℤ) (l : ℤ) (room : ℕ) where
-  pub repeated_fault : repeats (places_of cands) ≡ true → first_fault (candidate_faults false table b cands l room) ≡ Err BadCandidates
-  repeated_fault e = rw e
-
-  pub different : repeats (places_of cands) ≡ false
-      → first_fault (candidate_faults false table b cands l room) ≡ first_fault (room_faults (smallest_on table b cands l) room)
-  different e = rw e
-
-  pub many_fault : most_candidates < length cands → first_fault (candidate_faults (too_many cands) table b cands l room) ≡ Err BadCandidates
-  many_fault h = rw (lt-leb (length cands) most_candidates h)
-
-  pub not_many : length cands ≤ most_candidates
-      → first_fault (candidate_faults (too_many cands) table b cands l room) ≡ first_fault (candidate_faults false table b cands l room)
-  not_many h = rw (le-leb (length cands) most_candidates h)
 
 -- ---- 1, 2, or those
 

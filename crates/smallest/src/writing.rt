@@ -1,4 +1,5 @@
 // The sets listed, counted and written: by size, then by number.
+// No heap: what is written goes into what is lent, and the place after it is told.
 
 ghost use Rattle.std.specs.Prelude.{◌≡◌, ◌&&◌, suc, ◌+◌, ◌^◌, ◌<◌, ◌≤◌, eqb, length};
 ghost use Rattle.std.proofs.lemmas.List.Edits.{sets};

@@ -1,4 +1,5 @@
 // Pieces of what is shown of a line, put into a lent page from a place on: bytes in hex, and blanks. Each function answers the place after what it put.
+// No heap: what is written goes into what is lent, and the place after it is told.
 
 ghost use Rattle.std.specs.Prelude.{◌≡◌, ◌+◌, ◌*◌, ◌<◌, ◌≤◌, length, replicate};
 ghost use Rattle.spelling.specs.Text.{Put};

@@ -23,3 +23,9 @@ one_put_named κs a x y = let one = put_one_way x.allowed.0 y.allowed.0 in (one.
 
 one_put_literals : One contract'.put_literals.ended spelling.put_literals.Reads.Post
 one_put_literals κs a x y = let one = put_one_way x.allowed.0 y.allowed.0 in (one.0, one.1 & refl)
+
+one_put_marked : One contract'.put_marked.ended spelling.put_marked.Reads.Post
+one_put_marked κs a x y = let one = put_one_way x.allowed.0 y.allowed.0 in (one.0, one.1 & refl)
+
+one_put_shown : One contract'.put_shown.ended spelling.put_shown.Reads.Post
+one_put_shown κs a x y = let one = put_one_way x.allowed.0 y.allowed.0 in (one.0, one.1 & refl)

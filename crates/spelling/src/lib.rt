@@ -1,4 +1,5 @@
 // Numbers, literals and words written into a lent buffer from a place on. Each function answers the place after what it wrote.
+// No heap: what is written goes into what is lent, and the place after it is told.
 #![tactic(auto)]
 
 ghost use Rattle.std.specs.Prelude.{◌≡◌, ◌+◌, ◌*◌, ◌<◌, ◌≤◌, ◌++◌, length, map};

@@ -1,4 +1,5 @@
 // Try a reading and take it back: a stack of premises for each furnace, both in one record that a step is lent and changes.
+// No heap, and a record of fixed size: the count stands beside the places.
 #![tactic(auto)]
 
 mod record;
@@ -10,7 +11,7 @@ use board::Change;
 // The literals that a furnace holds on trial, in the order in which they were pushed: the first `count` of the places, the top last. Each field may
 // hold anything: the calls test it.
 #[repr(C)]
-#[derive(Clone, Copy)]
+#[derive(Clone, Copy, PartialEq)]
 pub struct Stack {
     pub count: u16,
     pub literals: [i16; 400],
@@ -18,7 +19,7 @@ pub struct Stack {
 
 // The stack of furnace 1, then that of furnace 2.
 #[repr(C)]
-#[derive(Clone, Copy)]
+#[derive(Clone, Copy, PartialEq)]
 pub struct Stacks {
     pub first: Stack,
     pub second: Stack,

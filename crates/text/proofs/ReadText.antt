@@ -1,7 +1,8 @@
 -- What reading a text to bytes answers, and the bytes lent after it, where it is refused and where it is done.
-use Rattle.meaning.proofs.Kit.{◌≡◌, ◌∙◌, sym, ap, List, ◌++◌, ◌≤◌, ℕ, ◌+◌, arith, ℤ, length, drop, sets-eq, ne_eqb}
-use Rattle.chains.proofs.Words.{number_of, Refusal, bad, Put, whole_text}
+use Rattle.meaning.proofs.Kit.{◌≡◌, ◌∙◌, sym, ap, true, List, ◌++◌, ◌≤◌, ℕ, ◌+◌, arith, ℤ, length, drop, sets-eq, ne_eqb}
+use Rattle.chains.proofs.Words.{number_of, Refusal, Parsed, bad, is_good, read_of, Put, whole_text}
 use Rattle.formula.proofs.Faults.{whole_faults}
+use Rattle.formula.proofs.Parsing.{answer_good}
 use Rattle.board.specs.Rules.{no_place}
 use Rattle.board.specs.declared.Board.{Board}
 use Rattle.std.specs.Prelude.{Ok, Err}
@@ -9,6 +10,10 @@ use Rattle.board.proofs.Adding.{place_told_lem}
 use Rattle.chains.proofs.Offences.{first_offence}
 use Rattle.text.specs.Reading.{bytes_in, read_in, text_place, read_text_outcome, read_text_answer, read_text_bytes}
 use Rattle.text.specs.declared.Spelling.{Spelling}
+
+-- what was read is good
+pub read_good : (p : Parsed) {count : ℕ} → Ok count ≡ read_of p → is_good p ≡ true
+read_good p e = ap is_good (answer_good p (sym e)).1
 
 -- the place in the text, and the place in its bytes
 pub text_place_lem : (S : ℕ) (text : List ℕ) {why : Refusal} {at : ℕ} → whole_text text ≡ bad why at → text_place (Err why) S text ≡ at

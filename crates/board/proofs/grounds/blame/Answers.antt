@@ -1,5 +1,5 @@
 -- Its tests are the faults of `blame_faults`, in their order, and it marks what the symbol's two literals reach.
-use Rattle.meaning.proofs.Kit.{◌≡◌, ◌∙◌, sym, ap, refl, not, ◌<◌, ◌*◌, arith}
+use Rattle.meaning.proofs.Kit.{◌≡◌, ◌∙◌, sym, ap, refl, not, ◌*◌, arith}
 use Rattle.meaning.proofs.Kit.{not-false, not-true, le-leb, lt-leb, eqb-true, eqb-false, rules}
 use Rattle.meaning.specs.Tests.{none, first}
 use Rattle.meaning.specs.Rounds.{ranks_of}
@@ -12,7 +12,7 @@ use Rattle.board.specs.Ranking.{rows_on}
 use Rattle.board.specs.Grounds.{blame_faults, blame_outcome}
 use Rattle.board.proofs.TwoSets.{held_long}
 use Rattle.board.proofs.Goodness.{good_is}
-use Rattle.board.proofs.Lending.{ranks_room, ranks_long}
+use Rattle.board.proofs.Lending.{places_few, ranks_room, ranks_long}
 use Rattle.board.proofs.Traced.{marks_room, marks_long, can_trace, come_back}
 use Rattle.board.proofs.Grounded.{blame_refused, blame_done}
 use Rattle.board.proofs.grounds.blame.Goals as goal
@@ -54,7 +54,6 @@ pub slice_bounds-trace-end-2 : goal.slice_bounds-trace-end-2
 slice_bounds-trace-end-2 c = sym (marks_long _ _ (good_is _ _ (sym c.good.ensures ∙ c.if-not-good.false)))
 
 pub trace-requires : goal.trace-requires
-unfolding held_by
 trace-requires c =
     let long = held_long c.args.board c.args.furnace 400 (sym c.is_furnace.ensures ∙ c.if-not-is_furnace.false) (search rules) (search rules)
     c.premises-held.ensures in
@@ -63,7 +62,6 @@ trace-requires c =
 
 -- and as they come back
 pub slice_bounds-ranks-end-2 : goal.slice_bounds-ranks-end-2
-unfolding held_by
 slice_bounds-ranks-end-2 c =
     let g = good_is _ _ (sym c.good.ensures ∙ c.if-not-good.false) in
     let back = come_back c.args.table.now c.args.board g c.args.furnace none c.premises-held.ensures c.trace.ensures.ranks_after
@@ -71,7 +69,6 @@ slice_bounds-ranks-end-2 c =
     back.ranks.room
 
 pub slice_bounds-first_clash-end : goal.slice_bounds-first_clash-end
-unfolding held_by
 slice_bounds-first_clash-end c =
     let g = good_is _ _ (sym c.good.ensures ∙ c.if-not-good.false) in
     let back = come_back c.args.table.now c.args.board g c.args.furnace none c.premises-held.ensures c.trace.ensures.ranks_after
@@ -79,7 +76,6 @@ slice_bounds-first_clash-end c =
     sym back.ranks.long
 
 pub slice_bounds-reached-end-2 : goal.slice_bounds-reached-end-2
-unfolding held_by
 slice_bounds-reached-end-2 c =
     let g = good_is _ _ (sym c.good.ensures ∙ c.if-not-good.false) in
     let back = come_back c.args.table.now c.args.board g c.args.furnace none c.premises-held.ensures c.trace.ensures.ranks_after
@@ -87,7 +83,6 @@ slice_bounds-reached-end-2 c =
     back.marks.room
 
 pub slice_bounds-write_marks-end : goal.slice_bounds-write_marks-end
-unfolding held_by
 slice_bounds-write_marks-end c =
     let g = good_is _ _ (sym c.good.ensures ∙ c.if-not-good.false) in
     let back = come_back c.args.table.now c.args.board g c.args.furnace none c.premises-held.ensures c.trace.ensures.ranks_after
@@ -95,7 +90,7 @@ slice_bounds-write_marks-end c =
     sym back.marks.long
 
 pub returns-then-is_none : goal.returns-then-is_none
-unfolding blame_outcome blame_faults held_by
+unfolding blame_outcome blame_faults
 returns-then-is_none c =
     let g = good_is _ _ (sym c.good.ensures ∙ c.if-not-good.false) in
     let back = come_back c.args.table.now c.args.board g c.args.furnace none c.premises-held.ensures c.trace.ensures.ranks_after
@@ -103,7 +98,7 @@ returns-then-is_none c =
     let b = c.args.board in
     let rows = rows_on c.args.table.now b in
     let held = held_by b c.args.furnace in
-    let small : 2 * b.symbols < none = omega (arith, g.sound.symbols) in
+    let small = places_few _ _ g in
     let clash = c.first_clash.ensures ∙ ap found (clash_final b.symbols rows held small back.ranks.is refl) in
     let n = first (clash_in (ranks_of (2 * b.symbols) rows held)) b.symbols in
     let nothing : n ≡ none = eqb-true n none (not-false _ (sym (found_is_some n clash) ∙ c.is_none.ensures ∙ ap not c.if-is_none.true)) in
@@ -117,7 +112,7 @@ returns-then-is_none c =
     record { value = r.0; marks_after = r.1 }
 
 pub returns : goal.returns
-unfolding blame_outcome blame_faults held_by
+unfolding blame_outcome blame_faults
 returns c =
     let g = good_is _ _ (sym c.good.ensures ∙ c.if-not-good.false) in
     let back = come_back c.args.table.now c.args.board g c.args.furnace none c.premises-held.ensures c.trace.ensures.ranks_after
@@ -125,7 +120,7 @@ returns c =
     let b = c.args.board in
     let rows = rows_on c.args.table.now b in
     let held = held_by b c.args.furnace in
-    let small : 2 * b.symbols < none = omega (arith, g.sound.symbols) in
+    let small = places_few _ _ g in
     let clash = c.first_clash.ensures ∙ ap found (clash_final b.symbols rows held small back.ranks.is refl) in
     let n = first (clash_in (ranks_of (2 * b.symbols) rows held)) b.symbols in
     let some : n ≡ none → ⊥ = eqb-false n none (not-true _ (sym (found_is_some n clash) ∙ c.is_none.ensures ∙ ap not c.if-is_none.false)) in

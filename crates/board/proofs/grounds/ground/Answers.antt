@@ -1,37 +1,15 @@
 -- `grounds::ground` meets its contract: its tests are the faults of `ground_faults`, in their order, and it marks what the literal reaches.
-use Rattle.meaning.proofs.Kit.{◌≡◌, ◌∙◌, sym, false, ◌++◌, ◌<◌, ◌*◌, ℕ, ℤ, Bool, List, arith, length, get_or, drop, take, replicate, rules, le-leb, lt-leb}
+use Rattle.meaning.proofs.Kit.{◌∙◌, sym, arith, length, drop, rules, le-leb, lt-leb}
 use Rattle.std.proofs.lemmas.Result.{err_from_is_err_and}
-use Rattle.meaning.specs.Tests.{none}
-use Rattle.meaning.specs.Rounds.{ranks_of, rank_of}
 use Rattle.literals.specs.declared.refusal.Refusal.TheVariants.{TableTooShort, NothingToShow}
-use Rattle.findings.specs.Reach.{reached_asked}
-use Rattle.board.specs.Furnaces.{set_of, held_by}
-use Rattle.board.specs.Ranking.{rows_on}
 use Rattle.board.specs.Grounds.{ground_faults, ground_outcome}
-use Rattle.board.specs.declared.Board.{Board}
 use Rattle.board.proofs.TwoSets.{held_long}
-use Rattle.board.proofs.Placing.{PlacedAt, placed_at, placed_refused}
+use Rattle.board.proofs.Placing.{placed_at, placed_refused}
 use Rattle.board.proofs.Ranked.{not_derived, is_derived}
-use Rattle.board.proofs.Lending.{rank_at, ranks_room, ranks_long}
-use Rattle.board.proofs.Traced.{Traced, marks_room, marks_long, can_trace, come_back}
+use Rattle.board.proofs.Lending.{rank_at, places_few, ranks_room, ranks_long}
+use Rattle.board.proofs.Traced.{marks_room, marks_long, can_trace, come_back}
 use Rattle.board.proofs.Grounded.{ground_refused, ground_done}
 use Rattle.board.proofs.grounds.ground.Goals as goal
-
--- where the literal is placed: the premises are the furnace's, and the ranks and the marks are known as they come back
-module _ (table : List ℤ) (b : Board) (furnace : ℕ) {l : ℤ} {p : ℕ} (at : PlacedAt table b furnace l p) {held : List Bool}
-    (same : held ≡ set_of furnace b.first b.second) where
-  module _ {ranks : List ℕ} {marks : List Bool} (ranked : ranks ≡ ranks_of (length (take (2 * b.symbols) (replicate 400 none))) (rows_on table b) held)
-      (marked : marks ≡ reached_asked (length (take (2 * b.symbols) (replicate 400 none))) (rows_on table b) held p)
-      (kept : length marks ≡ length (take (2 * b.symbols) (replicate 400 false))) where
-    traced : Traced table b furnace p (ranks ++ drop (2 * b.symbols) (replicate 400 none)) (marks ++ drop (2 * b.symbols) (replicate 400 false))
-    unfolding held_by
-    traced = come_back table b at.good furnace p same ranked marked kept
-
-    rank : get_or (ranks ++ drop (2 * b.symbols) (replicate 400 none)) p 0 ≡ rank_of (2 * b.symbols) (rows_on table b) (held_by b furnace) p
-    rank = rank_at _ _ _ traced.ranks p at.low
-
-small : (table : List ℤ) (b : Board) (furnace : ℕ) {l : ℤ} {p : ℕ} → PlacedAt table b furnace l p → 2 * b.symbols < none
-small table b furnace at = omega (arith, at.good.sound.symbols)
 
 pub returns-in_err-p : goal.returns-in_err-p
 unfolding ground_outcome ground_faults
@@ -43,74 +21,100 @@ returns-in_err-p c =
     record { value = rw (p.1, p.2) all.0; marks_after = all.1 }
 
 pub overflow_mul-places : goal.overflow_mul-places
-overflow_mul-places c = let at = placed_at c.args.table.now c.args.board c.args.furnace c.ranges.l c.place_on.ensures c.in_ok-p.was in omega (arith, at.good.sound.symbols)
+overflow_mul-places c =
+    let at = placed_at _ _ _ c.ranges.l c.place_on.ensures c.in_ok-p.was in
+    omega (arith, at.good.sound.symbols)
 
 pub returns-then-marks-places : goal.returns-then-marks-places
 unfolding ground_outcome ground_faults
 returns-then-marks-places c =
     let a = c.args in
-    let at = placed_at c.args.table.now c.args.board c.args.furnace c.ranges.l c.place_on.ensures c.in_ok-p.was in
+    let at = placed_at _ _ _ c.ranges.l c.place_on.ensures c.in_ok-p.was in
     let all =
     ground_refused a.table.now a.board a.furnace a.marks.now a.l TableTooShort
     (rw (at.is_good_lem, at.is_furnace, at.in_range_lem, lt-leb _ _ c.if-marks-places.true)) in
     record { value = all.0; marks_after = all.1 }
 
 pub slice_bounds-ranks-end : goal.slice_bounds-ranks-end
-slice_bounds-ranks-end c = let at = placed_at c.args.table.now c.args.board c.args.furnace c.ranges.l c.place_on.ensures c.in_ok-p.was in ranks_room _ _ at.good
+slice_bounds-ranks-end c =
+    let at = placed_at _ _ _ c.ranges.l c.place_on.ensures c.in_ok-p.was in
+    ranks_room _ _ at.good
 
 pub slice_bounds-trace-end : goal.slice_bounds-trace-end
-slice_bounds-trace-end c = let at = placed_at c.args.table.now c.args.board c.args.furnace c.ranges.l c.place_on.ensures c.in_ok-p.was in sym (ranks_long _ _ at.good)
+slice_bounds-trace-end c =
+    let at = placed_at _ _ _ c.ranges.l c.place_on.ensures c.in_ok-p.was in
+    sym (ranks_long _ _ at.good)
 
 pub slice_bounds-reached-end : goal.slice_bounds-reached-end
-slice_bounds-reached-end c = let at = placed_at c.args.table.now c.args.board c.args.furnace c.ranges.l c.place_on.ensures c.in_ok-p.was in marks_room _ _ at.good
+slice_bounds-reached-end c =
+    let at = placed_at _ _ _ c.ranges.l c.place_on.ensures c.in_ok-p.was in
+    marks_room _ _ at.good
 
 pub trace-requires : goal.trace-requires
-unfolding held_by
 trace-requires c =
-    let at = placed_at c.args.table.now c.args.board c.args.furnace c.ranges.l c.place_on.ensures c.in_ok-p.was in
+    let at = placed_at _ _ _ c.ranges.l c.place_on.ensures c.in_ok-p.was in
     let all =
     can_trace _ _ at.good c.premises-held.result.now
     (held_long c.args.board c.args.furnace 400 at.is_furnace (search rules) (search rules) c.premises-held.ensures) in
     record { fit = all.0; ranks_in_bounds = all.1.0; marks_value = all.1.1 }
 
 pub slice_bounds-trace-end-2 : goal.slice_bounds-trace-end-2
-slice_bounds-trace-end-2 c = let at = placed_at c.args.table.now c.args.board c.args.furnace c.ranges.l c.place_on.ensures c.in_ok-p.was in sym (marks_long _ _ at.good)
+slice_bounds-trace-end-2 c =
+    let at = placed_at _ _ _ c.ranges.l c.place_on.ensures c.in_ok-p.was in
+    sym (marks_long _ _ at.good)
 
 pub offset_bounds-ranks-p : goal.offset_bounds-ranks-p
-offset_bounds-ranks-p c = let at = placed_at c.args.table.now c.args.board c.args.furnace c.ranges.l c.place_on.ensures c.in_ok-p.was in omega (arith, at.low, at.good.sound.symbols)
+offset_bounds-ranks-p c =
+    let at = placed_at _ _ _ c.ranges.l c.place_on.ensures c.in_ok-p.was in
+    omega (arith, at.low, at.good.sound.symbols)
 
 pub bounds-ranks-p : goal.bounds-ranks-p
-bounds-ranks-p c = let at = placed_at c.args.table.now c.args.board c.args.furnace c.ranges.l c.place_on.ensures c.in_ok-p.was in omega (arith, at.low, at.good.sound.symbols)
+bounds-ranks-p c =
+    let at = placed_at _ _ _ c.ranges.l c.place_on.ensures c.in_ok-p.was in
+    omega (arith, at.low, at.good.sound.symbols)
 
 pub returns-then-ranks-p : goal.returns-then-ranks-p
 unfolding ground_outcome ground_faults
 returns-then-ranks-p c =
     let a = c.args in
-    let at = placed_at c.args.table.now c.args.board c.args.furnace c.ranges.l c.place_on.ensures c.in_ok-p.was in
-    let hides = not_derived _ _ _ (small _ _ _ at) c.in_ok-p.p (sym (rank _ _ _ at c.premises-held.ensures c.trace.ensures.ranks_after c.trace.ensures.marks_after c.trace.auto.marks) ∙ c.if-ranks-p.true) in
+    let at = placed_at _ _ _ c.ranges.l c.place_on.ensures c.in_ok-p.was in
+    let back = come_back _ _ at.good c.args.furnace c.in_ok-p.p c.premises-held.ensures c.trace.ensures.ranks_after
+    c.trace.ensures.marks_after c.trace.auto.marks in
+    let hides = not_derived _ _ _ (places_few _ _ at.good) c.in_ok-p.p (sym (rank_at _ _ _ back.ranks c.in_ok-p.p at.low) ∙ c.if-ranks-p.true) in
     let all =
     ground_refused a.table.now a.board a.furnace a.marks.now a.l NothingToShow
     (rw (at.is_good_lem, at.is_furnace, at.in_range_lem, le-leb _ _ c.if-marks-places.false, ← at.place, hides)) in
     record { value = all.0; marks_after = all.1 }
 
 pub slice_bounds-reached-end-2 : goal.slice_bounds-reached-end-2
-slice_bounds-reached-end-2 c = let at = placed_at c.args.table.now c.args.board c.args.furnace c.ranges.l c.place_on.ensures c.in_ok-p.was in (traced _ _ _ at c.premises-held.ensures c.trace.ensures.ranks_after c.trace.ensures.marks_after c.trace.auto.marks).marks.room
+slice_bounds-reached-end-2 c =
+    let at = placed_at _ _ _ c.ranges.l c.place_on.ensures c.in_ok-p.was in
+    let back = come_back _ _ at.good c.args.furnace c.in_ok-p.p c.premises-held.ensures c.trace.ensures.ranks_after
+    c.trace.ensures.marks_after c.trace.auto.marks in
+    back.marks.room
 
 pub slice_bounds-write_marks-end : goal.slice_bounds-write_marks-end
-slice_bounds-write_marks-end c = let at = placed_at c.args.table.now c.args.board c.args.furnace c.ranges.l c.place_on.ensures c.in_ok-p.was in sym (traced _ _ _ at c.premises-held.ensures c.trace.ensures.ranks_after c.trace.ensures.marks_after c.trace.auto.marks).marks.long
+slice_bounds-write_marks-end c =
+    let at = placed_at _ _ _ c.ranges.l c.place_on.ensures c.in_ok-p.was in
+    let back = come_back _ _ at.good c.args.furnace c.in_ok-p.p c.premises-held.ensures c.trace.ensures.ranks_after
+    c.trace.ensures.marks_after c.trace.auto.marks in
+    sym back.marks.long
 
 pub write_marks-requires : goal.write_marks-requires
 write_marks-requires c =
-    let at = placed_at c.args.table.now c.args.board c.args.furnace c.ranges.l c.place_on.ensures c.in_ok-p.was in
-    omega (arith, (traced _ _ _ at c.premises-held.ensures c.trace.ensures.ranks_after c.trace.ensures.marks_after c.trace.auto.marks).marks.long, c.if-marks-places.false)
+    let at = placed_at _ _ _ c.ranges.l c.place_on.ensures c.in_ok-p.was in
+    let back = come_back _ _ at.good c.args.furnace c.in_ok-p.p c.premises-held.ensures c.trace.ensures.ranks_after
+    c.trace.ensures.marks_after c.trace.auto.marks in
+    omega (arith, back.marks.long, c.if-marks-places.false)
 
 pub returns : goal.returns
 unfolding ground_outcome ground_faults
 returns c =
     let a = c.args in
-    let at = placed_at c.args.table.now c.args.board c.args.furnace c.ranges.l c.place_on.ensures c.in_ok-p.was in
-    let back = traced _ _ _ at c.premises-held.ensures c.trace.ensures.ranks_after c.trace.ensures.marks_after c.trace.auto.marks in
-    let shows = is_derived _ _ _ (small _ _ _ at) c.in_ok-p.p (λ e. c.if-ranks-p.false (rank _ _ _ at c.premises-held.ensures c.trace.ensures.ranks_after c.trace.ensures.marks_after c.trace.auto.marks ∙ e)) in
+    let at = placed_at _ _ _ c.ranges.l c.place_on.ensures c.in_ok-p.was in
+    let back = come_back _ _ at.good c.args.furnace c.in_ok-p.p c.premises-held.ensures c.trace.ensures.ranks_after
+    c.trace.ensures.marks_after c.trace.auto.marks in
+    let shows = is_derived _ _ _ (places_few _ _ at.good) c.in_ok-p.p (λ e. c.if-ranks-p.false (rank_at _ _ _ back.ranks c.in_ok-p.p at.low ∙ e)) in
     let all =
     ground_done a.table.now a.board a.furnace a.marks.now a.l c.in_ok-p.p at.place at.low
     (rw (at.is_good_lem, at.is_furnace, at.in_range_lem, le-leb _ _ c.if-marks-places.false, ← at.place, shows)) back.marks.is

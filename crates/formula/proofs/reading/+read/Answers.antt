@@ -1,8 +1,7 @@
 -- `reading::read` meets its contract.
-use Rattle.meaning.proofs.Kit.{◌≡◌, ◌∙◌, sym, ap, List, ℕ, ◌+◌, ◌≤◌, arith, length, get_or}
+use Rattle.meaning.proofs.Kit.{◌≡◌, ◌∙◌, sym, ap, List, ℕ, ◌≤◌, arith, length, get_or}
 use Rattle.formula.proofs.Words.{read_of, extent, Kind, kind_of}
 use Rattle.formula.proofs.Parsing.{At, parse_deep, parse_short, by_symbol, by_unknown, reads_not, reads_first, reads_second}
-use Rattle.formula.proofs.Parts.{onward_length}
 use Rattle.std.proofs.lemmas.Result.{err_from_is_err_and}
 use Rattle.formula.proofs.Extents.{first_extent, past_extent, rest_extent}
 use Rattle.formula.proofs.reading.+read.Goals as goal

@@ -1,5 +1,5 @@
 -- `reading::read_whole` meets its contract.
-use Rattle.meaning.proofs.Kit.{◌≡◌, ◌∙◌, ◌≤◌, ap, arith, length}
+use Rattle.meaning.proofs.Kit.{◌∙◌, ap, arith}
 use Rattle.std.proofs.lemmas.Result.{err_from_is_err_and}
 use Rattle.formula.proofs.Words.{extent, levels}
 use Rattle.formula.proofs.Extents.{parse_extent}

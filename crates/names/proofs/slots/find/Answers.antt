@@ -9,9 +9,9 @@ returns-then-fits c =
     let a = c.args in
     let k = c.loop-k.k in
     let told = c.fits.ensures ∙ ap (λ s. fits s a.word.now) (slot_part a.width k (a.width * k) a.slots.now refl) in
-    found_here a.width a.count a.slots.now a.word.now c.requires.1 k c.loop-k-test.true (sym told ∙ c.if-fits.true) c.loop-k.invariant
+    found_here a.width a.count a.slots.now a.word.now k c.loop-k-test.true (sym told ∙ c.if-fits.true) c.loop-k.invariant
 
 pub returns : goal.returns
 returns c =
     let a = c.args in
-    found_nowhere a.width a.count a.slots.now a.word.now c.requires.1 (λ i h. c.loop-k.invariant i (omega arith))
+    found_nowhere a.width a.count a.slots.now a.word.now (λ i h. c.loop-k.invariant i (omega arith))

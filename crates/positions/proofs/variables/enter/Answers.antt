@@ -16,7 +16,7 @@ use Rattle.board.specs.Rules.{no_place, with_rules}
 use Rattle.board.specs.declared.Board.{Board}
 use Rattle.board.proofs.Goodness.{Good, good_is}
 use Rattle.board.proofs.Adding.{because}
-use Rattle.positions.specs.Entering.{rows_of_entry, variable_of, entered, entered_table}
+use Rattle.positions.specs.Entering.{rows_of_entry, entered, entered_table}
 use Rattle.positions.proofs.VariableRule.{rule_answer, rule_table, one_rule_fits}
 use Rattle.positions.proofs.Answers.{told_full, told_done}
 use Rattle.positions.proofs.variables.enter.Goals as goal
