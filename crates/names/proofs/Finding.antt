@@ -1,5 +1,5 @@
 -- The first slot that has a word, and the slot of a name that is known.
-use Rattle.meaning.proofs.Kit.{◌≡◌, ◌∙◌, refl, ap, ap₂, true, false, false≢true, Bool, cond, List, ◌≤◌, ℕ, ◌<◌, ◌-◌, ◌+◌, ◌*◌, arith, get_or}
+use Rattle.meaning.proofs.Kit.{◌≡◌, ◌∙◌, refl, ap, ap₂, true, false, false≢true, Bool, cond, List, ◌≤◌, ℕ, ◌<◌, ◌-◌, ◌+◌, ◌*◌, suc, arith, get_or}
 use Rattle.meaning.proofs.Kit.{drop, take, lt-ltb, le-ltb}
 use Rattle.std.specs.Option.{is_some, unwrap_or}
 use Rattle.std.specs.List.{position_or_len}
@@ -49,9 +49,12 @@ slot_few names word k =
     elim (is_name word) as (λ b. cond b (slot_of 24 most_named names word) None ≡ Some k → k < most_named)
     [ true ↦ slot_below 24 most_named names word k | false ↦ λ e. absurd (none-some k e) ]
 
-some_of : (o : Option ℕ) → is_some o ≡ true → o ≡ Some (unwrap_or o 0)
-some_of None e = absurd (false≢true e)
-some_of (Some k) e = refl
+pub symbol_at : (names word : List ℕ) (k : ℕ) → name_slot names word ≡ Some k → symbol_named names word ≡ suc k
+symbol_at names word k e = rw e refl
+
+some_few : (slot : Option ℕ) (d : ℕ) → is_some slot ≡ true → ((k : ℕ) → slot ≡ Some k → k < most_named) → suc (unwrap_or slot d) ≤ most_named
+some_few None d e few = absurd (false≢true e)
+some_few (Some k) d e few = omega (arith, few k refl)
 
 pub symbol_few : (names word : List ℕ) → is_known names word ≡ true → symbol_named names word ≤ most_named
-symbol_few names word e = omega (arith, slot_few names word _ (some_of (name_slot names word) e))
+symbol_few names word e = some_few (name_slot names word) _ e (slot_few names word)

@@ -4,32 +4,37 @@ use Prim.Native.String.{String}
 use Rattle.std.proofs.Common.{Option, Some, None}
 use Rattle.spelling.proofs.Ascii.{ascii}
 use Rattle.names.specs.Slots.{fits, is_over, padded, slot_of}
-use Rattle.names.specs.Names.{is_name, name_slot, run}
+use Rattle.names.specs.Names.{is_name, name_slot, run, symbol_named}
 use Rattle.names.specs.Replacing.{numeral, renamed, replaced, replaced_from}
 
 -- symbol 1 is `tc3_high`, symbol 2 has no name, symbol 3 is `abc`
 table : List ℕ
 table = padded 24 (ascii "tc3_high") ++ (padded 24 [] ++ padded 24 (ascii "abc"))
 
--- a word, and its slot, if it has one
+-- a word, its slot, if it has one, and its symbol's number, which without a slot is beyond all numbers of 16 bits
 record Sought : Type 0 where
   pub word : String
   pub slot : Option ℕ
+  pub symbol : ℕ
 
 words : List Sought
 words =
-    record { word = "tc3_high"; slot = Some 0 }
-    ∷ record { word = "abc"; slot = Some 2 }
-    ∷ record { word = "ab"; slot = None }
-    ∷ record { word = "tc3"; slot = None }
-    ∷ record { word = "3abc"; slot = None }
-    ∷ record { word = "_abc"; slot = None }
-    ∷ record { word = "abcd"; slot = None }
+    record { word = "tc3_high"; slot = Some 0; symbol = 1 }
+    ∷ record { word = "abc"; slot = Some 2; symbol = 3 }
+    ∷ record { word = "ab"; slot = None; symbol = 65536 }
+    ∷ record { word = "tc3"; slot = None; symbol = 65536 }
+    ∷ record { word = "3abc"; slot = None; symbol = 65536 }
+    ∷ record { word = "_abc"; slot = None; symbol = 65536 }
+    ∷ record { word = "abcd"; slot = None; symbol = 65536 }
     ∷ []
 
 words_slots : map (λ w. name_slot table (ascii w.word)) words ≡ map (λ w. w.slot) words
 unfolding table words name_slot is_name run slot_of fits is_over padded
 words_slots = refl
+
+words_symbols : map (λ w. symbol_named table (ascii w.word)) words ≡ map (λ w. w.symbol) words
+unfolding table words name_slot is_name run slot_of fits is_over padded
+words_symbols = refl
 
 -- a text, and what it becomes
 record Text : Type 0 where

@@ -2,6 +2,7 @@
 -- symbols.
 use Rattle.std.specs.Prelude.{ℕ, suc, Bool, cond, ◌&&◌, ◌||◌, List, [], ◌∷◌, eqb, leb, length, get_or, Option, None}
 use Rattle.std.specs.Option.{is_some, unwrap_or}
+use Rattle.meaning.specs.Tests.{none}
 use Rattle.spelling.specs.Text.{is_digit}
 use Rattle.names.specs.Slots.{slot_of}
 
@@ -36,4 +37,4 @@ is_known names word = is_some (name_slot names word)
 
 -- the symbol whose name it is (asked only of a name that is known)
 abbrev pub symbol_named : (names word : List ℕ) → ℕ
-symbol_named names word = suc (unwrap_or (name_slot names word) 0)
+symbol_named names word = suc (unwrap_or (name_slot names word) none)

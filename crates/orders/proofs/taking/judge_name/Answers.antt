@@ -2,6 +2,7 @@
 use Rattle.meaning.proofs.Kit.{◌≡◌, ◌∙◌, cond, ◌&&◌, not, List, ℕ, ◌≤◌, suc, sym, arith, eqb, ne_eqb, eq-eqb, le-leb, lt-leb}
 use Rattle.std.proofs.Common.{Option}
 use Rattle.std.specs.Option.{is_some, unwrap_or}
+use Rattle.meaning.specs.Tests.{none}
 use Rattle.names.specs.Names.{name_slot}
 use Rattle.names.proofs.Finding.{slot_few}
 use Rattle.orders.specs.States.{named_reply, simply}
@@ -39,7 +40,7 @@ overflow_add-slot c = omega (arith, slot_few c.args.names.now c.args.given.now c
 -- where the symbol is one of the board's that there is a slot for: by the slot of the name
 judged : (S s : ℕ) (names word : List ℕ) (slot : Option ℕ) → slot ≡ name_slot names word → (S ≡ 0 → ⊥) → 1 ≤ s → s ≤ S → s ≤ 200
     → named_reply S names s word
-    ≡ cond (is_some slot && not (eqb (suc (unwrap_or slot 0)) s)) (record { reply = Not NameTaken; place = 2; added = 0 }) (simply Made)
+    ≡ cond (is_some slot && not (eqb (suc (unwrap_or slot none)) s)) (record { reply = Not NameTaken; place = 2; added = 0 }) (simply Made)
 unfolding named_reply
 judged S s names word slot e some low within few = rw (ne_eqb S 0 some, le-leb 1 s low, le-leb s S within, le-leb s 200 few, ← e)
 
