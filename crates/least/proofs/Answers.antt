@@ -1,7 +1,8 @@
 -- What the call answers, by the tests that it has made.
-use Rattle.meaning.proofs.Kit.{◌≡◌, ◌∙◌, sym, ap, refl, true, false, Bool, List, [], ◌∷◌, ◌≤◌, ℕ, ◌<◌, suc, ◌*◌, ◌^◌, arith, ℤ, pow_mono, length}
+use Rattle.meaning.proofs.Kit.{◌≡◌, ◌∙◌, sym, ap, refl, true, false, Bool, List, [], ◌∷◌, ◌≤◌, ℕ, ◌<◌, suc, ◌*◌, ◌^◌, arith, ℤ, pow_mono, length, ⊎_elim, eqb, eqb-true}
 use Rattle.meaning.proofs.Kit.{le-leb, lt-leb}
 use Rattle.meaning.specs.Tests.{all, keep, none}
+use Rattle.meaning.proofs.Tests.{true_or_false}
 use Rattle.meaning.specs.Literals.{has}
 use Rattle.candidates.specs.Sets.{chosen, size, passing}
 use Rattle.least.specs.Least.{ends}
@@ -14,6 +15,8 @@ use Rattle.board.specs.Faults.{good_board}
 use Rattle.board.specs.Ranking.{rows_on}
 use Rattle.board.specs.declared.Board.{Board}
 use Rattle.std.specs.Prelude.{Ok, Err}
+use Rattle.std.specs.Option.{unwrap_or}
+use Rattle.findings.specs.Ranks.{found}
 use Rattle.candidates.specs.Given.{most_candidates, places_of, repeats}
 use Rattle.least.specs.Withdrawing.{leaves_conflict, least_at, least_faults, least_answer}
 use Rattle.least.specs.Search.{Searched, stay_answer, given_answer}
@@ -77,6 +80,10 @@ module _ (table : List ℤ) (b : Board) (furnace : ℕ) (places : List ℕ) wher
   unfolding least_at
   none_found s h =
       sym (least_none (2 * b.symbols) (rows_on table b) (held_by b furnace) places (λ a l. s.smaller a l (omega (arith, size_le (length places) a))))
+
+-- and the number that its answer stands for
+pub found_or_none : (n : ℕ) → unwrap_or (found n) none ≡ n
+found_or_none n = ⊎_elim (λ t. rw t (sym (eqb-true n none t))) (λ f. rw f refl) (true_or_false (eqb n none))
 
 kept_all : (cands : List ℕ) → keep (λ c. true) cands ≡ cands
 kept_all [] = refl

@@ -2,8 +2,8 @@
 // No heap: the cores lie in what is lent, and how many there are is told.
 
 ghost use Rattle.std.specs.Prelude.{◌≡◌, true, cond, suc, ◌+◌, ◌*◌, ◌^◌, ◌<◌, ◌≤◌, ltb, length, set};
-ghost use Rattle.std.specs.Option.{unwrap_or};
-ghost use Rattle.meaning.specs.Tests.{all, none};
+ghost use Rattle.meaning.specs.Tests.{all};
+ghost use Rattle.findings.specs.Ranks.{found};
 ghost use Rattle.candidates.specs.Sets.{size};
 ghost use Rattle.least.specs.Least.{ends};
 ghost use Rattle.board.specs.Furnaces.{is_furnace, held_by};
@@ -133,7 +133,7 @@ pub fn search(
 ) -> Option<usize>
     requires board_value { (good_board table.now board ≡ true) × (is_furnace furnace ≡ true) }
     requires places_len_bound { (length places.now ≤ most_candidates) × (all (λ p. ltb p (2 * board.symbols)) places.now ≡ true) }
-    ensures { unwrap_or result none ≡ least_at table.now board furnace places.now }
+    ensures { result ≡ found (least_at table.now board furnace places.now) }
 {
     let mut kept = 0;
     for k in 0..places.len() + 1 {
