@@ -47,7 +47,7 @@ pub fn add(
 fn hexed(rt: &impl Print, list: &[u8], n: usize) -> io::Result<()> {
     list.iter()
         .take(n)
-        .try_for_each(|b| printing::hex(rt, ' ', *b))
+        .try_for_each(|b| printing::hex(rt, b' ', *b))
 }
 
 // What was written into the bytes lent: how many bytes are told, these in quotes or in hex, and how many of all that are lent changed.

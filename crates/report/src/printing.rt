@@ -60,14 +60,18 @@ pub fn appended(rt: &impl Print, table: &[i16], from: usize, count: usize) -> io
     rows(rt, table, from, count)
 }
 
-// A byte as two hex digits, behind a mark.
-pub fn hex(rt: &impl Print, mark: char, b: u8) -> io::Result<()> {
-    print!(rt; "{mark}{b:02x}")
+// A byte as two hex digits, behind a mark, which is any byte and goes out as it is.
+pub fn hex(rt: &impl Print, mark: u8, b: u8) -> io::Result<()> {
+    let digits = b"0123456789abcdef";
+    text(
+        rt,
+        &[mark, digits[(b / 16) as usize], digits[(b % 16) as usize]],
+    )
 }
 
 // The bytes of a formula.
 pub fn formula(rt: &impl Print, bytes: &[u8]) -> io::Result<()> {
-    bytes.iter().try_for_each(|b| hex(rt, ' ', *b))
+    bytes.iter().try_for_each(|b| hex(rt, b' ', *b))
 }
 
 // The first n bytes of a list.

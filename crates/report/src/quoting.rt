@@ -10,7 +10,7 @@ fn shown(rt: &impl Print, b: u8) -> io::Result<()> {
         return text(rt, b"/");
     }
     if b < 32 || 126 < b {
-        return printing::hex(rt, '\\', b);
+        return printing::hex(rt, b'\\', b);
     }
     let one = [b];
     text(rt, &one)
