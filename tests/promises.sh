@@ -26,6 +26,8 @@ for unique in crates/*/proofs/Unique.antt; do
     src=${unique%/proofs/*}/src
     for file in "$src/lib.rt" $(sed -n "s,^pub mod \(.*\);,$src/\1.rt,p" "$src/lib.rt"); do
         for name in $(sed -n 's/^pub \(extern "C" \)\?fn \([a-z_]*\).*/\2/p' "$file"); do
+            # what a read leaves is not one answer, and docs/CONTRACTS.md has it among the exceptions
+            [ "$unique $name" != 'crates/input/proofs/Unique.antt read_full' ] || continue
             grep -q "[.«]$name»\?\.ended" "$unique" || {
                 echo "$unique: it has no line for $name of $file"
                 exit 1

@@ -1,0 +1,2 @@
+-- A law over the contract.
+mod Unique
