@@ -1,22 +1,22 @@
--- `words::line_end` meets its contract: what the chain counts is the bytes before the place.
-use Rattle.std.proofs.Common.{◌∙◌, ap, eqb, not, ℕ, refl, rules, tests}
-use Rattle.std.specs.List.{prefix_len}
-use Rattle.std.proofs.lemmas.Iterator.{YieldsList-from_slice}
-use Rattle.std.proofs.lemmas.Iterator.Consumers.{count_from_yields_List}
-use Rattle.std.proofs.lemmas.Iterator.Search.{YieldsList-from_take_while}
-use Rattle.std.proofs.lemmas.List.Folds.{length-prefix_len}
-use Rattle.formula.proofs.Parts.{onward, onward_drop}
+-- `words::line_end` meets its contract.
+use Rattle.meaning.proofs.Kit.{◌≡◌, arith, length, ne_eqb, eq-eqb}
 use Rattle.dimacs.specs.Words.{ends}
-use Rattle.dimacs.proofs.Scanning.{counted_to}
+use Rattle.dimacs.proofs.Scanning.{sought_none, sought_more, sought_here, sought_end}
 use Rattle.dimacs.proofs.words.line_end.Goals as goal
+
+pub loop-i-init : goal.loop-i-init
+loop-i-init c = sought_none ends c.args.text.now c.args.at c.requires
+
+pub loop-i-preserved : goal.loop-i-preserved
+loop-i-preserved c =
+    let l = c.loop-i in
+    sought_more l.invariant (omega (arith, c.loop-i-test.true)) (ne_eqb _ 10 c.if-text-i-eq10.false)
+
+pub returns-then-text-i-eq10 : goal.returns-then-text-i-eq10
+returns-then-text-i-eq10 c = sought_here c.loop-i.invariant (omega (arith, c.loop-i-test.true)) (eq-eqb _ 10 c.if-text-i-eq10.true)
 
 pub returns : goal.returns
 returns c =
     let text = c.args.text.now in
-    let at = c.args.at in
-    let stays = λ (c : ℕ). not (eqb c 10) in
-    let counted = count_from_yields_List c.take_while.result c.count.result c.count.ensures.ran
-    (YieldsList-from_take_while _ stays (YieldsList-from_slice (onward at text) cc) c.take_while.ensures.closure c.take_while.ensures.done
-    (λ x b q k. search (rules, tests)))
-    ∙ length-prefix_len stays (onward at text) in
-    counted_to ends stays (λ c. refl) text at c.count.result c.requires (counted ∙ ap (prefix_len stays) (onward_drop at text))
+    let end : c.loop-i.i ≡ length text = omega (arith, c.loop-i-test.false, c.loop-i.invariant.within) in
+    rw end at (sought_end c.loop-i.invariant (omega arith))
