@@ -1,6 +1,8 @@
 -- Laws of a run of bytes at the front of a text.
-use Rattle.meaning.proofs.Kit.{◌≡◌, ◌∙◌, sym, ap, refl, ap₂, true, false, Bool, cond, ◌||◌, List, [], ◌∷◌, ◌≤◌, ℕ, ◌<◌, ◌+◌, suc, zero, add-one}
-use Rattle.meaning.proofs.Kit.{arith, eqb, length, get_or, drop, take, drop-cons, eqb-true}
+use Rattle.meaning.proofs.Kit.{◌≡◌, ◌∙◌, sym, ap, refl, ap₂, true, false, Bool, cond, ◌||◌, List, [], ◌∷◌, ◌≤◌, ℕ, ◌+◌, suc}
+use Rattle.meaning.proofs.Kit.{arith, eqb, length, drop, take, eqb-true}
+use Rattle.std.specs.List.{prefix_len}
+use Rattle.std.proofs.lemmas.List.Recursion.{same_from_clauses}
 use Rattle.chains.proofs.Words.{Formula, neg, Parsed, good, bad, after, belongs, start_of, lead, by_start, unit_of, Class, Denial}
 
 pub lead_extent : (class : Class) (text : List ℕ) → lead class text ≤ length text
@@ -10,21 +12,11 @@ lead_extent class (c ∷ rest) =
     let inner = lead_extent class rest in
     elim (belongs class c) as (λ b. cond b (suc (lead class rest)) 0 ≤ suc (length rest)) [ true ↦ omega arith | false ↦ omega arith ]
 
-module _ (class : Class) (text : List ℕ) (n : ℕ) (h : n < length text) where
-  pub lead_more : belongs class (get_or text n 0) ≡ true → n + lead class (drop n text) ≡ n + 1 + lead class (drop (n + 1) text)
-  unfolding lead
-  lead_more e = rw (add-one n, drop-cons text n 0, e) (omega arith)
-
-  pub lead_stops : belongs class (get_or text n 0) ≡ false → n + lead class (drop n text) ≡ n
-  unfolding lead
-  lead_stops e = rw (drop-cons text n 0, e) (omega arith)
-
-pub lead_all : (class : Class) (text : List ℕ) (n : ℕ) → n ≡ length text → n + lead class (drop n text) ≡ n
+pub lead_prefix : (class : Class) (text : List ℕ) → prefix_len (belongs class) text ≡ lead class text
 unfolding lead
-lead_all class [] zero e = refl
-lead_all class [] (suc n) e = absurd (omega arith)
-lead_all class (c ∷ rest) zero e = absurd (omega arith)
-lead_all class (c ∷ rest) (suc n) e = let r = lead_all class rest n (omega arith) in omega arith
+lead_prefix class =
+    same_from_clauses (prefix_len (belongs class)) (lead class) (λ c n. cond (belongs class c) (1 + n) 0) refl (λ c rest. refl)
+    (λ c rest. let e : suc (lead class rest) ≡ 1 + lead class rest = omega arith in rw e)
 
 -- ---- a unit, with the spaces and minus signs before it as one run
 

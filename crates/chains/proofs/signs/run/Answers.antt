@@ -1,19 +1,18 @@
--- `signs::run` meets its contract.
-use Rattle.meaning.proofs.Kit.{◌≡◌, ◌∙◌, sym, arith, length}
-use Rattle.chains.proofs.Runs.{lead_more, lead_stops, lead_all}
+-- `signs::run` meets its contract: what the chain counts is the run.
+use Rattle.std.proofs.Common.{◌∙◌, rules, tests}
+use Rattle.std.proofs.lemmas.Iterator.{YieldsList-from_slice}
+use Rattle.std.proofs.lemmas.Iterator.Consumers.{count_from_yields_List}
+use Rattle.std.proofs.lemmas.Iterator.Search.{YieldsList-from_take_while}
+use Rattle.std.proofs.lemmas.List.Folds.{length-prefix_len}
+use Rattle.chains.proofs.Words.{belongs}
+use Rattle.chains.proofs.Runs.{lead_prefix}
 use Rattle.chains.proofs.signs.run.Goals as goal
-
-pub returns-then-not-within : goal.returns-then-not-within
-returns-then-not-within c =
-    let other = sym c.within.ensures ∙ c.if-not-within.true in
-    sym (c.loop-n.invariant.1 ∙ lead_stops c.args.class c.args.text.now c.loop-n.n (omega arith) other)
-
-pub loop-n-preserved : goal.loop-n-preserved
-loop-n-preserved c =
-    let one = sym c.within.ensures ∙ c.if-not-within.false in
-    (omega arith, c.loop-n.invariant.1 ∙ lead_more c.args.class c.args.text.now c.loop-n.n (omega arith) one)
 
 pub returns : goal.returns
 returns c =
-    let end : c.loop-n.n ≡ length c.args.text.now = omega (arith, c.loop-n-test.false, c.loop-n.invariant.0) in
-    sym end ∙ sym (c.loop-n.invariant.1 ∙ lead_all c.args.class c.args.text.now c.loop-n.n end)
+    let text = c.args.text.now in
+    let test = belongs c.args.class in
+    count_from_yields_List c.take_while.result c.count.result c.count.ensures.ran
+    (YieldsList-from_take_while _ test (YieldsList-from_slice text cc) c.take_while.ensures.closure c.take_while.ensures.done
+    (λ x b q k. search (rules, tests)))
+    ∙ length-prefix_len test text ∙ lead_prefix c.args.class text
