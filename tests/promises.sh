@@ -1,7 +1,7 @@
 #!/usr/bin/env bash
 # Holds the promises to their proofs. Each type promised in a specs/ folder has a law of that very type, under its name in small letters (with _lem
-# where a definition has that name), and a place in docs/PROMISES.md; each public function of a crate that has proofs/Unique stands in it. What a proof
-# is worth, the checker says.
+# where a definition has that name), and a place in docs/PROMISES.md; each public function of a crate that has proofs/Unique stands in it, but
+# `read_full` of `input`. What a proof is worth, the checker says.
 set -euo pipefail
 cd "$(dirname "$0")/.."
 

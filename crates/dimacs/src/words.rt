@@ -45,7 +45,7 @@ pub fn line_end(text: &[u8], at: usize) -> usize
     requires { at ≤ length text.now }
     ensures { Place text.now result (since ends (drop at text.now)) }
 {
-    // No chain: counted by `take_while`, lines take a fifth more instructions, and half as long again wherever the loop falls across a line of the cache.
+    // No chain: one that counts by `take_while` takes a fifth more instructions on long lines, and up to half as long again.
     for i in at..text.len() {
         if text[i] == b'\n' {
             return i;

@@ -1,4 +1,5 @@
--- The contract of `line_length` leaves one answer. That of `read_full` leaves more than one, as a read does: docs/CONTRACTS.md has it among the exceptions.
+-- The contract of `line_length` leaves one answer. That of `read_full` leaves more than one, as a read does: it is among the exceptions in
+-- docs/CONTRACTS.md.
 use Rattle.meaning.proofs.Kit.{refl}
 use Rattle.meaning.proofs.Answers.{One}
 use Rattle.input.specs.contracts as contract'

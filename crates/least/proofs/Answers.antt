@@ -1,6 +1,6 @@
 -- What the call answers, by the tests that it has made.
-use Rattle.meaning.proofs.Kit.{◌≡◌, ◌∙◌, sym, ap, refl, true, false, Bool, List, [], ◌∷◌, ◌≤◌, ℕ, ◌<◌, suc, ◌*◌, ◌^◌, arith, ℤ, pow_mono, length, ⊎_elim, eqb, eqb-true}
-use Rattle.meaning.proofs.Kit.{le-leb, lt-leb}
+use Rattle.meaning.proofs.Kit.{◌≡◌, ◌∙◌, sym, ap, refl, true, false, Bool, List, [], ◌∷◌, ◌≤◌, ℕ, ◌<◌, suc, ◌*◌, ◌^◌, arith, ℤ, pow_mono, length}
+use Rattle.meaning.proofs.Kit.{⊎_elim, eqb, eqb-true, le-leb, lt-leb}
 use Rattle.meaning.specs.Tests.{all, keep, none}
 use Rattle.meaning.proofs.Tests.{true_or_false}
 use Rattle.meaning.specs.Literals.{has}

@@ -31,6 +31,7 @@ returns c =
     let n = c.args.n in
     let l = c.loop-c in
     let p = marked c.args.primes.now in
+    let all = take_all l.c (clauses n) (omega (arith, length_clauses n, c.loop-c-test.false, c.requires)) in
     l.invariant.1
-    ∙ ap (λ (vs : List (List Digit)). length (keep p vs)) (take_all l.c (clauses n) (omega (arith, length_clauses n, c.loop-c-test.false, c.requires)))
+    ∙ ap (λ (vs : List (List Digit)). length (keep p vs)) all
     ∙ sym (all_count size p (clauses n) (suc n) (λ v m. omega (arith, size_le v, clauses_length n v m)))

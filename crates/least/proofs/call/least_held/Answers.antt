@@ -47,4 +47,5 @@ pub returns-in-None : goal.returns-in-None
 returns-in-None c =
     let a = c.args in
     let none_left = quiet a.table.now a.board a.furnace a.places.now c.power-sets.result c.power-sets.ensures c.in-None.ensures in
-    ended a.table.now a.board a.furnace a.places.now none_left (the_set a.table.now a.board a.furnace a.places.now c.unwrap_or.ensures c.search-found.ensures)
+    let is = the_set a.table.now a.board a.furnace a.places.now c.unwrap_or.ensures c.search-found.ensures in
+    ended a.table.now a.board a.furnace a.places.now none_left is
